@@ -1,0 +1,4 @@
+# make test   the gate: every proof, every wrong program refused, every stored run
+.PHONY: test
+test:
+	bash .ci/run

@@ -1,0 +1,4 @@
+pub mod Sums
+pub mod Xor
+pub mod Words
+pub mod Bytes

@@ -1,0 +1,9 @@
+pub mod Least
+pub mod Combinations
+pub mod InnerDistance
+pub mod NearestWord
+pub mod EchelonForm
+pub mod Replies
+pub mod Listings
+pub mod SheetChecks
+pub mod HouseWords

@@ -1,0 +1,115 @@
+-- The codewords as the code lists them, by doubling: behind the words of the first i rows come the same words with row i put on.
+--   doubled n r m l   the list l with r put on its words 0 .. m - 1, at the places n .. n + m - 1
+--   listed row k l    the list l with the codewords of k rows at its places 0 .. 2^k - 1
+use mathlib.Core.Path.{_≡_, refl, sym, ap, ap₂, _∙_, subst}
+use mathlib.Core.Logic.{_⊎_, inl, inr, ⊎-elim}
+use mathlib.Core.List.{List}
+use Prim.Native.Nat.{ℕ, zero, suc, _+_, _*_, _^_, _≤_, _<_}
+use native.Mathlib.Nat.{le-dest, pow-suc, le-of-lt}
+use native.Mathlib.Decide.{decLt}
+use native.Mathlib.Numerals.{add-one}
+use native.Mathlib.Omega.{arith}
+use lib.ListN.{length, getD, set, take, length-set}
+use lib.Seq.{getD-set-same, getD-set-other, set-set, getD-take, length-take-le}
+use lib.Bits.{bitXor}
+use Rattle.inner_code.specs.Code.{combination}
+use Rattle.bits.specs.Bit.{at}
+use Rattle.inner_code.specs.Reduction.{doubled, listed, searched}
+use Rattle.inner_code.proofs.Combinations.{combination-lower, combination-upper}
+use Rattle.inner_code.proofs.NearestWord.{searched-ext}
+
+pub doubled-one-more : (count row m : ℕ) (l : List ℕ)
+    → doubled count row (m + 1) l ≡ set (doubled count row m l) (count + m) (bitXor (getD (doubled count row m l) m 0) row)
+unfolding doubled
+doubled-one-more count row m l = rw add-one
+
+pub length-doubled : (count row m : ℕ) (l : List ℕ) → length (doubled count row m l) ≡ length l
+unfolding doubled
+length-doubled count row zero l = refl
+length-doubled count row (suc m) l = length-set (doubled count row m l) (count + m) _ ∙ length-doubled count row m l
+
+-- words before and behind the new ones stay
+doubled-other : (count row m : ℕ) (l : List ℕ) (j : ℕ) → (j < count) ⊎ (count + m ≤ j) → getD (doubled count row m l) j 0 ≡ getD l j 0
+unfolding doubled
+doubled-other count row zero l j o = refl
+doubled-other count row (suc m) l j o =
+    getD-set-other (doubled count row m l) (count + m) j _ 0
+    (λ e. ⊎-elim (λ (a : j < count). omega arith) (λ (a : count + suc m ≤ j). omega arith) o)
+    ∙ doubled-other count row m l j (⊎-elim (λ (a : j < count). inl a) (λ (a : count + suc m ≤ j). inr (omega arith)) o)
+
+doubled-new : (count row m : ℕ) (l : List ℕ) (j : ℕ) → j < m → m ≤ count → count + m ≤ length l
+    → getD (doubled count row m l) (count + j) 0 ≡ bitXor (getD l j 0) row
+unfolding doubled
+doubled-new count row zero l j h b f = absurd (omega arith)
+doubled-new count row (suc m) l j h b f =
+    elim (decLt j m) [
+      | yes s ↦
+          getD-set-other (doubled count row m l) (count + m) (count + j) _ 0 (λ e. omega arith)
+          ∙ doubled-new count row m l j s (le-of-lt b) (omega arith)
+      | no s ↦
+          let e : j ≡ m = omega arith in
+          rw e (getD-set-same (doubled count row m l) (count + m) _ 0 (omega (arith, length-doubled count row m l))
+          ∙ ap (λ (x : ℕ). bitXor x row) (doubled-other count row m l m (inl b)))
+    ]
+
+pub listed-one-more : (row : ℕ → ℕ) (i : ℕ) (l : List ℕ) → listed row (i + 1) l ≡ doubled (2 ^ i) (row i) (2 ^ i) (listed row i l)
+unfolding listed
+listed-one-more row i l = rw add-one
+
+pub length-listed : (row : ℕ → ℕ) (k : ℕ) (l : List ℕ) → length (listed row k l) ≡ length l
+unfolding listed
+length-listed row zero l = length-set l 0 0
+length-listed row (suc i) l = length-doubled (2 ^ i) (row i) (2 ^ i) (listed row i l) ∙ length-listed row i l
+
+pub listed-word : (row : ℕ → ℕ) (k : ℕ) (l : List ℕ) → 2 ^ k ≤ length l → (m : ℕ) → m < 2 ^ k → getD (listed row k l) m 0 ≡ combination row k m
+unfolding listed combination
+listed-word row zero l f m h = let e : m ≡ 0 = omega arith in rw e (getD-set-same l 0 0 0 (omega arith))
+listed-word row (suc i) l f m h = go (listed-word row i l (omega (arith, pow-suc 2 i, f)))
+  where
+    lower : ((j : ℕ) → j < 2 ^ i → getD (listed row i l) j 0 ≡ combination row i j) → m < 2 ^ i
+        → getD (doubled (2 ^ i) (row i) (2 ^ i) (listed row i l)) m 0 ≡ combination row (suc i) m
+    lower before s = doubled-other (2 ^ i) (row i) (2 ^ i) (listed row i l) m (inl s) ∙ before m s ∙ sym (combination-lower row i m s)
+
+    upper : ((j : ℕ) → j < 2 ^ i → getD (listed row i l) j 0 ≡ combination row i j) → (j : ℕ) × (2 ^ i + j ≡ m)
+        → getD (doubled (2 ^ i) (row i) (2 ^ i) (listed row i l)) m 0 ≡ combination row (suc i) m
+    upper before t =
+        let b : t .0 < 2 ^ i = omega (arith, pow-suc 2 i, t .1, h) in
+        rw (← t .1) (doubled-new (2 ^ i) (row i) (2 ^ i) (listed row i l) (t .0) b (omega arith) (omega (arith, length-listed row i l, pow-suc 2 i, f))
+        ∙ ap (λ (x : ℕ). bitXor x (row i)) (before (t .0) b)
+        ∙ sym (combination-upper row i (t .0) b))
+
+    go : ((j : ℕ) → j < 2 ^ i → getD (listed row i l) j 0 ≡ combination row i j)
+        → getD (doubled (2 ^ i) (row i) (2 ^ i) (listed row i l)) m 0 ≡ combination row (suc i) m
+    go before = elim (decLt m (2 ^ i)) [ yes s ↦ lower before s | no s ↦ upper before (le-dest (omega arith)) ]
+
+pub listed-beyond : (row : ℕ → ℕ) (k : ℕ) (l : List ℕ) (m : ℕ) → 2 ^ k ≤ m → getD (listed row k l) m 0 ≡ getD l m 0
+unfolding listed
+listed-beyond row zero l m h = getD-set-other l 0 m 0 0 (λ e. omega arith)
+listed-beyond row (suc i) l m h =
+    doubled-other (2 ^ i) (row i) (2 ^ i) (listed row i l) m (inr (omega (arith, pow-suc 2 i, h)))
+    ∙ listed-beyond row i l m (omega (arith, pow-suc 2 i, h))
+
+-- what stood at place 0 before does not matter
+pub listed-again : (row : ℕ → ℕ) (k : ℕ) (l : List ℕ) → listed row k (set l 0 0) ≡ listed row k l
+unfolding listed
+listed-again row zero l = set-set l 0 0 0
+listed-again row (suc i) l = ap (doubled (2 ^ i) (row i) (2 ^ i)) (listed-again row i l)
+
+-- ---- the listed words as a part that is lent on
+
+module _ (row : ℕ → ℕ) (k : ℕ) (before words : List ℕ) (count : ℕ) (room : 2 ^ k ≤ length before) (all : words ≡ listed row k before) (size : count ≡ 2 ^ k) where
+  front-sized : length words ≡ length before
+  front-sized = ap length all ∙ length-listed row k before
+
+  pub front-length : length (take count words) ≡ 2 ^ k
+  front-length = length-take-le count words (omega (arith, front-sized)) ∙ size
+
+  pub front-word : (m : ℕ) → m < 2 ^ k → at (take count words) m ≡ combination row k m
+  unfolding at
+  front-word m h = getD-take count words m 0 (omega arith) ∙ ap (λ (l : List ℕ). getD l m 0) all ∙ listed-word row k before room m h
+
+  -- a search over that part is a search over the codewords
+  pub front-searched : (w : ℕ) → searched (at (take count words)) (length (take count words)) w ≡ searched (combination row k) (2 ^ k) w
+  front-searched w =
+      ap (λ (n : ℕ). searched (at (take count words)) n w) front-length
+      ∙ searched-ext (at (take count words)) (combination row k) (2 ^ k) w front-word

@@ -1,0 +1,109 @@
+-- `inner_code::nearest_word` meets its contract: each return is the outcome of the first test that holds, and the search over the
+-- listed codewords finds the nearest word.
+use mathlib.Core.Path.{_≡_, refl, sym, ap, ap₂, _∙_, subst}
+use mathlib.Core.List.{List, [], _∷_}
+use Prim.Native.Nat.{ℕ, _+_, _*_, _-_, _%_, _^_, _≤_, _<_, min}
+use borrow.Author.Needs.{needs}
+use native.Mathlib.Omega.{arith}
+use native.Mathlib.Nat.{min-eq-left, one-mul}
+use denote.Ref.{now}
+use lib.Pow.{pow-mono}
+use Rattle.inner_code.specs.Reply.{done}
+use Rattle.inner_code.specs.Code.{combination}
+use Rattle.inner_code.specs.Reduction.{searched}
+use Rattle.inner_code.specs.Sheet.{degree, rowCount, rowOf}
+use Rattle.inner_code.proofs.SheetChecks.{Accepted, accepted, turned-back}
+use Rattle.inner_code.proofs.NearestWord.{nearest-answer-refused, nearest-answer-high, nearest-answer-word, nearest-searched}
+use Rattle.inner_code.proofs.nearest.nearest_word.Statement.{statement}
+use Rattle.inner_code.proofs.nearest.nearest_word.Tie as tie
+use Rattle.inner_code.proofs.nearest.nearest_word.Reads as reads
+use Rattle.inner_code.proofs.nearest.nearest_word.Lts as lts
+use Rattle.inner_code.proofs.nearest.nearest_of_rows.Reads as nearest-of-rows-reads
+use Rattle.inner_code.proofs.sheet.check_sheet.Reads as check-sheet-reads
+
+-- src/nearest.rt:24:9
+check-sheet-requires : tie.Need-check-sheet-requires
+check-sheet-requires c κs = search needs
+
+-- src/nearest.rt:27:24
+enum-known-values : tie.Need-enum-known-values
+enum-known-values c = search needs
+
+-- src/nearest.rt:28:27
+enum-known-values-2 : tie.Need-enum-known-values-2
+enum-known-values-2 c = search needs
+
+plan : (c : tie.After-known-told2)
+    → Accepted (now (c .before .before .before .before .before .args .sheet)) (c .before .before .before .check-sheet .result)
+    (c .before .values2 .given .0 .0) (c .before .values2 .given .0 .1 .0)
+plan c = accepted _ _ _ _ (c .before .before .before .check-sheet .ensures) (c .before .values2 .given .1)
+
+-- a word of 64 bits holds 2^d
+power : (d : ℕ) → d ≤ 16 → (1 * 2 ^ d) % 18446744073709551616 ≡ 2 ^ d
+power d h = omega (arith, one-mul (2 ^ d), pow-mono {i = d} {j = 16} h)
+
+shl-if1 : tie.Need-shl-if1
+shl-if1 c = omega (arith, plan c .d-is, plan c .sheet-sound .degree-high)
+
+-- src/nearest.rt:30:17
+returns : tie.Need-returns
+returns c =
+    let p = plan (c .before) in
+    let limit = power _ (p .sheet-sound .degree-high) in
+    let test = ap (λ (d : ℕ). (1 * 2 ^ d) % 18446744073709551616) (p .d-is) in
+    sym (nearest-answer-high _ _ (p .sheet-done) (omega (arith, limit, test, c .if1 .taken)))
+
+-- src/nearest.rt:32:53
+low : (c : tie.Else1) → c .before .before .before .before .before .before .args .word < 2 ^ degree (now (c .before .before .before .before .before .before .args .sheet))
+low c =
+    let p = plan (c .before) in
+    omega
+    (arith, power _ (p .sheet-sound .degree-high), ap (λ (d : ℕ). (1 * 2 ^ d) % 18446744073709551616) (p .d-is), c .if1 .left)
+
+cast-nearest-of-rows : tie.Need-cast-nearest-of-rows
+cast-nearest-of-rows c = omega (arith, low c, pow-mono {j = 16} (plan (c .before) .sheet-sound .degree-high))
+
+-- src/nearest.rt:32:27
+nearest-of-rows-requires : tie.Need-nearest-of-rows-requires
+nearest-of-rows-requires c κs = search needs
+
+-- src/nearest.rt:32:27
+cast-t9 : tie.Need-cast-t9
+cast-t9 c = search needs
+
+-- src/nearest.rt:21:1
+returns-2 : tie.Need-returns-2
+returns-2 c =
+    sym (nearest-answer-refused _ _ _ _ (turned-back _ _ _ (c .before .before .before .check-sheet .ensures) (c .before .values .given .1)))
+
+-- src/nearest.rt:21:1
+returns-3 : tie.Need-returns-3
+returns-3 c =
+    let p = plan (c .before .before) in
+    let sheet = now (c .before .before .before .before .before .before .before .args .sheet) in
+    let word = c .before .before .before .before .before .before .before .args .word in
+    let rows : min (c .before .before .before .values2 .given .0 .1 .0) 11 ≡ rowCount sheet =
+    ap (λ (k : ℕ). min k 11) (p .k-is) ∙ min-eq-left (p .sheet-sound .count-high) in
+    sym
+    (nearest-answer-word sheet word (p .sheet-done) (low (c .before))
+    ∙ ap (λ (x : ℕ). done (x ∷ []))
+    (sym
+    (c .nearest-of-rows .ensures
+    ∙ ap (λ (k : ℕ). searched (combination (rowOf sheet) k) (2 ^ k) word) rows
+    ∙ nearest-searched (rowOf sheet) (rowCount sheet) (degree sheet) (p .sheet-sound .degree-high) (p .sheet-sound .rows-lt)
+    (combination (rowOf sheet) (rowCount sheet)) (λ m h. refl) word (low (c .before)))))
+
+pub nearest-word-spec : {M : Type 1} → statement M
+nearest-word-spec =
+    tie.close
+    (tie.spec
+    check-sheet-requires
+    enum-known-values
+    enum-known-values-2
+    shl-if1
+    returns
+    cast-nearest-of-rows
+    nearest-of-rows-requires
+    cast-t9
+    returns-2
+    returns-3)

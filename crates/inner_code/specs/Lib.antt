@@ -1,0 +1,5 @@
+pub mod Reply
+pub mod Code
+pub mod Reduction
+pub mod Sheet
+pub mod House

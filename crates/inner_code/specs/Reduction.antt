@@ -1,0 +1,54 @@
+-- How the code tests membership and searches: none of this is needed to believe a contract of a service.
+--   reduceBy b w          w with b put on it where that makes it smaller: where w has b's highest digit
+--   reduced row i w       w reduced by the echelon form of the first i rows, in order of insertion
+--   echelon row i         row i, reduced by the rows before it
+--   reducedBy basis n w   w reduced by basis 0 .. basis (n - 1)
+--   withEchelon row n l   the list l with echelon row i at its place i, for each i below n
+--   leastKey words n w    the least key of a pattern that leads w to one of words 0 .. words (n - 1)
+--   searched words n w    w with the pattern of that key on it
+--   doubled n r m l       the list l with r put on its words 0 .. m - 1, at the places n .. n + m - 1
+--   listed row k l        the list l with the codewords of k rows at its places 0 .. 2^k - 1, by doubling
+use Prim.Native.Nat.{ℕ, zero, suc, _+_, _%_, _^_, min}
+use mathlib.Core.List.{List}
+use lib.ListN.{getD, set}
+use lib.Bits.{bitXor}
+use Rattle.inner_code.specs.Code.{least, key, noKey}
+
+unfoldable pub reduceBy : ℕ → ℕ → ℕ
+reduceBy b w = min w (bitXor w b)
+
+unfoldable pub reduced : (ℕ → ℕ) → ℕ → ℕ → ℕ
+unfolding reduceBy
+reduced row zero w = w
+reduced row (suc i) w = reduceBy (reduced row i (row i)) (reduced row i w)
+
+unfoldable pub echelon : (ℕ → ℕ) → ℕ → ℕ
+unfolding reduced
+echelon row i = reduced row i (row i)
+
+unfoldable pub reducedBy : (ℕ → ℕ) → ℕ → ℕ → ℕ
+unfolding reduceBy
+reducedBy basis zero w = w
+reducedBy basis (suc n) w = reduceBy (basis n) (reducedBy basis n w)
+
+unfoldable pub withEchelon : (ℕ → ℕ) → ℕ → List ℕ → List ℕ
+unfolding echelon
+withEchelon row zero l = l
+withEchelon row (suc n) l = set (withEchelon row n l) n (echelon row n)
+
+unfoldable pub leastKey : (ℕ → ℕ) → ℕ → ℕ → ℕ
+unfolding least key noKey
+leastKey words n w = least noKey (λ m. key (bitXor (words m) w)) n
+
+unfoldable pub searched : (ℕ → ℕ) → ℕ → ℕ → ℕ
+unfolding leastKey
+searched words n w = bitXor w (leastKey words n w % 65536)
+
+unfoldable pub doubled : ℕ → ℕ → ℕ → List ℕ → List ℕ
+doubled count row zero l = l
+doubled count row (suc m) l = set (doubled count row m l) (count + m) (bitXor (getD (doubled count row m l) m 0) row)
+
+unfoldable pub listed : (ℕ → ℕ) → ℕ → List ℕ → List ℕ
+unfolding doubled
+listed row zero l = set l 0 0
+listed row (suc i) l = doubled (2 ^ i) (row i) (2 ^ i) (listed row i l)

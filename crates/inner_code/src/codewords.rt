@@ -1,0 +1,59 @@
+// The codewords as a list, and the inner distance.
+ghost use mathlib.Core.Path.{_≡_};
+ghost use Prim.Native.Nat.{_*_, _^_, _≤_, min};
+ghost use lib.ListN.{length};
+ghost use Rattle.bits.specs.Bit.{at};
+ghost use Rattle.inner_code.specs.Code.{fewestOnes};
+ghost use Rattle.inner_code.specs.Sheet.{rowOf};
+ghost use Rattle.inner_code.specs.Reduction.{listed, doubled};
+
+// Lists the codewords that the sheet's first k rows make at the front of `words` and answers how many there are, 2^k. A k
+// above 11 counts as 11. The rest of `words` stays as it was.
+pub fn list_codewords(sheet: &[u8], k: usize, words: &mut [u16; 2048]) -> usize
+    ensures { λ r. ⌜ r ≡ 2 ^ min k 11 ⌝ }
+    ensures { λ _. ⌜ now (words .exit) ≡ listed (rowOf (now (sheet .entry))) (min k 11) (now (words .entry)) ⌝ }
+{
+    words[0] = 0;
+    let mut count: usize = 1;
+    let mut i = 0;
+    while i < k {
+        if i == 11 {
+            return count;
+        }
+        double(words, count, bits::pair(sheet, 2 + 2 * i));
+        count = 2 * count;
+        i += 1;
+    }
+    count
+}
+
+// Words 0 to count - 1 again, with `row` put on each, behind themselves.
+fn double(words: &mut [u16; 2048], count: usize, row: u16)
+    requires { ⌜ 2 * count ≤ 2048 ⌝ }
+    ensures { λ _. ⌜ now (words .exit) ≡ doubled count row count (now (words .entry)) ⌝ }
+{
+    let mut m = 0;
+    while m < count {
+        words[count + m] = words[m] ^ row;
+        m += 1;
+    }
+}
+
+// The fewest ones in a nonzero word of a list, 17 where there is none: of the listed codewords the inner distance D.
+pub fn distance(words: &[u16]) -> u32
+    ensures { λ r. ⌜ r ≡ fewestOnes (at (now (words .entry))) (length (now (words .entry))) ⌝ }
+{
+    let mut fewest: u32 = 17;
+    let mut m = 0;
+    while m < words.len() {
+        let word = words[m];
+        let ones = u16::count_ones(word);
+        if word != 0 {
+            if ones < fewest {
+                fewest = ones;
+            }
+        }
+        m += 1;
+    }
+    fewest
+}
