@@ -2,6 +2,7 @@
 use crate::input;
 use crate::output;
 use inner_code::Nearest;
+use wiring::Located;
 
 // Reads the fields of a record and writes what the service answers.
 pub fn answer(service: u8) {
@@ -13,42 +14,55 @@ pub fn answer(service: u8) {
         output::end_line();
         return;
     }
-    skip(service);
-    output::text(b"absent");
+    let n = input::number();
+    let mut wiring_space = [0u8; 70000];
+    let wiring = input::bytes(&mut wiring_space);
+    on_plan(
+        service,
+        &sheet_space[..sheet],
+        n as usize,
+        &wiring_space[..wiring],
+    );
     output::end_line();
 }
 
-// A service that is not there yet: its fields are passed over.
-fn skip(service: u8) {
-    let mut space = [0u8; 70000];
-    input::number();
-    input::bytes(&mut space);
-    match service {
-        2 => {
-            input::number();
-        }
-        3 => {
-            input::bytes(&mut space);
-        }
-        4 => {
-            input::bytes(&mut space);
-            input::bytes(&mut space);
-            input::number();
-        }
-        5 => {
-            input::bytes(&mut space);
-            input::bytes(&mut space);
-            input::bytes(&mut space);
-        }
-        7 => {
-            input::number();
-        }
-        8 | 9 => {
-            input::bytes(&mut space);
-            input::bytes(&mut space);
-        }
-        _ => {}
+// The services that take a sheet, n and a wiring.
+fn on_plan(service: u8, sheet: &[u8], n: usize, wiring: &[u8]) {
+    if service == 2 {
+        let v = input::number();
+        output::text(b"piece ");
+        output::bytes(wiring::piece_of(sheet, n, wiring, v as usize));
+        return;
     }
+    if service == 6 {
+        output::text(b"absent");
+        return;
+    }
+    if service == 7 {
+        input::number();
+        output::text(b"absent");
+        return;
+    }
+    let mut block_space = [0u8; 70000];
+    let block = input::bytes(&mut block_space);
+    on_block(service, sheet, n, wiring, &block_space[..block]);
+}
+
+// The services that take a block or a message beside the plan.
+fn on_block(service: u8, sheet: &[u8], n: usize, wiring: &[u8], block: &[u8]) {
+    if service == 3 {
+        locate(sheet, n, wiring, block);
+        return;
+    }
+    let mut space = [0u8; 70000];
+    input::bytes(&mut space);
+    if service == 4 {
+        input::number();
+    }
+    if service == 5 {
+        input::bytes(&mut space);
+    }
+    output::text(b"absent");
 }
 
 fn nearest(sheet: &[u8], word: u64) {
@@ -58,6 +72,25 @@ fn nearest(sheet: &[u8], word: u64) {
             output::number(w);
         }
         Nearest::Refused(r) => {
+            output::refused(r.number, r.place);
+        }
+    }
+}
+
+fn locate(sheet: &[u8], n: usize, wiring: &[u8], block: &[u8]) {
+    match wiring::locate(sheet, n, wiring, block) {
+        Located::Nowhere => {
+            output::text(b"ok none");
+        }
+        Located::At { right, vertex } => {
+            if right {
+                output::text(b"ok right ");
+            } else {
+                output::text(b"ok left ");
+            }
+            output::number(vertex as u64);
+        }
+        Located::Refused(r) => {
             output::refused(r.number, r.place);
         }
     }

@@ -1,0 +1,10 @@
+pub mod Searches
+pub mod Permutation
+pub mod Edges
+pub mod Blocks
+pub mod VertexWords
+pub mod CodewordBlocks
+pub mod Plans
+pub mod SeenBits
+pub mod VertexAccess
+pub mod Locating

@@ -1,0 +1,226 @@
+-- Accepted wirings: every edge stands exactly once, and each has a place.
+--   edgeOf wiring i         entry i: the edge that stands there (specs Wiring)
+--   entryCheck N edge i     entry i alone: its edge at or above N (9), else seen earlier (10) (specs Wiring)
+--   entriesCheck N edge m   the refusal of the first faulty entry below m (specs Wiring)
+--   wiringCheck d n wiring  the wiring's place in the table, 7 to 10 (specs Wiring)
+--   Entries N edge m        the entries below m name edges below N, no edge twice
+--   Wired d n wiring        what an accepted wiring is: n, the length, and its n·d entries
+--   placeOf wiring N e      the entry at which edge e stands
+--   sideBit right edge i    the bit at entry i of a side (specs Block)
+--   sidePlace right wiring N e  the entry of a side at which bit e stands
+-- Laws are named by their subject, then by the fact: `entry-` is about the test of one entry, `entries-` about that of all
+-- entries below m, `wiring-` and `wired` about the whole check, `edges-` about the
+-- number of edges, `place-` and `edge-` about an edge and its entry, `side-` and `sidePlace-`
+-- about the bits of either side. At the end of a name, `-lt` is a bound, `-once` says that no two entries have one bit,
+-- `-onto` that every bit has an entry, `-passed` leads from a check to the facts and `-back` from the facts to the check,
+-- `-tests` writes a check out.
+use Prim.Native.Nat.{ℕ, zero, suc, _+_, _*_, _≤_, _<_}
+use mathlib.Core.Bool.{Bool, true, false, not, _||_, true≢false, or-true}
+use mathlib.Core.List.{List, []}
+use mathlib.Core.Logic.{⊎-elim}
+use mathlib.Core.Path.{_≡_, refl, sym, ap, _∙_}
+use native.Mathlib.Nat.{le-step, lt-suc-self, not-suc-le-zero, eq-or-lt-of-le, le-of-suc-le-suc, le-antisymm, ne-of-lt, mul-le-mul-left, mul-le-mul-right}
+use native.Mathlib.Decide.{decLe}
+use native.Mathlib.Numerals.{add-one}
+use native.Mathlib.Omega.{arith}
+use lib.Dec.{ltb, leb, eqb}
+use lib.ListN.{length}
+use borrow.Author.Tests.{ltb-false, lt-ltb, le-ltb, leb-false, lt-leb, eqb-true, eqb-false, eq-eqb, ne-eqb, not-false}
+use Rattle.bits.proofs.Sums.{injective-onto}
+use Rattle.inner_code.specs.Reply.{done, refused, refuseIf}
+use Rattle.inner_code.specs.Code.{someBelow}
+use Rattle.inner_code.proofs.Replies.{refuse-taken, refuse-passed, refuse-done, andThen-passed, andThen-refused, andThen-done}
+use Rattle.wiring.specs.Search.{firstFailing}
+use Rattle.wiring.specs.Wiring.{edgeOf, entryCheck, entriesCheck, wiringCheck}
+use Rattle.wiring.specs.Block.{sideBit}
+use Rattle.wiring.proofs.Searches.{first-at, none-below, none-below-each}
+
+-- ---- the entries' check
+
+pub record Entries (N : ℕ) (edge : ℕ → ℕ) (m : ℕ) : Type 0 where
+  pub entry-lt : (i : ℕ) → i < m → edge i < N
+  pub entry-once : (i j : ℕ) → i < m → j < m → edge i ≡ edge j → i ≡ j
+
+entry-tests : (N : ℕ) (edge : ℕ → ℕ) (i : ℕ)
+    → entryCheck N edge i ≡ refuseIf (leb N (edge i)) 9 i (refuseIf (someBelow i (λ j. eqb (edge j) (edge i))) 10 i (done []))
+unfolding entryCheck
+entry-tests N edge i = refl
+
+-- an entry passes exactly if its edge is below N and stands at no earlier entry
+pub entry-passed : {values : List ℕ} (N : ℕ) (edge : ℕ → ℕ) (i : ℕ) → entryCheck N edge i ≡ done values
+    → (edge i < N) × ((j : ℕ) → j < i → edge j ≡ edge i → ⊥)
+entry-passed {values} N edge i e =
+    let (low, rest) = refuse-done _ 9 i _ values (sym (entry-tests N edge i) ∙ e) in
+    let (fresh, end) = refuse-done _ 10 i _ values rest in
+    (leb-false N (edge i) low, λ j l. eqb-false (edge j) (edge i) (none-below-each i _ fresh j l))
+
+pub entry-back : (N : ℕ) (edge : ℕ → ℕ) (i : ℕ) → edge i < N → ((j : ℕ) → j < i → edge j ≡ edge i → ⊥) → entryCheck N edge i ≡ done []
+entry-back N edge i low fresh =
+    entry-tests N edge i ∙ refuse-passed _ 9 i _ (lt-leb N (edge i) low)
+    ∙ refuse-passed _ 10 i _ (none-below i _ (λ j l. ne-eqb (edge j) (edge i) (fresh j l)))
+
+entries-each : {values : List ℕ} (N : ℕ) (edge : ℕ → ℕ) (m : ℕ) → entriesCheck N edge m ≡ done values → (i : ℕ) → i < m
+    → (edge i < N) × ((j : ℕ) → j < i → edge j ≡ edge i → ⊥)
+unfolding entriesCheck
+entries-each N edge zero e i l = absurd (not-suc-le-zero l)
+entries-each {values} N edge (suc m) e i l =
+    let ((passed, before), last) = andThen-done _ _ values e in
+    ⊎-elim (λ (q : i ≡ m). rw q (entry-passed N edge m last)) (λ (k : i < m). entries-each N edge m before i k)
+    (eq-or-lt-of-le (le-of-suc-le-suc l))
+
+pub entries-passed : {values : List ℕ} (N : ℕ) (edge : ℕ → ℕ) (m : ℕ) → entriesCheck N edge m ≡ done values → Entries N edge m
+entries-passed N edge m e =
+    record {
+      entry-lt = λ i l. entries-each N edge m e i l .0;
+      entry-once = λ i j k l q. le-antisymm (before i j k q) (before j i l (sym q));
+    }
+  where
+    before : (i j : ℕ) → i < m → edge i ≡ edge j → i ≤ j
+    before i j l q = elim (decLe i j) [ yes h ↦ h | no h ↦ absurd (entries-each N edge m e i l .1 j (omega arith) (sym q)) ]
+
+pub entries-back : (N : ℕ) (edge : ℕ → ℕ) (m : ℕ) → Entries N edge m → entriesCheck N edge m ≡ done []
+unfolding entriesCheck
+entries-back N edge zero r = refl
+entries-back N edge (suc m) r =
+    andThen-passed _ _ []
+    (entries-back N edge m (record { entry-lt = λ i l. r .entry-lt i (le-step l); entry-once = λ i j k l. r .entry-once i j (le-step k) (le-step l) }))
+    ∙ entry-back N edge m (r .entry-lt m (lt-suc-self m)) (λ j l q. ne-of-lt l (r .entry-once j m (le-step l) (lt-suc-self m) q))
+
+-- a loop that stops at entry i has the refusal of the whole
+pub entries-refused : (N : ℕ) (edge : ℕ → ℕ) (m i a b : ℕ) → entriesCheck N edge i ≡ done [] → entryCheck N edge i ≡ refused a b → i < m
+    → entriesCheck N edge m ≡ refused a b
+unfolding entriesCheck
+entries-refused N edge zero i a b e f l = absurd (not-suc-le-zero l)
+entries-refused N edge (suc m) i a b e f l =
+    ⊎-elim (λ (q : i ≡ m). andThen-passed _ _ [] (rw q at e) ∙ rw q at f)
+    (λ (k : i < m). andThen-refused _ _ a b (entries-refused N edge m i a b e f k)) (eq-or-lt-of-le (le-of-suc-le-suc l))
+
+pub entries-one-more : (N : ℕ) (edge : ℕ → ℕ) (i : ℕ) → entriesCheck N edge i ≡ done [] → entryCheck N edge i ≡ done []
+    → entriesCheck N edge (i + 1) ≡ done []
+unfolding entriesCheck
+entries-one-more N edge i e f = rw add-one (andThen-passed _ _ [] e ∙ f)
+
+-- ---- the wiring's check
+
+pub edges-le : (n d : ℕ) → n ≤ 2048 → d ≤ 16 → n * d ≤ 32768
+edges-le n d few narrow = omega (arith, mul-le-mul-right d few, mul-le-mul-left 2048 narrow)
+
+pub record Wired (d n : ℕ) (wiring : List ℕ) : Type 0 where
+  pub n-low : 1 ≤ n
+  pub n-high : n ≤ 2048
+  pub sized : length wiring ≡ 2 * (n * d)
+  pub edge-lt : (i : ℕ) → i < n * d → edgeOf wiring i < n * d
+  pub edge-once : (i j : ℕ) → i < n * d → j < n * d → edgeOf wiring i ≡ edgeOf wiring j → i ≡ j
+
+neither-holds : (a b : Bool) → (a || b) ≡ false → (a ≡ false) × (b ≡ false)
+neither-holds false b e = (refl, e)
+neither-holds true b e = absurd (true≢false e)
+
+wiring-tests : (d n : ℕ) (wiring : List ℕ) → wiringCheck d n wiring
+    ≡ refuseIf (ltb n 1 || ltb 2048 n) 7 0 (refuseIf (not (eqb (length wiring) (2 * (n * d)))) 8 0 (entriesCheck (n * d) (edgeOf wiring) (n * d)))
+unfolding wiringCheck
+wiring-tests d n wiring = refl
+
+-- the outcome of each test in turn
+module _ (d n : ℕ) (wiring : List ℕ) where
+  pub wiring-few : n < 1 → wiringCheck d n wiring ≡ refused 7 0
+  wiring-few few = wiring-tests d n wiring ∙ refuse-taken _ 7 0 _ (rw (lt-ltb n 1 few))
+
+  pub wiring-many : 2048 < n → wiringCheck d n wiring ≡ refused 7 0
+  wiring-many many = wiring-tests d n wiring ∙ refuse-taken _ 7 0 _ (rw (lt-ltb 2048 n many) (or-true (ltb n 1)))
+
+  module _ (low : 1 ≤ n) (high : n ≤ 2048) where
+    past-count : wiringCheck d n wiring
+        ≡ refuseIf (not (eqb (length wiring) (2 * (n * d)))) 8 0 (entriesCheck (n * d) (edgeOf wiring) (n * d))
+    past-count = wiring-tests d n wiring ∙ refuse-passed _ 7 0 _ (rw (le-ltb n 1 low) (le-ltb 2048 n high))
+
+    pub wiring-unsized : (length wiring ≡ 2 * (n * d) → ⊥) → wiringCheck d n wiring ≡ refused 8 0
+    wiring-unsized other = past-count ∙ refuse-taken _ 8 0 _ (ap not (ne-eqb _ _ other))
+
+    pub wiring-entries : length wiring ≡ 2 * (n * d) → wiringCheck d n wiring ≡ entriesCheck (n * d) (edgeOf wiring) (n * d)
+    wiring-entries fits = past-count ∙ refuse-passed _ 8 0 _ (ap not (eq-eqb _ _ fits))
+
+pub wired : {values : List ℕ} (d n : ℕ) (wiring : List ℕ) → wiringCheck d n wiring ≡ done values → Wired d n wiring
+wired {values} d n wiring e =
+    let (counted, rest) = refuse-done _ 7 0 _ values (sym (wiring-tests d n wiring) ∙ e) in
+    let (fits, entries) = refuse-done _ 8 0 _ values rest in
+    let r = entries-passed (n * d) (edgeOf wiring) (n * d) entries in
+    record {
+      n-low = ltb-false n 1 (neither-holds (ltb n 1) _ counted .0);
+      n-high = ltb-false 2048 n (neither-holds (ltb n 1) _ counted .1);
+      sized = eqb-true _ _ (not-false _ fits);
+      edge-lt = r .entry-lt;
+      edge-once = r .entry-once;
+    }
+
+pub wired-back : (d n : ℕ) (wiring : List ℕ) → Wired d n wiring → wiringCheck d n wiring ≡ done []
+wired-back d n wiring w =
+    wiring-entries d n wiring (w .n-low) (w .n-high) (w .sized)
+    ∙ entries-back (n * d) (edgeOf wiring) (n * d) (record { entry-lt = w .edge-lt; entry-once = w .edge-once })
+
+-- the wiring holds all entries of a vertex
+pub wired-fits : {d n : ℕ} {wiring : List ℕ} → Wired d n wiring → (v : ℕ) → v < n → 2 * (v * d + d) ≤ length wiring
+wired-fits {d} w v l = omega (arith, w .sized, mul-le-mul-right d l)
+
+-- ---- the place of an edge
+
+unfoldable pub placeOf : List ℕ → ℕ → ℕ → ℕ
+unfolding firstFailing edgeOf
+placeOf wiring N e = firstFailing N (λ i. not (eqb (edgeOf wiring i) e))
+
+unfoldable pub sidePlace : Bool → List ℕ → ℕ → ℕ → ℕ
+unfolding placeOf
+sidePlace false wiring N e = e
+sidePlace true wiring N e = placeOf wiring N e
+
+-- where the entries' edges are below N, so are the bits of either side
+pub side-below : (N : ℕ) (edge : ℕ → ℕ) → ((i : ℕ) → i < N → edge i < N) → (right : Bool) (i : ℕ) → i < N → sideBit right edge i < N
+unfolding sideBit
+side-below N edge below false i l = l
+side-below N edge below true i l = below i l
+
+module _ {d n : ℕ} {wiring : List ℕ} (w : Wired d n wiring) where
+  pub place-edge : (i : ℕ) → i < n * d → placeOf wiring (n * d) (edgeOf wiring i) ≡ i
+  unfolding placeOf
+  place-edge i l =
+      first-at (n * d) _ i l
+      (λ j k. ap not (ne-eqb (edgeOf wiring j) (edgeOf wiring i) (λ q. ne-of-lt k (w .edge-once j i (omega arith) l q))))
+      (ap not (eq-eqb (edgeOf wiring i) _ refl))
+
+  -- n·d entries hold n·d edges, none twice, so every edge stands at one
+  placed : (e : ℕ) → e < n * d → (placeOf wiring (n * d) e < n * d) × (edgeOf wiring (placeOf wiring (n * d) e) ≡ e)
+  placed e l =
+      let (i, k, q) = injective-onto (n * d) (edgeOf wiring) (w .edge-lt) (w .edge-once) e l in
+      let at-i : placeOf wiring (n * d) e ≡ i = ap (placeOf wiring (n * d)) (sym q) ∙ place-edge i k in
+      rw at-i (k, q)
+
+  pub place-lt : (e : ℕ) → e < n * d → placeOf wiring (n * d) e < n * d
+  place-lt e l = placed e l .0
+
+  pub edge-place : (e : ℕ) → e < n * d → edgeOf wiring (placeOf wiring (n * d) e) ≡ e
+  edge-place e l = placed e l .1
+
+  -- ---- either side
+
+  pub side-lt : (right : Bool) (i : ℕ) → i < n * d → sideBit right (edgeOf wiring) i < n * d
+  side-lt = side-below (n * d) (edgeOf wiring) (w .edge-lt)
+
+  pub side-once : (right : Bool) (i j : ℕ) → i < n * d → j < n * d → sideBit right (edgeOf wiring) i ≡ sideBit right (edgeOf wiring) j → i ≡ j
+  unfolding sideBit
+  side-once false i j k l q = q
+  side-once true i j k l q = w .edge-once i j k l q
+
+  pub sidePlace-lt : (right : Bool) (e : ℕ) → e < n * d → sidePlace right wiring (n * d) e < n * d
+  unfolding sidePlace
+  sidePlace-lt false e l = l
+  sidePlace-lt true e l = place-lt e l
+
+  pub sidePlace-side : (right : Bool) (i : ℕ) → i < n * d → sidePlace right wiring (n * d) (sideBit right (edgeOf wiring) i) ≡ i
+  unfolding sideBit sidePlace
+  sidePlace-side false i l = refl
+  sidePlace-side true i l = place-edge i l
+
+  pub side-onto : (right : Bool) (e : ℕ) → e < n * d → sideBit right (edgeOf wiring) (sidePlace right wiring (n * d) e) ≡ e
+  unfolding sideBit sidePlace
+  side-onto false e l = refl
+  side-onto true e l = edge-place e l

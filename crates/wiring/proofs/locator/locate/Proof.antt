@@ -1,0 +1,79 @@
+-- `wiring::locate` meets its contract: each return is the outcome of the first of plan and block that refuses, and by an accepted plan's
+-- basis the search finds the definition's vertex.
+use mathlib.Core.Path.{sym, ap, _∙_}
+use native.Mathlib.Omega.{arith}
+use Prim.Native.Nat.{ℕ, _*_}
+use denote.Ref.{now}
+use Rattle.wiring.specs.Answer.{checkReply}
+use Rattle.wiring.proofs.Plans.{PlanAccepted, plan-accepted, plan-refused}
+use Rattle.wiring.proofs.Locating.{answer-plan-refused, answer-block-refused, answer-located}
+use borrow.Author.Needs.{needs}
+use Rattle.wiring.proofs.locator.locate.Statement.{statement}
+use Rattle.wiring.proofs.locator.locate.Tie as tie
+
+check-plan-requires : tie.Need-check-plan-requires
+check-plan-requires c κs = search needs
+
+enum-known-values : tie.Need-enum-known-values
+enum-known-values c = search needs
+
+enum-known-values-2 : tie.Need-enum-known-values-2
+enum-known-values-2 c = search needs
+
+plan : (c : tie.After-known-told2)
+    → PlanAccepted (now (c .before .before .before .before .before .before .before .args .sheet)) (c .before .before .before .before .before .before .before .args .n)
+    (now (c .before .before .before .before .before .before .before .args .wiring)) (c .before .before .before .check-plan .result)
+    (c .before .values2 .given .0 .0) (c .before .values2 .given .0 .1 .0)
+plan c = plan-accepted _ _ _ _ _ _ (c .before .before .before .check-plan .ensures) (c .before .values2 .given .1)
+
+mul-check-block : tie.Need-mul-check-block
+mul-check-block c =
+    let p = plan c in
+    omega (arith, p .plan-wired .sized, ap (λ (x : ℕ). c .before .before .before .before .before .before .before .args .n * x) (p .d-is))
+
+check-block-requires : tie.Need-check-block-requires
+check-block-requires c κs = search needs
+
+enum-known-r : tie.Need-enum-known-r
+enum-known-r c = search needs
+
+enum-told : tie.Need-enum-told
+enum-told c = search needs
+
+search-requires : tie.Need-search-requires
+search-requires c κs = search needs
+
+returns : tie.Need-returns
+returns c =
+    let args = c .before .before .before .before .before .before .before .args in
+    sym (answer-plan-refused (now (args .sheet)) (args .n) (now (args .wiring)) (now (args .block)) _ _
+    (plan-refused _ _ _ _ _ (c .before .before .before .check-plan .ensures) (c .before .values .given .1)))
+
+returns-2 : tie.Need-returns-2
+returns-2 c =
+    let args = c .before .before .before .before .before .before .before .before .before .before .before .args in
+    sym (answer-block-refused (now (args .sheet)) (args .n) (now (args .wiring)) (now (args .block)) _ _ _ (plan (c .before .before .before .before)) _ _
+    (sym (c .before .before .before .check-block .ensures) ∙ ap checkReply (c .before .r .given .1)))
+
+returns-3 : tie.Need-returns-3
+returns-3 c =
+    let args = c .before .before .before .before .before .before .before .before .before .before .before .before .before .args in
+    answer-located (now (args .sheet)) (args .n) (now (args .wiring)) (now (args .block)) _ _ _ (plan (c .before .before .before .before .before .before))
+    (sym (c .before .before .before .before .before .check-block .ensures) ∙ ap checkReply (c .before .before .before .enum-told .given .1)) _
+    (c .search .ensures)
+
+pub locate-spec : {M : Type 1} → statement M
+locate-spec =
+    tie.close
+    (tie.spec
+    check-plan-requires
+    enum-known-values
+    enum-known-values-2
+    mul-check-block
+    check-block-requires
+    enum-known-r
+    enum-told
+    search-requires
+    returns
+    returns-2
+    returns-3)

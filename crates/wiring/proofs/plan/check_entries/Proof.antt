@@ -1,0 +1,142 @@
+use borrow.Author.Needs.{needs}
+-- `wiring::check_entries` meets its contract: after i turns the first i entries have passed, and `seen` has a bit for each of their edges.
+use mathlib.Core.Path.{_≡_, refl, sym, ap, _∙_}
+use mathlib.Core.List.{List, []}
+use Prim.Native.Nat.{ℕ, _+_, _*_, _-_, _≤_}
+use native.Mathlib.Omega.{arith}
+use denote.Ref.{now}
+use Rattle.bits.specs.Bit.{pairAt, bitAt, withBit}
+use Rattle.inner_code.specs.Reply.{done}
+use Rattle.wiring.specs.Wiring.{edgeOf, entriesCheck}
+use Rattle.wiring.specs.Access.{noneSeen, seenAfter}
+use Rattle.wiring.proofs.Permutation.{entries-refused, entries-one-more}
+use Rattle.wiring.proofs.SeenBits.{mask-clear, mask-clear-back, mask-store, entry-high, entry-seen, entry-fresh, seen-one-more}
+use Rattle.wiring.proofs.plan.check_entries.Statement.{statement}
+use Rattle.wiring.proofs.plan.check_entries.Tie as tie
+
+abbrev Inv-loop : tie.InvT-loop
+Inv-loop edges wiring mask seen₀ i₀ seen i =
+    (i ≤ edges) × (entriesCheck edges (edgeOf wiring) i ≡ done []) × (seen ≡ seenAfter (edgeOf wiring) i noneSeen)
+
+abbrev μ-loop : tie.MeasureT-loop
+μ-loop edges wiring mask seen₀ i₀ seen i = edges - i
+
+loop-holds : tie.Need-loop-holds Inv-loop μ-loop
+unfolding entriesCheck seenAfter noneSeen
+loop-holds c = (search needs, refl, refl)
+
+mul-edge : tie.Need-mul-edge Inv-loop μ-loop
+mul-edge c = search needs
+
+shared-slice-read-edge : tie.Need-shared-slice-read-edge Inv-loop μ-loop
+shared-slice-read-edge c = search needs
+
+cast-edge : tie.Need-cast-edge Inv-loop μ-loop
+cast-edge c = omega (arith, c .shared-slice-known .given (2 * c .before .before .loop .i))
+
+mul-edge-2 : tie.Need-mul-edge-2 Inv-loop μ-loop
+mul-edge-2 c = omega (arith, c .shared-slice-known .given (2 * c .before .before .loop .i))
+
+mul-edge-3 : tie.Need-mul-edge-3 Inv-loop μ-loop
+mul-edge-3 c = search needs
+
+add-edge : tie.Need-add-edge Inv-loop μ-loop
+add-edge c = search needs
+
+shared-slice-read-edge-2 : tie.Need-shared-slice-read-edge-2 Inv-loop μ-loop
+shared-slice-read-edge-2 c = search needs
+
+cast-edge-2 : tie.Need-cast-edge-2 Inv-loop μ-loop
+cast-edge-2 c = omega (arith, c .shared-slice-known2 .given (2 * c .before .before .before .loop .i + 1))
+
+add-edge-2 : tie.Need-add-edge-2 Inv-loop μ-loop
+add-edge-2 c =
+    let i = c .before .before .before .loop .i in
+    omega (arith, c .shared-slice-known2 .given (2 * i), c .shared-slice-known2 .given (2 * i + 1))
+
+cast-place : tie.Need-cast-place Inv-loop μ-loop
+cast-place c = search needs
+
+returns : tie.Need-returns Inv-loop μ-loop
+unfolding edgeOf pairAt
+returns c =
+    let args = c .before .before .before .before .before .args in
+    let before = c .before .before .before .before .loop in
+    let edge = edgeOf (now (args .wiring)) in
+    sym (entries-refused (args .edges) edge (args .edges) (before .i) 9 (before .i) (before .inv .1)
+    (entry-high (args .edges) edge (before .i) (c .if1 .taken)) (omega arith))
+
+array-read-byte : tie.Need-array-read-byte Inv-loop μ-loop
+array-read-byte c = search needs
+
+array-read-bit : tie.Need-array-read-bit Inv-loop μ-loop
+array-read-bit c = search needs
+
+returns-2 : tie.Need-returns-2 Inv-loop μ-loop
+unfolding edgeOf pairAt
+returns-2 c =
+    let args = c .before .before .before .before .before .before .args in
+    let before = c .before .before .before .before .before .loop in
+    let edge = edgeOf (now (args .wiring)) in
+    sym (entries-refused (args .edges) edge (args .edges) (before .i) 10 (before .i) (before .inv .1)
+    (entry-seen (args .edges) edge (before .i) (c .before .if1 .left) (omega arith)
+    (λ z. c .if2 .taken (mask-clear (before .seen) (edge (before .i)) (ap (λ (l : List ℕ). bitAt l (edge (before .i))) (before .inv .2) ∙ z))))
+    (omega arith))
+
+array-write-seen : tie.Need-array-write-seen Inv-loop μ-loop
+array-write-seen c = search needs
+
+add-i : tie.Need-add-i Inv-loop μ-loop
+add-i c = search needs
+
+loop-less : tie.Need-loop-less Inv-loop μ-loop
+loop-less c = search needs
+
+loop-again : tie.Need-loop-again Inv-loop μ-loop
+unfolding edgeOf pairAt
+loop-again c =
+    let args = c .before .before .before .before .before .before .args in
+    let before = c .before .before .before .before .before .loop in
+    let edge = edgeOf (now (args .wiring)) in
+    let clear = mask-clear-back (before .seen) (edge (before .i)) (c .if2 .left) in (
+      omega arith,
+      entries-one-more (args .edges) edge (before .i) (before .inv .1)
+          (entry-fresh (args .edges) edge (before .i) (c .before .if1 .left) (omega arith)
+          (ap (λ (l : List ℕ). bitAt l (edge (before .i))) (sym (before .inv .2)) ∙ clear)),
+      mask-store (before .seen) (edge (before .i)) clear
+          ∙ ap (λ (l : List ℕ). withBit l (edge (before .i)) 1) (before .inv .2)
+          ∙ sym (seen-one-more edge (before .i) noneSeen),
+    )
+
+returns-3 : tie.Need-returns-3 Inv-loop μ-loop
+returns-3 c =
+    let args = c .before .before .args in
+    let end : c .before .loop .i ≡ args .edges = omega arith in
+    sym (ap (entriesCheck (args .edges) (edgeOf (now (args .wiring)))) (sym end) ∙ c .before .loop .inv .1)
+
+pub check-entries-spec : {M : Type 1} → statement M
+check-entries-spec =
+    tie.close
+    (tie.spec
+    Inv-loop
+    μ-loop
+    loop-holds
+    mul-edge
+    shared-slice-read-edge
+    cast-edge
+    mul-edge-2
+    mul-edge-3
+    add-edge
+    shared-slice-read-edge-2
+    cast-edge-2
+    add-edge-2
+    cast-place
+    returns
+    array-read-byte
+    array-read-bit
+    returns-2
+    array-write-seen
+    add-i
+    loop-less
+    loop-again
+    returns-3)
