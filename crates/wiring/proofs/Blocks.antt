@@ -3,8 +3,8 @@
 --   blockCheck N block    11 and 12, or done with no value (specs Block)
 --   bitAt block i         bit i of the block, 0 past its end (bits specs Bit)
 --   strayBit N block      some bit of the block's bytes at N or after is 1: the test of 12
--- Laws are named by their subject, then by the fact: `block-` is about a block that passes the check, `bytes-` about the
--- number of bytes, `stray-` about the test of 12 as the code makes it, on the last byte alone. At the end of a name, `-back`
+-- Laws are named by their subject, then by the fact: `block-` is about the outcome of the check and a block that
+-- passes it, `bytes-` about the number of bytes, `stray-` about the test of 12 as the code makes it, on the last byte alone. At the end of a name, `-back`
 -- leads from the facts to the check, `-ext` is equality from the bits.
 use Prim.Native.Nat.{ℕ, _+_, _-_, _*_, _/_, _%_, _^_, _≤_, _<_}
 use mathlib.Core.Bool.{Bool, true, false, not, _&&_, and-false}
@@ -117,3 +117,16 @@ stray-some N block low = go (strayBit N block) refl
         absurd (low (digit-ext (8 - N % 8) _ 0 (mod-lt _ (pow-pos (8 - N % 8))) (pow-pos (8 - N % 8))
         (λ j l. digit-low _ (8 - N % 8) j l ∙ sym (bitAt-byte block (N / 8) j (omega arith))
         ∙ stray-clear N block e (N / 8 * 8 + (7 - j)) (omega arith) ∙ sym (digit-zero j))))
+
+-- ---- the outcome by the last byte, of which `spare` is the weight of bit N - 1: what lies below it comes after that bit
+
+module _ (N : ℕ) (block : List ℕ) (fits : length block ≡ blockBytes N) where
+  pub block-whole : N % 8 ≡ 0 → blockCheck N block ≡ done []
+  block-whole whole = block-passed N block fits (stray-none N block fits (inl whole))
+
+  pub block-low-clear : (spare : ℕ) → spare ≡ 2 ^ (8 - N % 8) → getD block (N / 8) 0 % spare ≡ 0 → blockCheck N block ≡ done []
+  block-low-clear spare s low =
+      block-passed N block fits (stray-none N block fits (inr (ap (λ (m : ℕ). getD block (N / 8) 0 % m) (sym s) ∙ low)))
+
+  pub block-low-set : (spare : ℕ) → spare ≡ 2 ^ (8 - N % 8) → getD block (N / 8) 0 % spare ≢ 0 → blockCheck N block ≡ refused 12 0
+  block-low-set spare s low = block-stray N block fits (stray-some N block (λ z. low (ap (λ (m : ℕ). getD block (N / 8) 0 % m) s ∙ z)))

@@ -5,8 +5,9 @@
 --   satisfied, located                            the same by the definition of a codeword (specs Block)
 --   locateAnswer sheet n wiring block             what the service answers (specs Answer)
 --   withEchelon row k l                           the list l with the echelon form of k rows at its front (inner_code specs Reduction)
--- Laws are named by their subject, then by the fact: `tested-` is about one vertex, `by-` about the first vertex of a side, `located-`
--- about both sides, `answer-` about the service. At the end of a name, `-residue` and `-by` say that the code's test is the definition's.
+-- Laws are named by their subject, then by the fact: `satisfied-` is about one vertex, `by-` about the first vertex of a side as a loop
+-- finds it, `located-` about both sides, `answer-` about the service. At the end of a name, `-residue` and `-by` say that the code's test
+-- is the definition's.
 use Prim.Native.Nat.{ℕ, _+_, _*_, _≤_, _<_, min}
 use mathlib.Core.Bool.{Bool, true, false}
 use mathlib.Core.List.{List, [], _∷_}
@@ -33,35 +34,30 @@ use Rattle.wiring.proofs.Permutation.{Wired}
 use Rattle.wiring.proofs.VertexAccess.{read-inside}
 use Rattle.wiring.proofs.Plans.{PlanAccepted}
 
--- ---- one side
+-- ---- one side, vertex by vertex: `word` is what the code reads, `left` what the basis leaves of it
 
 module _ (basis : List ℕ) (k : ℕ) (right : Bool) (wiring : List ℕ) (d : ℕ) (block : List ℕ) where
-  -- what the code leaves of the word it reads decides the test
-  pub tested-passed : (v word left : ℕ) → word ≡ readWord right wiring d block v → left ≡ reducedBy (at basis) (min k 11) word → left ≡ 0
-      → satisfiedBy basis k right wiring d block v ≡ true
+  tested : (v word left : ℕ) → word ≡ readWord right wiring d block v → left ≡ reducedBy (at basis) (min k 11) word
+      → satisfiedBy basis k right wiring d block v ≡ eqb left 0
   unfolding satisfiedBy
-  tested-passed v word left w l none = eq-eqb _ 0 (ap (reducedBy (at basis) (min k 11)) (sym w) ∙ sym l ∙ none)
-
-  pub tested-failed : (v word left : ℕ) → word ≡ readWord right wiring d block v → left ≡ reducedBy (at basis) (min k 11) word → (left ≡ 0 → ⊥)
-      → satisfiedBy basis k right wiring d block v ≡ false
-  unfolding satisfiedBy
-  tested-failed v word left w l some = ne-eqb _ 0 (λ z. some (l ∙ ap (reducedBy (at basis) (min k 11)) w ∙ z))
+  tested v word left w l = ap (λ (x : ℕ). eqb x 0) (sym (l ∙ ap (reducedBy (at basis) (min k 11)) w))
 
   pub by-none : unsatisfiedBy basis k right wiring d 0 block ≡ 0
   unfolding unsatisfiedBy
   by-none = first-zero (λ v. satisfiedBy basis k right wiring d block v)
 
-  pub by-one-more : (v : ℕ) → unsatisfiedBy basis k right wiring d v block ≡ v → satisfiedBy basis k right wiring d block v ≡ true
-      → unsatisfiedBy basis k right wiring d (v + 1) block ≡ v + 1
+  pub by-one-more : (v word left : ℕ) → unsatisfiedBy basis k right wiring d v block ≡ v → word ≡ readWord right wiring d block v
+      → left ≡ reducedBy (at basis) (min k 11) word → left ≡ 0 → unsatisfiedBy basis k right wiring d (v + 1) block ≡ v + 1
   unfolding unsatisfiedBy
-  by-one-more v = first-one-more v (λ u. satisfiedBy basis k right wiring d block u)
+  by-one-more v word left e w l none =
+      first-one-more v (λ u. satisfiedBy basis k right wiring d block u) e (tested v word left w l ∙ eq-eqb left 0 none)
 
-  pub by-found : (v n : ℕ) → v < n → unsatisfiedBy basis k right wiring d v block ≡ v → satisfiedBy basis k right wiring d block v ≡ false
-      → unsatisfiedBy basis k right wiring d n block ≡ v
+  pub by-found : (n v word left : ℕ) → v < n → unsatisfiedBy basis k right wiring d v block ≡ v → word ≡ readWord right wiring d block v
+      → left ≡ reducedBy (at basis) (min k 11) word → (left ≡ 0 → ⊥) → unsatisfiedBy basis k right wiring d n block ≡ v
   unfolding unsatisfiedBy
-  by-found v n l e f =
+  by-found n v word left h e w l some =
       let test : ℕ → Bool = λ u. satisfiedBy basis k right wiring d block u in
-      first-at n test v l (first-all-each v test e) f
+      first-at n test v h (first-all-each v test e) (tested v word left w l ∙ ne-eqb left 0 some)
 
 -- ---- both sides
 

@@ -9,11 +9,10 @@
 --   sideBit right edge i    the bit at entry i of a side (specs Block)
 --   sidePlace right wiring N e  the entry of a side at which bit e stands
 -- Laws are named by their subject, then by the fact: `entry-` is about the test of one entry, `entries-` about that of all
--- entries below m, `wiring-` and `wired` about the whole check, `edges-` about the
--- number of edges, `place-` and `edge-` about an edge and its entry, `side-` and `sidePlace-`
--- about the bits of either side. At the end of a name, `-lt` is a bound, `-once` says that no two entries have one bit,
--- `-onto` that every bit has an entry, `-passed` leads from a check to the facts and `-back` from the facts to the check,
--- `-tests` writes a check out.
+-- entries below m, `edges-` about the number of edges, `wiring-` about the outcome of the whole check, `wired` about a wiring that
+-- passes it, `place-` and `edge-` about an edge and its entry, `side-` and `sidePlace-` about the bits of either side. At the end of a
+-- name, `-lt` and `-le` are bounds, `-once` says that no two entries have one bit, `-onto` that every bit has an entry, `-passed` leads
+-- from a check to the facts and `-back` from the facts to the check, `-tests` writes a check out.
 use Prim.Native.Nat.{ℕ, zero, suc, _+_, _*_, _≤_, _<_}
 use mathlib.Core.Bool.{Bool, true, false, not, _||_, true≢false, or-true}
 use mathlib.Core.List.{List, []}

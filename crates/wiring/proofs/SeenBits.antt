@@ -4,9 +4,9 @@
 --   masks                  the weights of the bits of a byte, that of its first bit first
 --   entryCheck N edge i    entry i alone: its edge at or above N (9), else seen earlier (10) (specs Wiring)
 -- Laws are named by their subject, then by the fact: `mask-` is about a byte and one weight, `seen-` about the bits, `entry-` about
--- the outcome of one entry.
+-- the outcome of one entry: `-high` by 9, `-seen` by 10, `-fresh` by neither.
 use Prim.Native.Nat.{ℕ, zero, suc, _+_, _-_, _*_, _/_, _%_, _^_, _≤_, _<_}
-use mathlib.Core.Bool.{Bool, true, false, _||_}
+use mathlib.Core.Bool.{Bool, true, false, _||_, or-true, or-false}
 use mathlib.Core.List.{List, [], _∷_}
 use mathlib.Core.Logic.{⊎-elim}
 use mathlib.Core.Path.{_≡_, refl, sym, ap, _∙_}
@@ -53,7 +53,7 @@ mask-and x k =
 
 -- ---- the bits
 
-pub seen-none : (e : ℕ) → bitAt noneSeen e ≡ 0
+seen-none : (e : ℕ) → bitAt noneSeen e ≡ 0
 unfolding bitAt noneSeen
 seen-none e = ap (λ (x : ℕ). digit x (7 - e % 8)) (element (e / 8)) ∙ digit-zero (7 - e % 8)
   where
@@ -64,26 +64,22 @@ seen-none e = ap (λ (x : ℕ). digit x (7 - e % 8)) (element (e / 8)) ∙ digit
           | no inside ↦ getD-replicate {A = ℕ} 4096 k 0 0 (omega arith)
         ]
 
-pub length-none : length noneSeen ≡ 4096
+length-none : length noneSeen ≡ 4096
 unfolding noneSeen
 length-none = length-replicate {A = ℕ} 4096 0
 
 module _ (edge : ℕ → ℕ) where
-  pub seen-zero : (seen : List ℕ) → seenAfter edge 0 seen ≡ seen
-  unfolding seenAfter
-  seen-zero seen = refl
-
-  pub seen-one-more : (i : ℕ) (seen : List ℕ) → seenAfter edge (i + 1) seen ≡ withBit (seenAfter edge i seen) (edge i) 1
+  seen-one-more : (i : ℕ) (seen : List ℕ) → seenAfter edge (i + 1) seen ≡ withBit (seenAfter edge i seen) (edge i) 1
   unfolding seenAfter
   seen-one-more i seen = rw add-one
 
-  pub length-seen : (i : ℕ) (seen : List ℕ) → length (seenAfter edge i seen) ≡ length seen
+  length-seen : (i : ℕ) (seen : List ℕ) → length (seenAfter edge i seen) ≡ length seen
   unfolding seenAfter
   length-seen zero seen = refl
   length-seen (suc i) seen = length-withBit (seenAfter edge i seen) (edge i) 1 ∙ length-seen i seen
 
   -- a bit is set exactly if its edge has stood before
-  pub seen-bit : (i : ℕ) (seen : List ℕ) (e : ℕ) → e < length seen * 8 → bitAt seen e ≡ 0
+  seen-bit : (i : ℕ) (seen : List ℕ) (e : ℕ) → e < length seen * 8 → bitAt seen e ≡ 0
       → bitAt (seenAfter edge i seen) e ≡ flag (someBelow i (λ j. eqb (edge j) e))
   unfolding seenAfter someBelow flag
   seen-bit zero seen e l clear = clear
@@ -92,25 +88,16 @@ module _ (edge : ℕ → ℕ) where
       earlier : Bool
       earlier = someBelow i (λ j. eqb (edge j) e)
 
-      or-true : (a : Bool) → flag (a || true) ≡ 1
-      or-true true = refl
-      or-true false = refl
-
-      or-false : (a : Bool) → flag (a || false) ≡ flag a
-      or-false true = refl
-      or-false false = refl
-
       go : bitAt (seenAfter edge i seen) e ≡ flag earlier → (b : Bool) → eqb (edge i) e ≡ b
           → bitAt (withBit (seenAfter edge i seen) (edge i) 1) e ≡ flag (earlier || eqb (edge i) e)
       go before true q =
           let same : edge i ≡ e = eqb-true (edge i) e q in
           ap (bitAt (withBit (seenAfter edge i seen) (edge i) 1)) (sym same)
           ∙ bitAt-same (seenAfter edge i seen) (edge i) 1 (omega (arith, length-seen i seen)) (omega arith)
-          ∙ sym (ap (λ (b : Bool). flag (earlier || b)) q ∙ or-true earlier)
+          ∙ sym (ap flag (ap (λ (b : Bool). earlier || b) q ∙ or-true earlier))
       go before false q =
           bitAt-other (seenAfter edge i seen) (edge i) e 1 (eqb-false (edge i) e q) (omega arith)
-          ∙ before
-          ∙ sym (ap (λ (b : Bool). flag (earlier || b)) q ∙ or-false earlier)
+          ∙ before ∙ sym (ap flag (ap (λ (b : Bool). earlier || b) q ∙ or-false earlier))
 
 -- ---- the code's test and its store
 
@@ -118,16 +105,16 @@ mask-test : (seen : List ℕ) (e : ℕ) → bitAnd (getD seen (e / 8) 0) (getD m
 unfolding bitAt
 mask-test seen e = ap (bitAnd (getD seen (e / 8) 0)) (mask-weight (e % 8) (omega arith)) ∙ mask-and _ (7 - e % 8)
 
-pub mask-clear : (seen : List ℕ) (e : ℕ) → bitAt seen e ≡ 0 → bitAnd (getD seen (e / 8) 0) (getD masks (e % 8) 0) ≡ 0
+mask-clear : (seen : List ℕ) (e : ℕ) → bitAt seen e ≡ 0 → bitAnd (getD seen (e / 8) 0) (getD masks (e % 8) 0) ≡ 0
 mask-clear seen e clear = mask-test seen e ∙ ap (λ (b : ℕ). b * 2 ^ (7 - e % 8)) clear ∙ zero-mul (2 ^ (7 - e % 8))
 
-pub mask-clear-back : (seen : List ℕ) (e : ℕ) → bitAnd (getD seen (e / 8) 0) (getD masks (e % 8) 0) ≡ 0 → bitAt seen e ≡ 0
+mask-clear-back : (seen : List ℕ) (e : ℕ) → bitAnd (getD seen (e / 8) 0) (getD masks (e % 8) 0) ≡ 0 → bitAt seen e ≡ 0
 mask-clear-back seen e none =
     ⊎-elim (λ (z : bitAt seen e ≡ 0). z)
     (λ (p : 0 < bitAt seen e). absurd (omega (arith, mask-test seen e, mul-le-mul-right (2 ^ (7 - e % 8)) p, pow-pos (7 - e % 8))))
     (eq-zero-or-pos (bitAt seen e))
 
-pub mask-store : (seen : List ℕ) (e : ℕ) → bitAt seen e ≡ 0
+mask-store : (seen : List ℕ) (e : ℕ) → bitAt seen e ≡ 0
     → set seen (e / 8) (bitXor (getD seen (e / 8) 0) (getD masks (e % 8) 0)) ≡ withBit seen e 1
 unfolding withBit putDigit bitAt
 mask-store seen e clear =
@@ -136,32 +123,39 @@ mask-store seen e clear =
 
 -- ---- one entry
 
-module _ (N : ℕ) (edge : ℕ → ℕ) (i : ℕ) where
-  pub entry-high : N ≤ edge i → entryCheck N edge i ≡ refused 9 i
+flag-some : (t : Bool) → (flag t ≡ 0 → ⊥) → t ≡ true
+unfolding flag
+flag-some true some = refl
+flag-some false some = absurd (some refl)
+
+flag-none : (t : Bool) → flag t ≡ 0 → t ≡ false
+unfolding flag
+flag-none true none = absurd (omega arith)
+flag-none false none = refl
+
+pub entry-high : (N : ℕ) (edge : ℕ → ℕ) (i : ℕ) → N ≤ edge i → entryCheck N edge i ≡ refused 9 i
+unfolding entryCheck
+entry-high N edge i h = refuse-taken _ 9 i _ (le-leb N (edge i) h)
+
+-- an entry whose edge is below N, once the edges of the entries before it are marked
+module _ (N : ℕ) (edge : ℕ → ℕ) (i : ℕ) (seen : List ℕ) (marked : seen ≡ seenAfter edge i noneSeen) (low : edge i < N) (fits : N ≤ 32768) where
+  bit-is : bitAt seen (edge i) ≡ flag (someBelow i (λ j. eqb (edge j) (edge i)))
+  bit-is =
+      ap (λ (l : List ℕ). bitAt l (edge i)) marked
+      ∙ seen-bit edge i noneSeen (edge i) (omega (arith, length-none)) (seen-none (edge i))
+
+  past-high : entryCheck N edge i ≡ refuseIf (someBelow i (λ j. eqb (edge j) (edge i))) 10 i (done [])
   unfolding entryCheck
-  entry-high h = refuse-taken _ 9 i _ (le-leb N (edge i) h)
+  past-high = refuse-passed _ 9 i _ (lt-leb N (edge i) low)
 
-  module _ (low : edge i < N) (fits : N ≤ 32768) where
-    -- the bit of the entry's edge, once the entries before it are marked
-    bit-is : bitAt (seenAfter edge i noneSeen) (edge i) ≡ flag (someBelow i (λ j. eqb (edge j) (edge i)))
-    bit-is = seen-bit edge i noneSeen (edge i) (omega (arith, length-none)) (seen-none (edge i))
+  pub entry-seen : (bitAnd (getD seen (edge i / 8) 0) (getD masks (edge i % 8) 0) ≡ 0 → ⊥) → entryCheck N edge i ≡ refused 10 i
+  entry-seen set = past-high ∙ refuse-taken _ 10 i _ (flag-some _ (λ z. set (mask-clear seen (edge i) (bit-is ∙ z))))
 
-    past-high : entryCheck N edge i ≡ refuseIf (someBelow i (λ j. eqb (edge j) (edge i))) 10 i (done [])
-    unfolding entryCheck
-    past-high = refuse-passed _ 9 i _ (lt-leb N (edge i) low)
+  module _ (clear : bitAnd (getD seen (edge i / 8) 0) (getD masks (edge i % 8) 0) ≡ 0) where
+    pub entry-fresh : entryCheck N edge i ≡ done []
+    entry-fresh = past-high ∙ refuse-passed _ 10 i _ (flag-none _ (sym bit-is ∙ mask-clear-back seen (edge i) clear))
 
-    pub entry-seen : (bitAt (seenAfter edge i noneSeen) (edge i) ≡ 0 → ⊥) → entryCheck N edge i ≡ refused 10 i
-    unfolding flag
-    entry-seen set = past-high ∙ refuse-taken _ 10 i _ (go (someBelow i (λ j. eqb (edge j) (edge i))) refl)
-      where
-        go : (b : Bool) → someBelow i (λ j. eqb (edge j) (edge i)) ≡ b → someBelow i (λ j. eqb (edge j) (edge i)) ≡ true
-        go true q = q
-        go false q = absurd (set (bit-is ∙ ap flag q))
-
-    pub entry-fresh : bitAt (seenAfter edge i noneSeen) (edge i) ≡ 0 → entryCheck N edge i ≡ done []
-    unfolding flag
-    entry-fresh clear = past-high ∙ refuse-passed _ 10 i _ (go (someBelow i (λ j. eqb (edge j) (edge i))) refl)
-      where
-        go : (b : Bool) → someBelow i (λ j. eqb (edge j) (edge i)) ≡ b → someBelow i (λ j. eqb (edge j) (edge i)) ≡ false
-        go true q = absurd (omega (arith, clear, bit-is, ap flag q))
-        go false q = q
+    pub seen-stored : set seen (edge i / 8) (bitXor (getD seen (edge i / 8) 0) (getD masks (edge i % 8) 0)) ≡ seenAfter edge (i + 1) noneSeen
+    seen-stored =
+        mask-store seen (edge i) (mask-clear-back seen (edge i) clear)
+        ∙ ap (λ (l : List ℕ). withBit l (edge i) 1) marked ∙ sym (seen-one-more edge i noneSeen)

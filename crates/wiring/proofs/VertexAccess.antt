@@ -8,11 +8,11 @@
 --   Wired d n wiring                      the wiring is accepted for n vertices of d edges on each side (Permutation)
 -- Laws are named by their subject, then by the fact: `inside-` and `outside-` are about the tests, `read-` and `write-` about the
 -- two ways of access, `so-far-` about a word of which some digits are read. At the end of a name, `-inside` is a vertex of an
--- accepted wiring, `-outside` one that the tests turn away, `-one-more` one more digit.
+-- accepted wiring, `-outside` one that the tests turn away, `-one-more` one more digit, `-last` the end of a loop over all digits.
 use Prim.Native.Nat.{ℕ, _+_, _*_, _≤_, _<_}
 use mathlib.Core.Bool.{Bool, true, false, and-false}
 use mathlib.Core.List.{List}
-use mathlib.Core.Path.{_≡_, refl}
+use mathlib.Core.Path.{_≡_, refl, sym, ap, ap₂, _∙_}
 use native.Mathlib.Omega.{arith}
 use lib.Dec.{ltb, leb}
 use lib.ListN.{length}
@@ -56,13 +56,15 @@ module _ (bit : ℕ → ℕ) (block : List ℕ) (base : ℕ) where
   unfolding wordSoFar word
   so-far-none = refl
 
-  pub so-far-one-more : (j : ℕ) → wordSoFar bit block base (j + 1) ≡ wordSoFar bit block base j * 2 + bitAt block (bit (base + j))
+  pub so-far-one-more : (j so-far b e : ℕ) → so-far ≡ wordSoFar bit block base j → b ≡ bitAt block e → e ≡ bit (base + j)
+      → so-far * 2 + b ≡ wordSoFar bit block base (j + 1)
   unfolding wordSoFar
-  so-far-one-more j = word-one-more j (λ i. bitAt block (bit (base + i)))
+  so-far-one-more j so-far b e s r p =
+      ap₂ (λ (x y : ℕ). x * 2 + y) s (r ∙ ap (bitAt block) p) ∙ sym (word-one-more j (λ i. bitAt block (bit (base + i))))
 
-  pub so-far-lt : (j : ℕ) → j ≤ 16 → wordSoFar bit block base j < 65536
+  pub so-far-lt : (j so-far : ℕ) → so-far ≡ wordSoFar bit block base j → j ≤ 16 → so-far < 65536
   unfolding wordSoFar
-  so-far-lt j h =
+  so-far-lt j so-far s h =
       omega (arith, pow-mono {j = 16} h, word-lt j (λ i. bitAt block (bit (base + i))) (λ i l. bitAt-lt block (bit (base + i))))
 
 module _ (right : Bool) (wiring : List ℕ) (d : ℕ) where
@@ -75,10 +77,11 @@ module _ (right : Bool) (wiring : List ℕ) (d : ℕ) where
   unfolding readWord
   read-all block v e = rw e
 
-  pub read-whole : (block : List ℕ) (v : ℕ) → inside d wiring v ≡ true
-      → readWord right wiring d block v ≡ wordSoFar (sideBit right (edgeOf wiring)) block (v * d) d
+  pub read-last : (block : List ℕ) (v j so-far : ℕ) → inside d wiring v ≡ true
+      → so-far ≡ wordSoFar (sideBit right (edgeOf wiring)) block (v * d) j → j ≡ d → so-far ≡ readWord right wiring d block v
   unfolding wordSoFar vertexWord
-  read-whole block v e = read-all block v e
+  read-last block v j so-far e s last =
+      s ∙ ap (wordSoFar (sideBit right (edgeOf wiring)) block (v * d)) last ∙ sym (read-all block v e)
 
   -- ---- writing
 
@@ -90,6 +93,11 @@ module _ (right : Bool) (wiring : List ℕ) (d : ℕ) where
       → writtenWord right wiring d v w block ≡ scattered (sideBit right (edgeOf wiring)) d (v * d) w d block
   unfolding writtenWord
   write-all v w block e = rw e
+
+  pub write-last : (v w : ℕ) (block : List ℕ) (j : ℕ) (so-far : List ℕ) → inside d wiring v ≡ true
+      → so-far ≡ scattered (sideBit right (edgeOf wiring)) d (v * d) w j block → j ≡ d → so-far ≡ writtenWord right wiring d v w block
+  write-last v w block j so-far e s last =
+      s ∙ ap (λ (m : ℕ). scattered (sideBit right (edgeOf wiring)) d (v * d) w m block) last ∙ sym (write-all v w block e)
 
 -- ---- an accepted wiring
 

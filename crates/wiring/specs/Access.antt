@@ -1,4 +1,5 @@
--- How the code reads, writes and tests the word of one vertex and marks the edges it has seen: none of this is needed to believe a contract of a service.
+-- How the code reads, writes and tests the word of one vertex, and marks the edges it has seen: none of this is needed to believe a
+-- contract of a service.
 --   inside d wiring v                   vertex v has all its d entries in the wiring, and d and v are in their ranges
 --   readWord right wiring d block v     the word that vertex v of a side reads; 0 where it is not inside
 --   writtenWord right wiring d v w block  the block with w put at the entries of vertex v; unchanged where it is not inside

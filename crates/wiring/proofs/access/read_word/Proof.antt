@@ -1,15 +1,13 @@
-use borrow.Author.Needs.{needs}
 -- `wiring::read_word` meets its contract: after j turns `word` holds the bits of the first j entries of the vertex.
-use mathlib.Core.Path.{_≡_, sym, ap, ap₂, _∙_}
-use Prim.Native.Nat.{ℕ, _+_, _*_, _-_, _≤_, _<_}
+use mathlib.Core.Path.{_≡_, sym}
+use Prim.Native.Nat.{_*_, _-_, _≤_, _<_}
 use native.Mathlib.Omega.{arith}
-use denote.Ref.{now}
-use Rattle.bits.specs.Bit.{bitAt}
+use borrow.Author.Needs.{needs}
 use Rattle.bits.proofs.Bytes.{bitAt-lt}
 use Rattle.wiring.specs.Wiring.{edgeOf}
 use Rattle.wiring.specs.Block.{sideBit}
 use Rattle.wiring.proofs.Permutation.{edges-le}
-use Rattle.wiring.proofs.VertexAccess.{wordSoFar, so-far-none, so-far-one-more, so-far-lt, inside-all, outside-degree, outside-vertex, outside-entries, read-outside, read-whole}
+use Rattle.wiring.proofs.VertexAccess.{wordSoFar, so-far-none, so-far-one-more, so-far-lt, inside-all, outside-degree, outside-vertex, outside-entries, read-outside, read-last}
 use Rattle.wiring.proofs.access.read_word.Statement.{statement}
 use Rattle.wiring.proofs.access.read_word.Tie as tie
 
@@ -20,14 +18,10 @@ abbrev μ-loop : tie.MeasureT-loop
 μ-loop right wiring d block v base word₀ j₀ word j = d - j
 
 returns : tie.Need-returns Inv-loop μ-loop
-returns c =
-    let args = c .before .before .before .args in
-    sym (read-outside (args .right) (now (args .wiring)) (args .d) (now (args .block)) (args .v) (outside-degree (args .d) _ _ (omega arith)))
+returns c = sym (read-outside _ _ _ _ _ (outside-degree _ _ _ (omega arith)))
 
 returns-2 : tie.Need-returns-2 Inv-loop μ-loop
-returns-2 c =
-    let args = c .before .before .before .before .args in
-    sym (read-outside (args .right) (now (args .wiring)) (args .d) (now (args .block)) (args .v) (outside-vertex _ _ (args .v) (omega arith)))
+returns-2 c = sym (read-outside _ _ _ _ _ (outside-vertex _ _ _ (omega arith)))
 
 base-le : (c : tie.Else2 Inv-loop μ-loop) → c .before .before .before .before .args .v * c .before .before .before .before .args .d ≤ 32768
 base-le c = edges-le _ _ (omega arith) (omega arith)
@@ -42,23 +36,14 @@ mul-if3 : tie.Need-mul-if3 Inv-loop μ-loop
 mul-if3 c = omega (arith, base-le c)
 
 returns-3 : tie.Need-returns-3 Inv-loop μ-loop
-returns-3 c =
-    let args = c .before .before .before .before .before .args in
-    sym (read-outside (args .right) (now (args .wiring)) (args .d) (now (args .block)) (args .v)
-    (outside-entries (args .d) (now (args .wiring)) (args .v) (omega arith)))
+returns-3 c = sym (read-outside _ _ _ _ _ (outside-entries _ _ _ (omega arith)))
 
 loop-holds : tie.Need-loop-holds Inv-loop μ-loop
 loop-holds c = (search needs, sym (so-far-none _ _ _))
 
 -- a word of at most sixteen digits
 word-lt : (c : tie.At-loop Inv-loop μ-loop) → c .loop .word < 65536
-word-lt c =
-    let args = c .before .before .before .before .before .before .args in
-    omega (
-      arith,
-      c .loop .inv .1,
-      so-far-lt (sideBit (args .right) (edgeOf (now (args .wiring)))) (now (args .block)) (args .v * args .d) (c .loop .j) (omega arith),
-    )
+word-lt c = so-far-lt _ _ _ _ _ (c .loop .inv .1) (omega arith)
 
 mul-word : tie.Need-mul-word Inv-loop μ-loop
 mul-word c = omega (arith, word-lt (c .before))
@@ -73,9 +58,7 @@ bit-requires : tie.Need-bit-requires Inv-loop μ-loop
 bit-requires c κs = search needs
 
 add-word : tie.Need-add-word Inv-loop μ-loop
-add-word c =
-    let args = c .before .before .before .before .before .before .before .before .before .args in
-    omega (arith, word-lt (c .before .before .before), c .bit .ensures, bitAt-lt (now (args .block)) (c .before .bit-of .result))
+add-word c = let small : c .bit .result < 2 = rw (c .bit .ensures) (bitAt-lt _ _) in omega (arith, word-lt (c .before .before .before))
 
 add-j : tie.Need-add-j Inv-loop μ-loop
 add-j c = search needs
@@ -84,26 +67,13 @@ loop-less : tie.Need-loop-less Inv-loop μ-loop
 loop-less c = search needs
 
 loop-again : tie.Need-loop-again Inv-loop μ-loop
-loop-again c =
-    let args = c .before .before .before .before .before .before .before .before .before .args in
-    let before = c .before .before .before .loop in
-    let bit = sideBit (args .right) (edgeOf (now (args .wiring))) in (
-      search needs,
-      ap₂ (λ (x y : ℕ). x * 2 + y) (before .inv .1) (c .bit .ensures ∙ ap (bitAt (now (args .block))) (c .before .bit-of .ensures))
-          ∙ sym (so-far-one-more bit (now (args .block)) (args .v * args .d) (before .j)),
-    )
+loop-again c = (search needs, so-far-one-more _ _ _ _ _ _ _ (c .before .before .before .loop .inv .1) (c .bit .ensures) (c .before .bit-of .ensures))
 
 cast-result : tie.Need-cast-result Inv-loop μ-loop
 cast-result c = omega (arith, word-lt (c .before))
 
 returns-4 : tie.Need-returns-4 Inv-loop μ-loop
-returns-4 c =
-    let args = c .before .before .before .before .before .before .before .args in
-    let end : c .before .loop .j ≡ args .d = omega arith in
-    c .before .loop .inv .1
-    ∙ ap (wordSoFar (sideBit (args .right) (edgeOf (now (args .wiring)))) (now (args .block)) (args .v * args .d)) end
-    ∙ sym (read-whole (args .right) (now (args .wiring)) (args .d) (now (args .block)) (args .v)
-    (inside-all (args .d) (now (args .wiring)) (args .v) (omega arith) (omega arith) (omega arith)))
+returns-4 c = read-last _ _ _ _ _ _ _ (inside-all _ _ _ (omega arith) (omega arith) (omega arith)) (c .before .loop .inv .1) (omega arith)
 
 pub read-word-spec : {M : Type 1} → statement M
 read-word-spec =

@@ -1,18 +1,16 @@
-use borrow.Author.Needs.{needs}
 -- `wiring::write_word` meets its contract: after j turns the first j digits of the word stand at the first j entries of the vertex.
-use mathlib.Core.Path.{_≡_, refl, sym, ap, ap₂, _∙_}
-use mathlib.Core.List.{List}
-use Prim.Native.Nat.{ℕ, _*_, _-_, _≤_}
+use mathlib.Core.Path.{_≡_, refl, sym, ap, _∙_}
+use Prim.Native.Nat.{_*_, _-_, _≤_}
 use native.Mathlib.Omega.{arith}
-use denote.Ref.{now}
+use borrow.Author.Needs.{needs}
 use lib.ListN.{length}
 use lib.Pow.{shr-le}
-use Rattle.bits.specs.Bit.{withBit, digit}
+use Rattle.bits.specs.Bit.{digit}
 use Rattle.wiring.specs.Wiring.{edgeOf}
 use Rattle.wiring.specs.Block.{sideBit, scattered}
-use Rattle.wiring.proofs.VertexWords.{scattered-one-more, length-scattered}
+use Rattle.wiring.proofs.VertexWords.{scattered-step, length-scattered}
 use Rattle.wiring.proofs.Permutation.{edges-le}
-use Rattle.wiring.proofs.VertexAccess.{inside-all, outside-degree, outside-vertex, outside-entries, write-outside, write-all}
+use Rattle.wiring.proofs.VertexAccess.{inside-all, outside-degree, outside-vertex, outside-entries, write-outside, write-last}
 use Rattle.wiring.proofs.access.write_word.Statement.{statement}
 use Rattle.wiring.proofs.access.write_word.Tie as tie
 
@@ -24,14 +22,10 @@ abbrev μ-loop : tie.MeasureT-loop
 μ-loop right wiring d v word block₀ base j₀ block j = d - j
 
 returns : tie.Need-returns Inv-loop μ-loop
-returns c =
-    let args = c .before .before .before .args in
-    sym (write-outside (args .right) (now (args .wiring)) (args .d) (args .v) (args .word) (now (args .block)) (outside-degree (args .d) _ _ (omega arith)))
+returns c = sym (write-outside _ _ _ _ _ _ (outside-degree _ _ _ (omega arith)))
 
 returns-2 : tie.Need-returns-2 Inv-loop μ-loop
-returns-2 c =
-    let args = c .before .before .before .before .args in
-    sym (write-outside (args .right) (now (args .wiring)) (args .d) (args .v) (args .word) (now (args .block)) (outside-vertex _ _ (args .v) (omega arith)))
+returns-2 c = sym (write-outside _ _ _ _ _ _ (outside-vertex _ _ _ (omega arith)))
 
 base-le : (c : tie.Else2 Inv-loop μ-loop) → c .before .before .before .before .args .v * c .before .before .before .before .args .d ≤ 32768
 base-le c = edges-le _ _ (omega arith) (omega arith)
@@ -46,10 +40,7 @@ mul-if3 : tie.Need-mul-if3 Inv-loop μ-loop
 mul-if3 c = omega (arith, base-le c)
 
 returns-3 : tie.Need-returns-3 Inv-loop μ-loop
-returns-3 c =
-    let args = c .before .before .before .before .before .args in
-    sym (write-outside (args .right) (now (args .wiring)) (args .d) (args .v) (args .word) (now (args .block))
-    (outside-entries (args .d) (now (args .wiring)) (args .v) (omega arith)))
+returns-3 c = sym (write-outside _ _ _ _ _ _ (outside-entries _ _ _ (omega arith)))
 
 loop-holds : tie.Need-loop-holds Inv-loop μ-loop
 unfolding scattered
@@ -89,31 +80,17 @@ loop-less c = search needs
 
 loop-again : tie.Need-loop-again Inv-loop μ-loop
 unfolding digit
-loop-again c =
-    let args = c .before .before .before .before .before .before .before .before .before .before .before .before .args in
-    let before = c .before .before .before .before .before .before .loop in
-    let bit = sideBit (args .right) (edgeOf (now (args .wiring))) in
-    let place = args .v * args .d in (
-      search needs,
-      c .before .before .put-bit .ensures
-          ∙ ap₂ (λ (l : List ℕ) (i : ℕ). withBit l i (digit (args .word) (args .d - 1 - before .j))) (before .inv .1) (c .before .before .before .bit-of .ensures)
-          ∙ sym (scattered-one-more bit (args .d) place (args .word) (before .j) (now (args .block))),
-    )
+loop-again c = (
+  search needs,
+  scattered-step _ _ _ _ _ _ _ _ _ (c .before .before .before .before .before .before .loop .inv .1) (c .before .before .before .bit-of .ensures)
+      (c .before .before .put-bit .ensures),
+)
 
 same-length : tie.Need-same-length Inv-loop μ-loop
-same-length c =
-    let args = c .before .before .before .before .before .before .before .args in
-    ap length (c .before .loop .inv .1)
-    ∙ length-scattered (sideBit (args .right) (edgeOf (now (args .wiring)))) (args .d) (args .v * args .d) (args .word) (c .before .loop .j) (now (args .block))
+same-length c = ap length (c .before .loop .inv .1) ∙ length-scattered _ _ _ _ _ _
 
 returns-4 : tie.Need-returns-4 Inv-loop μ-loop
-returns-4 c =
-    let args = c .before .before .before .before .before .before .before .args in
-    let end : c .before .loop .j ≡ args .d = omega arith in
-    c .before .loop .inv .1
-    ∙ ap (λ (m : ℕ). scattered (sideBit (args .right) (edgeOf (now (args .wiring)))) (args .d) (args .v * args .d) (args .word) m (now (args .block))) end
-    ∙ sym (write-all (args .right) (now (args .wiring)) (args .d) (args .v) (args .word) (now (args .block))
-    (inside-all (args .d) (now (args .wiring)) (args .v) (omega arith) (omega arith) (omega arith)))
+returns-4 c = write-last _ _ _ _ _ _ _ _ (inside-all _ _ _ (omega arith) (omega arith) (omega arith)) (c .before .loop .inv .1) (omega arith)
 
 pub write-word-spec : {M : Type 1} → statement M
 write-word-spec =

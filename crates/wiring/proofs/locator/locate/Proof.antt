@@ -1,13 +1,13 @@
 -- `wiring::locate` meets its contract: each return is the outcome of the first of plan and block that refuses, and by an accepted plan's
 -- basis the search finds the definition's vertex.
 use mathlib.Core.Path.{sym, ap, _∙_}
-use native.Mathlib.Omega.{arith}
 use Prim.Native.Nat.{ℕ, _*_}
+use native.Mathlib.Omega.{arith}
+use borrow.Author.Needs.{needs}
 use denote.Ref.{now}
 use Rattle.wiring.specs.Answer.{checkReply}
 use Rattle.wiring.proofs.Plans.{PlanAccepted, plan-accepted, plan-refused}
 use Rattle.wiring.proofs.Locating.{answer-plan-refused, answer-block-refused, answer-located}
-use borrow.Author.Needs.{needs}
 use Rattle.wiring.proofs.locator.locate.Statement.{statement}
 use Rattle.wiring.proofs.locator.locate.Tie as tie
 
@@ -45,20 +45,17 @@ search-requires c κs = search needs
 
 returns : tie.Need-returns
 returns c =
-    let args = c .before .before .before .before .before .before .before .args in
-    sym (answer-plan-refused (now (args .sheet)) (args .n) (now (args .wiring)) (now (args .block)) _ _
+    sym (answer-plan-refused _ _ _ _ _ _
     (plan-refused _ _ _ _ _ (c .before .before .before .check-plan .ensures) (c .before .values .given .1)))
 
 returns-2 : tie.Need-returns-2
 returns-2 c =
-    let args = c .before .before .before .before .before .before .before .before .before .before .before .args in
-    sym (answer-block-refused (now (args .sheet)) (args .n) (now (args .wiring)) (now (args .block)) _ _ _ (plan (c .before .before .before .before)) _ _
+    sym (answer-block-refused _ _ _ _ _ _ _ (plan (c .before .before .before .before)) _ _
     (sym (c .before .before .before .check-block .ensures) ∙ ap checkReply (c .before .r .given .1)))
 
 returns-3 : tie.Need-returns-3
 returns-3 c =
-    let args = c .before .before .before .before .before .before .before .before .before .before .before .before .before .args in
-    answer-located (now (args .sheet)) (args .n) (now (args .wiring)) (now (args .block)) _ _ _ (plan (c .before .before .before .before .before .before))
+    answer-located _ _ _ _ _ _ _ (plan (c .before .before .before .before .before .before))
     (sym (c .before .before .before .before .before .check-block .ensures) ∙ ap checkReply (c .before .before .before .enum-told .given .1)) _
     (c .search .ensures)
 

@@ -1,14 +1,13 @@
-use borrow.Author.Needs.{needs}
 -- `wiring::search` meets its contract: within a side all vertices before v pass the test, and on the right side all of the left did.
 use mathlib.Core.Path.{_≡_, sym, ap, ap₂, _∙_}
 use mathlib.Core.Bool.{Bool, true, false, cond, false≢true}
 use mathlib.Core.List.{List}
 use Prim.Native.Nat.{ℕ, _-_, _≤_}
 use native.Mathlib.Omega.{arith}
-use denote.Ref.{now}
+use borrow.Author.Needs.{needs}
 use Rattle.inner_code.specs.Reply.{done}
 use Rattle.wiring.specs.Access.{unsatisfiedBy}
-use Rattle.wiring.proofs.Locating.{tested-passed, tested-failed, by-none, by-one-more, by-found, located-found, located-nowhere}
+use Rattle.wiring.proofs.Locating.{by-none, by-one-more, by-found, located-found, located-nowhere}
 use Rattle.wiring.proofs.locator.search.Statement.{statement}
 use Rattle.wiring.proofs.locator.search.Tie as tie
 
@@ -34,9 +33,7 @@ search-holds : tie.Need-search-holds Inv-loop μ-loop Inv-search μ-search
 search-holds c = λ e. absurd (false≢true e)
 
 loop-holds : tie.Need-loop-holds Inv-loop μ-loop Inv-search μ-search
-loop-holds c =
-    let args = c .before .before .before .args in
-    (search needs, by-none (now (args .basis)) (args .k) (c .search .right) (now (args .wiring)) (args .d) (now (args .block)))
+loop-holds c = (search needs, by-none _ _ _ _ _ _)
 
 read-word-requires : tie.Need-read-word-requires Inv-loop μ-loop Inv-search μ-search
 read-word-requires c κs = search needs
@@ -51,49 +48,34 @@ loop-less : tie.Need-loop-less Inv-loop μ-loop Inv-search μ-search
 loop-less c = search needs
 
 loop-again : tie.Need-loop-again Inv-loop μ-loop Inv-search μ-search
-loop-again c =
-    let args = c .before .before .before .before .before .before .before .before .args in
-    let right = c .before .before .before .before .before .search .right in
-    let before = c .before .before .before .before .loop in (
-      search needs,
-      by-one-more (now (args .basis)) (args .k) right (now (args .wiring)) (args .d) (now (args .block)) (before .v) (before .inv .1)
-          (tested-passed (now (args .basis)) (args .k) right (now (args .wiring)) (args .d) (now (args .block)) (before .v)
-          (c .before .before .read-word .result) (c .before .residue .result) (c .before .before .read-word .ensures) (c .before .residue .ensures) (c .if1 .left)),
-    )
+loop-again c = (
+  search needs,
+  by-one-more _ _ _ _ _ _ _ _ _ (c .before .before .before .before .loop .inv .1) (c .before .before .read-word .ensures) (c .before .residue .ensures)
+      (c .if1 .left),
+)
 
 search-less : tie.Need-search-less Inv-loop μ-loop Inv-search μ-search
 search-less c = rw (c .if2 .left) (omega arith)
 
 search-again : tie.Need-search-again Inv-loop μ-loop Inv-search μ-search
-search-again c = λ e.
-    let args = c .before .before .before .before .before .before .args in
-    let end : c .before .before .loop .v ≡ args .n = omega arith in
-    side-passed (now (args .basis)) (args .k) (args .d) (args .n) (now (args .wiring)) (now (args .block)) (c .before .before .before .search .right) false
-    (c .before .before .loop .v) (c .if2 .left) end (c .before .before .loop .inv .1)
+search-again c = λ e. side-passed _ _ _ _ _ _ _ _ _ (c .if2 .left) (omega arith) (c .before .before .loop .inv .1)
 
 returns : tie.Need-returns Inv-loop μ-loop Inv-search μ-search
 returns c =
-    let args = c .before .before .before .before .before .before .before .before .args in
     let side = c .before .before .before .before .before .search in
     let before = c .before .before .before .before .loop in
     ap done
     (sym
-    (located-found (now (args .basis)) (args .k) (args .d) (args .n) (now (args .wiring)) (now (args .block)) (side .right) (before .v) (side .inv)
-    (by-found (now (args .basis)) (args .k) (side .right) (now (args .wiring)) (args .d) (now (args .block)) (before .v) (args .n) (omega arith) (before .inv .1)
-    (tested-failed (now (args .basis)) (args .k) (side .right) (now (args .wiring)) (args .d) (now (args .block)) (before .v)
-    (c .before .before .read-word .result) (c .before .residue .result) (c .before .before .read-word .ensures) (c .before .residue .ensures) (c .if1 .taken)))
+    (located-found _ _ _ _ _ _ (side .right) (before .v) (side .inv)
+    (by-found _ _ _ _ _ _ _ _ _ _ (omega arith) (before .inv .1) (c .before .before .read-word .ensures) (c .before .residue .ensures) (c .if1 .taken))
     (omega arith)))
 
 returns-2 : tie.Need-returns-2 Inv-loop μ-loop Inv-search μ-search
 returns-2 c =
-    let args = c .before .before .before .before .before .before .args in
-    let side = c .before .before .before .search in
-    let end : c .before .before .loop .v ≡ args .n = omega arith in
     ap done
     (sym
-    (located-nowhere (now (args .basis)) (args .k) (args .d) (args .n) (now (args .wiring)) (now (args .block)) (side .inv (c .if2 .taken))
-    (side-passed (now (args .basis)) (args .k) (args .d) (args .n) (now (args .wiring)) (now (args .block)) (side .right) true
-    (c .before .before .loop .v) (c .if2 .taken) end (c .before .before .loop .inv .1))))
+    (located-nowhere _ _ _ _ _ _ (c .before .before .before .search .inv (c .if2 .taken))
+    (side-passed _ _ _ _ _ _ _ _ _ (c .if2 .taken) (omega arith) (c .before .before .loop .inv .1))))
 
 pub search-spec : {M : Type 1} → statement M
 search-spec =

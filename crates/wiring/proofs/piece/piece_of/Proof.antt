@@ -2,11 +2,11 @@
 use mathlib.Core.Path.{refl, sym, ap}
 use Prim.Native.Nat.{ℕ, _+_, _*_, _≤_}
 use native.Mathlib.Omega.{arith}
+use borrow.Author.Needs.{needs}
 use denote.Ref.{now}
 use lib.ListN.{length}
 use Rattle.wiring.proofs.Permutation.{wired-fits}
 use Rattle.wiring.proofs.Plans.{PlanAccepted, plan-accepted, plan-refused, piece-refused, piece-past, piece-part}
-use borrow.Author.Needs.{needs}
 use Rattle.wiring.proofs.piece.piece_of.Statement.{statement}
 use Rattle.wiring.proofs.piece.piece_of.Tie as tie
 
@@ -66,9 +66,8 @@ part-result-end-2 c = end-le c
 
 returns : tie.Need-returns
 returns c =
-    let args = c .before .before .before .before .before .before .before .before .args in
     let p = plan (c .before .before) in
-    piece-part (now (args .sheet)) (args .n) (now (args .wiring)) (args .v) _ _ _ (p .plan-done) (c .before .if1 .taken) (p .d-is) refl refl
+    piece-part _ _ _ _ _ _ _ (p .plan-done) (c .before .if1 .taken) (p .d-is) refl refl
 
 sub-result-3 : tie.Need-sub-result-3
 sub-result-3 c = search needs
@@ -81,14 +80,12 @@ part-result-end-3 c = search needs
 
 returns-2 : tie.Need-returns-2
 returns-2 c =
-    let args = c .before .before .before .before .before .before .args in
-    sym (piece-refused (now (args .sheet)) (args .n) (now (args .wiring)) (args .v) _ _
+    sym (piece-refused _ _ _ _ _ _
     (plan-refused _ _ _ _ _ (c .before .before .before .check-plan .ensures) (c .before .enum-told .given .1)))
 
 returns-3 : tie.Need-returns-3
 returns-3 c =
-    let args = c .before .before .before .before .before .before .before .before .args in
-    sym (piece-past (now (args .sheet)) (args .n) (now (args .wiring)) (args .v) (plan (c .before .before) .plan-done) (c .before .if1 .left))
+    sym (piece-past _ _ _ _ (plan (c .before .before) .plan-done) (c .before .if1 .left))
 
 pub piece-of-spec : {M : Type 1} → statement M
 piece-of-spec =

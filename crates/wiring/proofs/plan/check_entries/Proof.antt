@@ -1,16 +1,16 @@
-use borrow.Author.Needs.{needs}
 -- `wiring::check_entries` meets its contract: after i turns the first i entries have passed, and `seen` has a bit for each of their edges.
 use mathlib.Core.Path.{_≡_, refl, sym, ap, _∙_}
-use mathlib.Core.List.{List, []}
-use Prim.Native.Nat.{ℕ, _+_, _*_, _-_, _≤_}
+use mathlib.Core.List.{[]}
+use Prim.Native.Nat.{_+_, _*_, _-_, _≤_}
 use native.Mathlib.Omega.{arith}
+use borrow.Author.Needs.{needs}
 use denote.Ref.{now}
-use Rattle.bits.specs.Bit.{pairAt, bitAt, withBit}
+use Rattle.bits.specs.Bit.{pairAt}
 use Rattle.inner_code.specs.Reply.{done}
 use Rattle.wiring.specs.Wiring.{edgeOf, entriesCheck}
 use Rattle.wiring.specs.Access.{noneSeen, seenAfter}
 use Rattle.wiring.proofs.Permutation.{entries-refused, entries-one-more}
-use Rattle.wiring.proofs.SeenBits.{mask-clear, mask-clear-back, mask-store, entry-high, entry-seen, entry-fresh, seen-one-more}
+use Rattle.wiring.proofs.SeenBits.{entry-high, entry-seen, entry-fresh, seen-stored}
 use Rattle.wiring.proofs.plan.check_entries.Statement.{statement}
 use Rattle.wiring.proofs.plan.check_entries.Tie as tie
 
@@ -79,9 +79,7 @@ returns-2 c =
     let before = c .before .before .before .before .before .loop in
     let edge = edgeOf (now (args .wiring)) in
     sym (entries-refused (args .edges) edge (args .edges) (before .i) 10 (before .i) (before .inv .1)
-    (entry-seen (args .edges) edge (before .i) (c .before .if1 .left) (omega arith)
-    (λ z. c .if2 .taken (mask-clear (before .seen) (edge (before .i)) (ap (λ (l : List ℕ). bitAt l (edge (before .i))) (before .inv .2) ∙ z))))
-    (omega arith))
+    (entry-seen (args .edges) edge (before .i) (before .seen) (before .inv .2) (c .before .if1 .left) (omega arith) (c .if2 .taken)) (omega arith))
 
 array-write-seen : tie.Need-array-write-seen Inv-loop μ-loop
 array-write-seen c = search needs
@@ -97,15 +95,11 @@ unfolding edgeOf pairAt
 loop-again c =
     let args = c .before .before .before .before .before .before .args in
     let before = c .before .before .before .before .before .loop in
-    let edge = edgeOf (now (args .wiring)) in
-    let clear = mask-clear-back (before .seen) (edge (before .i)) (c .if2 .left) in (
+    let edge = edgeOf (now (args .wiring)) in (
       omega arith,
       entries-one-more (args .edges) edge (before .i) (before .inv .1)
-          (entry-fresh (args .edges) edge (before .i) (c .before .if1 .left) (omega arith)
-          (ap (λ (l : List ℕ). bitAt l (edge (before .i))) (sym (before .inv .2)) ∙ clear)),
-      mask-store (before .seen) (edge (before .i)) clear
-          ∙ ap (λ (l : List ℕ). withBit l (edge (before .i)) 1) (before .inv .2)
-          ∙ sym (seen-one-more edge (before .i) noneSeen),
+          (entry-fresh (args .edges) edge (before .i) (before .seen) (before .inv .2) (c .before .if1 .left) (omega arith) (c .if2 .left)),
+      seen-stored (args .edges) edge (before .i) (before .seen) (before .inv .2) (c .before .if1 .left) (omega arith) (c .if2 .left),
     )
 
 returns-3 : tie.Need-returns-3 Inv-loop μ-loop

@@ -1,11 +1,10 @@
 -- `wiring::check_plan` meets its contract: each return is the outcome of the first of sheet and wiring that refuses.
 use mathlib.Core.Path.{sym, ap, _∙_}
 use native.Mathlib.Omega.{arith}
-use denote.Ref.{now}
+use borrow.Author.Needs.{needs}
 use Rattle.inner_code.proofs.SheetChecks.{accepted}
 use Rattle.wiring.specs.Answer.{checkReply}
 use Rattle.wiring.proofs.Plans.{checked-sheet-refused, checked-wiring-refused, checked-accepted}
-use borrow.Author.Needs.{needs}
 use Rattle.wiring.proofs.plan.check_plan.Statement.{statement}
 use Rattle.wiring.proofs.plan.check_plan.Tie as tie
 
@@ -30,22 +29,18 @@ enum-known-r : tie.Need-enum-known-r
 enum-known-r c = search needs
 
 returns : tie.Need-returns
-returns c =
-    let args = c .before .before .before .before .before .before .args in
-    checked-sheet-refused (now (args .sheet)) (args .n) (now (args .wiring)) _ _ (c .before .before .before .check-sheet .ensures) (c .before .values .given .1)
+returns c = checked-sheet-refused _ _ _ _ _ (c .before .before .before .check-sheet .ensures) (c .before .values .given .1)
 
 returns-2 : tie.Need-returns-2
 returns-2 c =
-    let args = c .before .before .before .before .before .before .before .before .before .args in
-    checked-accepted (now (args .sheet)) (args .n) (now (args .wiring)) _ _ _
+    checked-accepted _ _ _ _ _ _
     (c .before .before .before .before .before .before .check-sheet .ensures)
     (c .before .before .before .before .values2 .given .1)
     (sym (c .before .before .check-wiring .ensures) ∙ ap checkReply (c .enum-told .given .1))
 
 returns-3 : tie.Need-returns-3
 returns-3 c =
-    let args = c .before .before .before .before .before .before .before .before .before .before .args in
-    checked-wiring-refused (now (args .sheet)) (args .n) (now (args .wiring)) _ _ _
+    checked-wiring-refused _ _ _ _ _ _
     (c .before .before .before .before .before .before .before .check-sheet .ensures)
     (c .before .before .before .before .before .values2 .given .1) _
     (sym (c .before .before .before .check-wiring .ensures) ∙ ap checkReply (c .before .r .given .1))

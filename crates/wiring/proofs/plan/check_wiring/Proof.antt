@@ -2,20 +2,15 @@
 use mathlib.Core.Path.{sym, _∙_}
 use Prim.Native.Nat.{_*_, _≤_}
 use native.Mathlib.Omega.{arith}
-use denote.Ref.{now}
 use Rattle.wiring.proofs.Permutation.{edges-le, wiring-few, wiring-many, wiring-unsized, wiring-entries}
 use Rattle.wiring.proofs.plan.check_wiring.Statement.{statement}
 use Rattle.wiring.proofs.plan.check_wiring.Tie as tie
 
 returns : tie.Need-returns
-returns c =
-    let args = c .before .before .args in
-    sym (wiring-few (args .d) (args .n) (now (args .wiring)) (omega arith))
+returns c = sym (wiring-few _ _ _ (omega arith))
 
 returns-2 : tie.Need-returns-2
-returns-2 c =
-    let args = c .before .before .before .args in
-    sym (wiring-many (args .d) (args .n) (now (args .wiring)) (omega arith))
+returns-2 c = sym (wiring-many _ _ _ (omega arith))
 
 fits : (c : tie.Else2) → c .before .before .before .args .n * c .before .before .before .args .d ≤ 32768
 fits c = edges-le _ _ (omega arith) (omega arith)
@@ -27,17 +22,13 @@ mul-if3 : tie.Need-mul-if3
 mul-if3 c = omega (arith, fits c)
 
 returns-3 : tie.Need-returns-3
-returns-3 c =
-    let args = c .before .before .before .before .args in
-    sym (wiring-unsized (args .d) (args .n) (now (args .wiring)) (omega arith) (omega arith) (c .if3 .taken))
+returns-3 c = sym (wiring-unsized _ _ _ (omega arith) (omega arith) (c .if3 .taken))
 
 check-entries-requires : tie.Need-check-entries-requires
 check-entries-requires c κs = omega (arith, fits (c .before))
 
 returns-4 : tie.Need-returns-4
-returns-4 c =
-    let args = c .before .before .before .before .before .args in
-    c .check-entries .ensures ∙ sym (wiring-entries (args .d) (args .n) (now (args .wiring)) (omega arith) (omega arith) (omega arith))
+returns-4 c = c .check-entries .ensures ∙ sym (wiring-entries _ _ _ (omega arith) (omega arith) (omega arith))
 
 pub check-wiring-spec : {M : Type 1} → statement M
 check-wiring-spec =
