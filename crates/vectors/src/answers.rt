@@ -1,7 +1,10 @@
 // One call of a service, with its line.
 use crate::input;
 use crate::output;
+use decoder::Reported;
 use inner_code::Nearest;
+use radius::Margin;
+use radius::Spread;
 use wiring::Located;
 
 // Reads the fields of a record and writes what the service answers.
@@ -35,12 +38,12 @@ fn on_plan(service: u8, sheet: &[u8], n: usize, wiring: &[u8]) {
         return;
     }
     if service == 6 {
-        output::text(b"absent");
+        spread(sheet, n, wiring);
         return;
     }
     if service == 7 {
-        input::number();
-        output::text(b"absent");
+        let flips = input::number();
+        margin(sheet, n, wiring, flips);
         return;
     }
     let mut block_space = [0u8; 70000];
@@ -55,12 +58,13 @@ fn on_block(service: u8, sheet: &[u8], n: usize, wiring: &[u8], block: &[u8]) {
         return;
     }
     let mut space = [0u8; 70000];
-    input::bytes(&mut space);
+    let second = input::bytes(&mut space);
+    if service == 5 {
+        report(sheet, n, wiring, block, &space[..second]);
+        return;
+    }
     if service == 4 {
         input::number();
-    }
-    if service == 5 {
-        input::bytes(&mut space);
     }
     output::text(b"absent");
 }
@@ -91,6 +95,57 @@ fn locate(sheet: &[u8], n: usize, wiring: &[u8], block: &[u8]) {
             output::number(vertex as u64);
         }
         Located::Refused(r) => {
+            output::refused(r.number, r.place);
+        }
+    }
+}
+
+fn report(sheet: &[u8], n: usize, wiring: &[u8], received: &[u8], settled: &[u8]) {
+    let mut space = [0u8; 70000];
+    let list = input::bytes(&mut space);
+    report_into(sheet, n, wiring, received, settled, &mut space[..list]);
+}
+
+fn report_into(
+    sheet: &[u8],
+    n: usize,
+    wiring: &[u8],
+    received: &[u8],
+    settled: &[u8],
+    list: &mut [u8],
+) {
+    match decoder::report_runs(sheet, n, wiring, received, settled, list) {
+        Reported::Pairs(pairs) => {
+            output::text(b"ok ");
+            output::number(pairs as u64);
+        }
+        Reported::Refused(r) => {
+            output::refused(r.number, r.place);
+        }
+    }
+    output::text(b" ");
+    output::bytes(list);
+}
+
+fn spread(sheet: &[u8], n: usize, wiring: &[u8]) {
+    match radius::plan_spread(sheet, n, wiring) {
+        Spread::Value(value) => {
+            output::text(b"ok ");
+            output::number(value);
+        }
+        Spread::Refused(r) => {
+            output::refused(r.number, r.place);
+        }
+    }
+}
+
+fn margin(sheet: &[u8], n: usize, wiring: &[u8], flips: u64) {
+    match radius::margin_sweeps(sheet, n, wiring, flips) {
+        Margin::Sweeps(sweeps) => {
+            output::text(b"ok ");
+            output::number(sweeps);
+        }
+        Margin::Refused(r) => {
             output::refused(r.number, r.place);
         }
     }

@@ -1,0 +1,4 @@
+pub mod Sweeping
+pub mod Settling
+pub mod Runs
+pub mod Reporting

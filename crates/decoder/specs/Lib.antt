@@ -1,0 +1,5 @@
+pub mod Sweep
+pub mod Decode
+pub mod Report
+pub mod ReportAnswer
+pub mod Agreement

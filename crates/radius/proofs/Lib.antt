@@ -1,0 +1,12 @@
+pub mod PairBound
+pub mod MarginChain
+pub mod Graph
+pub mod Convergence
+pub mod Restoring
+pub mod Answers
+pub mod Guarantee
+pub mod PlanRanges
+pub mod ChainWalk
+pub mod MarginInputs
+pub mod Walks
+pub mod PlanNumbers

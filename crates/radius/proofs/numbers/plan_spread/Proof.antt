@@ -1,0 +1,48 @@
+-- `radius::plan_spread` meets its contract: a refusal of the plan's check is handed on, and of an accepted plan the measure gives the
+-- spread.
+use mathlib.Core.Path.{sym}
+use borrow.Author.Needs.{needs}
+use denote.Ref.{now}
+use Rattle.wiring.proofs.Plans.{PlanAccepted, plan-accepted, plan-refused}
+use Rattle.radius.proofs.Answers.{spread-refused}
+use Rattle.radius.proofs.PlanNumbers.{plan-wires, spread-answered}
+use Rattle.radius.proofs.numbers.plan_spread.Statement.{statement}
+use Rattle.radius.proofs.numbers.plan_spread.Tie as tie
+
+check-plan-requires : tie.Need-check-plan-requires
+check-plan-requires c κs = search needs
+
+enum-known-values : tie.Need-enum-known-values
+enum-known-values c = search needs
+
+enum-known-values-2 : tie.Need-enum-known-values-2
+enum-known-values-2 c = search needs
+
+plan : (c : tie.After-known-told2)
+    → PlanAccepted (now (c .before .before .before .before .before .before .args .sheet)) (c .before .before .before .before .before .before .args .n)
+    (now (c .before .before .before .before .before .before .args .wiring)) (c .before .before .before .check-plan .result)
+    (c .before .values2 .given .0 .0) (c .before .values2 .given .0 .1 .0)
+plan c = plan-accepted _ _ _ _ _ _ (c .before .before .before .check-plan .ensures) (c .before .values2 .given .1)
+
+measured-spread-requires : tie.Need-measured-spread-requires
+measured-spread-requires c κs = plan-wires _ _ _ _ _ _ (plan c)
+
+returns : tie.Need-returns
+returns c =
+    let args = c .before .before .before .before .before .before .args in
+    sym (spread-refused (now (args .sheet)) (args .n) (now (args .wiring)) _ _
+    (plan-refused _ _ _ _ _ (c .before .before .before .check-plan .ensures) (c .before .values .given .1)))
+
+returns-2 : tie.Need-returns-2
+returns-2 c = spread-answered _ _ _ _ _ _ (plan (c .before)) _ (c .measured-spread .ensures)
+
+pub plan-spread-spec : {M : Type 1} → statement M
+plan-spread-spec =
+    tie.close
+    (tie.spec
+    check-plan-requires
+    enum-known-values
+    enum-known-values-2
+    measured-spread-requires
+    returns
+    returns-2)

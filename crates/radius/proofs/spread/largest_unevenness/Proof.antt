@@ -1,0 +1,100 @@
+-- `radius::largest_unevenness` meets its contract: each turn's counts are those of the walk of u alone, so that its sum is the one of u,
+-- and after u turns `largest` is the largest of the first u sums.
+use mathlib.Core.Path.{_≡_, refl, sym, ap, _∙_}
+use mathlib.Core.Logic.{⊎-elim}
+use Prim.Native.Nat.{_-_, _≤_}
+use borrow.Author.Needs.{needs}
+use native.Mathlib.Omega.{arith}
+use denote.Ref.{now}
+use lib.ListN.{length}
+use Rattle.bits.specs.Bit.{at}
+use Rattle.radius.specs.Walk.{largestWalked}
+use Rattle.radius.proofs.Walks.{walked-even, walked-uneven, largest-none, largest-raised, largest-kept}
+use Rattle.radius.proofs.spread.largest_unevenness.Statement.{statement}
+use Rattle.radius.proofs.spread.largest_unevenness.Tie as tie
+
+abbrev Inv-loop : tie.InvT-loop
+Inv-loop lefts rights n d counts₀ largest₀ u₀ counts largest u =
+    (u ≤ n) × (length counts ≡ 2048) × (largest ≡ largestWalked (at lefts) (at rights) n d u)
+
+abbrev μ-loop : tie.MeasureT-loop
+μ-loop lefts rights n d counts₀ largest₀ u₀ counts largest u = n - u
+
+loop-holds : tie.Need-loop-holds Inv-loop μ-loop
+loop-holds c =
+    let args = c .before .before .args in
+    (search needs, refl, sym (largest-none (at (now (args .lefts))) (at (now (args .rights))) (args .n) (args .d)))
+
+slice-aggregate-clear : tie.Need-slice-aggregate-clear Inv-loop μ-loop
+slice-aggregate-clear c = search needs
+
+clear-requires : tie.Need-clear-requires Inv-loop μ-loop
+clear-requires c κs = search needs
+
+slice-aggregate-walk : tie.Need-slice-aggregate-walk Inv-loop μ-loop
+slice-aggregate-walk c = search needs
+
+walk-requires : tie.Need-walk-requires Inv-loop μ-loop
+walk-requires c κs = search needs
+
+-- the calls keep the length of the counts
+sized : (c : tie.After-walk Inv-loop μ-loop) → length (c .walk .last .1 .1 .1 .1 .1 .0) ≡ 2048
+sized c =
+    c .walk .kept .1 .1 .1 .1 .1 .0 ∙ c .before .before .before .clear .kept .0 ∙ c .before .before .before .before .before .before .loop .inv .1
+
+slice-aggregate-unevenness-of : tie.Need-slice-aggregate-unevenness-of Inv-loop μ-loop
+slice-aggregate-unevenness-of c = search needs
+
+unevenness-of-requires : tie.Need-unevenness-of-requires Inv-loop μ-loop
+unevenness-of-requires c κs =
+    let start = c .before .before .before .before .before .before .before .before .before .before .before in
+    let args = start .args in
+    let after = c .before .before in
+    walked-even (now (args .lefts)) (now (args .rights)) (args .n) (args .d) (start .pre) (c .before .before .before .before .before .before .before .before .loop .u)
+    (after .walk .last .1 .1 .1 .1 .1 .0) (omega (arith, sized after, start .pre .n-high)) (after .walk .ensures)
+
+add-u : tie.Need-add-u Inv-loop μ-loop
+add-u c = search needs
+
+loop-less : tie.Need-loop-less Inv-loop μ-loop
+loop-less c = search needs
+
+loop-again : tie.Need-loop-again Inv-loop μ-loop
+loop-again c =
+    let args = c .before .before .before .before .before .before .before .before .before .before .before .before .before .args in
+    let before = c .before .before .before .before .before .before .before .before .before .before .loop in
+    let after = c .before .before .before .before in
+    let left = at (now (args .lefts)) in
+    let right = at (now (args .rights)) in
+    let sum-is =
+    c .before .unevenness-of .ensures
+    ∙ walked-uneven (now (args .lefts)) (now (args .rights)) (args .n) (args .d) (before .u) (after .walk .last .1 .1 .1 .1 .1 .0) (after .walk .ensures) in (
+      search needs,
+      sized after,
+      ⊎-elim (λ w. w .1 ∙ largest-raised left right (args .n) (args .d) (before .u) (before .largest) _ (before .inv .2) sum-is (w .0 .taken))
+          (λ w. w .1 ∙ largest-kept left right (args .n) (args .d) (before .u) (before .largest) _ (before .inv .2) sum-is (w .0 .left)) (c .if1 .came),
+    )
+
+returns : tie.Need-returns Inv-loop μ-loop
+returns c =
+    let args = c .before .before .before .before .args in
+    let end : c .before .loop .u ≡ args .n = omega arith in
+    c .before .loop .inv .2 ∙ ap (largestWalked (at (now (args .lefts))) (at (now (args .rights))) (args .n) (args .d)) end
+
+pub largest-unevenness-spec : {M : Type 1} → statement M
+largest-unevenness-spec =
+    tie.close
+    (tie.spec
+    Inv-loop
+    μ-loop
+    loop-holds
+    slice-aggregate-clear
+    clear-requires
+    slice-aggregate-walk
+    walk-requires
+    slice-aggregate-unevenness-of
+    unevenness-of-requires
+    add-u
+    loop-less
+    loop-again
+    returns)

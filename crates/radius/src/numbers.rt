@@ -1,0 +1,66 @@
+// A plan's numbers: n and the sheet's d and k with what is measured of them, the inner distance D and the spread R.
+use crate::spread::measured_spread;
+use inner_code::Refusal;
+use inner_code::Sheet;
+use wiring::check_plan;
+ghost use mathlib.Core.Path.{_≡_};
+ghost use Prim.Native.Nat.{min};
+ghost use Rattle.inner_code.specs.Code.{distance};
+ghost use Rattle.inner_code.specs.Sheet.{rowOf};
+ghost use Rattle.radius.specs.Answer.{spreadAnswer};
+ghost use Rattle.radius.specs.PlanAnswer.{numbersAnswer, numbersReply, spreadReply};
+
+// The spread of a plan, or the refusal.
+pub enum Spread {
+    Value(u64),
+    Refused(Refusal),
+}
+
+// An accepted plan's numbers, or the refusal.
+pub enum Numbers {
+    Plan {
+        d: u64,
+        k: u64,
+        distance: u64,
+        spread: u64,
+    },
+    Refused(Refusal),
+}
+
+// Checks a plan and answers its d and k, the inner distance of its sheet and the spread of its wiring. Refusals 1 to 10.
+pub fn plan_numbers(sheet: &[u8], n: usize, wiring: &[u8]) -> Numbers
+    ensures { λ r. ⌜ numbersReply r ≡ numbersAnswer (now (sheet .entry)) n (now (wiring .entry)) ⌝ }
+{
+    let checked = check_plan(sheet, n, wiring);
+    let values = checked.sheet;
+    match values {
+        Sheet::Refused(r) => Numbers::Refused(r),
+        Sheet::Accepted { d, k } => Numbers::Plan {
+            d: d as u64,
+            k: k as u64,
+            distance: measured_distance(sheet, k),
+            spread: measured_spread(wiring, n, d),
+        },
+    }
+}
+
+// The spread of a plan's wiring, how unevenly the edges of its left vertices meet. Refusals 1 to 10.
+pub fn plan_spread(sheet: &[u8], n: usize, wiring: &[u8]) -> Spread
+    ensures { λ r. ⌜ spreadReply r ≡ spreadAnswer (now (sheet .entry)) n (now (wiring .entry)) ⌝ }
+{
+    let checked = check_plan(sheet, n, wiring);
+    let values = checked.sheet;
+    match values {
+        Sheet::Refused(r) => Spread::Refused(r),
+        Sheet::Accepted { d, k: _ } => Spread::Value(measured_spread(wiring, n, d)),
+    }
+}
+
+// The inner distance of the code that the sheet's first k rows make; a k above 11 counts as 11.
+fn measured_distance(sheet: &[u8], k: usize) -> u64
+    ensures { λ r. ⌜ r ≡ distance (rowOf (now (sheet .entry))) (min k 11) ⌝ }
+{
+    let mut words = [0u16; 2048];
+    let count = inner_code::list_codewords(sheet, k, &mut words);
+    inner_code::distance(&words[0..count]) as u64
+}

@@ -1,0 +1,119 @@
+// The spread, measured from the wiring's own entries: for each left vertex the walk goes over its edges, and then over the edges of
+// each right vertex met, and counts where it ends.
+ghost use mathlib.Core.Path.{_≡_};
+ghost use Prim.Native.Nat.{_*_, _≤_, _<_};
+ghost use lib.ListN.{length};
+ghost use Rattle.bits.specs.Bit.{at};
+ghost use Rattle.wiring.specs.Wiring.{edgeOf};
+ghost use Rattle.radius.specs.Spread.{spread};
+ghost use Rattle.radius.specs.Walk.{Wires, Noted, Ends, arrivals, Countable, Counted, Fresh, Walked, Even, unevenBy, largestWalked};
+
+// The spread R of an accepted wiring.
+pub fn measured_spread(wiring: &[u8], n: usize, d: usize) -> u64
+    requires { ⌜ Wires d n (now wiring) ⌝ }
+    ensures { λ r. ⌜ r ≡ spread (edgeOf (now (wiring .entry))) n d ⌝ }
+{
+    let mut lefts = [0u16; 32768];
+    let mut rights = [0u16; 32768];
+    note_vertices(wiring, n, d, &mut lefts, &mut rights);
+    largest_unevenness(&lefts, &rights, n, d)
+}
+
+// For each entry its edge's left vertex, and for each edge its right vertex.
+fn note_vertices(wiring: &[u8], n: usize, d: usize, lefts: &mut [u16], rights: &mut [u16])
+    requires { ⌜ Wires d n (now wiring) ⌝ }
+    requires { ⌜ n * d ≤ length (now lefts) ⌝ }
+    requires { ⌜ n * d ≤ length (now rights) ⌝ }
+    ensures { λ _. ⌜ Noted (edgeOf (now (wiring .entry))) d (n * d) (now (lefts .exit)) (now (rights .exit)) ⌝ }
+{
+    let edges = n * d;
+    let mut i: usize = 0;
+    while i < edges {
+        let edge = (wiring[2 * i] as usize) * 256 + (wiring[2 * i + 1] as usize);
+        lefts[i] = (edge / d) as u16;
+        rights[edge] = (i / d) as u16;
+        i += 1;
+    }
+}
+
+// The largest sum that the walk of a left vertex gives.
+fn largest_unevenness(lefts: &[u16], rights: &[u16], n: usize, d: usize) -> u64
+    requires { ⌜ Ends d n (now lefts) (now rights) ⌝ }
+    ensures { λ r. ⌜ r ≡ largestWalked (at (now (lefts .entry))) (at (now (rights .entry))) n d n ⌝ }
+{
+    let mut counts = [0u32; 2048];
+    let mut largest: u64 = 0;
+    let mut u: usize = 0;
+    while u < n {
+        clear(&mut counts, n);
+        walk(lefts, rights, n, d, u, &mut counts);
+        let sum = unevenness_of(&counts, n, d);
+        if largest < sum {
+            largest = sum;
+        }
+        u += 1;
+    }
+    largest
+}
+
+// Sets the first n counts to 0.
+fn clear(counts: &mut [u32], n: usize)
+    requires { ⌜ n ≤ length (now counts) ⌝ }
+    ensures { λ _. ⌜ Fresh n (now (counts .exit)) ⌝ }
+{
+    let mut w: usize = 0;
+    while w < n {
+        counts[w] = 0;
+        w += 1;
+    }
+}
+
+// One for each edge of each right vertex that left vertex u meets, at that edge's left vertex.
+fn walk(lefts: &[u16], rights: &[u16], n: usize, d: usize, u: usize, counts: &mut [u32])
+    requires { ⌜ Ends d n (now lefts) (now rights) ⌝ }
+    requires { ⌜ u < n ⌝ }
+    requires { ⌜ Fresh n (now counts) ⌝ }
+    ensures { λ _. ⌜ Walked (now (lefts .entry)) (now (rights .entry)) n d (u * d) d (now (counts .exit)) ⌝ }
+{
+    let base = u * d;
+    let mut j: usize = 0;
+    while j < d {
+        let right = rights[base + j] as usize;
+        count_edges(lefts, right * d, d, counts);
+        j += 1;
+    }
+}
+
+// One for each of the d entries from `from` on, at its left vertex.
+fn count_edges(lefts: &[u16], from: usize, d: usize, counts: &mut [u32])
+    requires { ⌜ Countable (now lefts) from d (now counts) ⌝ }
+    ensures { λ _. ⌜ Counted (arrivals (at (now (lefts .entry))) from d) (now (counts .entry)) (now (counts .exit)) ⌝ }
+{
+    let mut i: usize = 0;
+    while i < d {
+        let left = lefts[from + i] as usize;
+        counts[left] += 1;
+        i += 1;
+    }
+}
+
+// The sum over all left vertices of the absolute value of n * count - d * d.
+fn unevenness_of(counts: &[u32], n: usize, d: usize) -> u64
+    requires { ⌜ Even n d (now counts) ⌝ }
+    ensures { λ r. ⌜ r ≡ unevenBy (at (now (counts .entry))) n d n ⌝ }
+{
+    let even = (d * d) as u32;
+    let factor = n as u32;
+    let mut sum: u32 = 0;
+    let mut w: usize = 0;
+    while w < n {
+        let met = factor * counts[w];
+        if met < even {
+            sum += even - met;
+        } else {
+            sum += met - even;
+        }
+        w += 1;
+    }
+    sum as u64
+}
