@@ -2,8 +2,8 @@
 -- The notions, of specs/Walk.antt:
 --   Noted, Ends                    the lists of the left vertex of each entry and of the right vertex of each edge
 --   arrivals, walked               how many of some entries, and of some walks of two edges, end at a vertex
---   Fresh, Countable, Counted, Walked, Even  the counts before, during and after a walk
---   unevenBy, walkedUneven, largestWalked    the sum over the counts, after the walk of u, and the largest of these
+--   Fresh, Countable, Counted, Walked, Summable  the counts before, during and after a walk
+--   unevenBy, walkedUneven, largestWalked       the sum over the counts, after the walk of u, and the largest of these
 -- Laws are named by their subject, then by the fact: `-none` and `-one-more` are the start of a loop and one turn of it, `-le` and
 -- `-low` are bounds. The theorem is walked-spread: what the walks give is the spread of specs/Spread.antt.
 use Prim.Native.Nat.{ℕ, zero, suc, _+_, _*_, _/_, _-_, _≤_, _<_, max, zero-le}
@@ -22,7 +22,7 @@ use Rattle.bits.proofs.Sums.{count-le, flag-apart, flag-equal, sum-const, sum-e
 use Rattle.wiring.specs.Wiring.{edgeOf, edgesBetween}
 use Rattle.wiring.proofs.Permutation.{Wired, placeOf, place-lt, place-edge, edge-place}
 use Rattle.radius.specs.Spread.{meeting, unevenness, largest, spread}
-use Rattle.radius.specs.Walk.{Wires, Noted, Ends, arrivals, walked, Countable, Counted, Fresh, Walked, Even, unevenBy, walkedUneven, largestWalked}
+use Rattle.radius.specs.Walk.{Wires, Noted, Ends, arrivals, walked, Countable, Counted, Fresh, Walked, Summable, unevenBy, walkedUneven, largestWalked}
 use Rattle.wiring.proofs.Edges.{entry-below, edges-from}
 
 -- ---- a list after a store
@@ -103,7 +103,7 @@ counted-one-more left from m before counts sized inside r =
       ];
     }
 
--- before the count of an entry rises it is at most the entries counted above what it was
+-- before it rises, a count is at most what it was and the entries counted so far
 pub counted-low : (lefts : List ℕ) (from d m : ℕ) (before counts : List ℕ) → Countable lefts from d before → m < d
     → Counted (arrivals (at lefts) from m) before counts → at counts (at lefts (from + m)) < 512
 counted-low lefts from d m before counts fit l r =
@@ -124,6 +124,9 @@ fresh-one-more w counts room r =
 
 -- ---- the walk
 
+pub square-le : (d : ℕ) → d ≤ 16 → d * d ≤ 256
+square-le d narrow = omega (arith, mul-le-mul-left d narrow)
+
 module _ (lefts rights : List ℕ) (n d : ℕ) where
   pub walk-none : (base : ℕ) (counts : List ℕ) → Fresh n counts → Walked lefts rights n d base 0 counts
   walk-none base counts r = record { count-is = λ w l. r .count-none w l ∙ sym (walked-none (at lefts) (at rights) d base w) }
@@ -134,9 +137,6 @@ module _ (lefts rights : List ℕ) (n d : ℕ) where
       record { count-is = λ w l. omega (arith, r .count-is w l, s .count-is w (omega arith), walked-one-more (at lefts) (at rights) d base m w) }
 
   module _ (ends : Ends d n lefts rights) where
-    square-le : d * d ≤ 256
-    square-le = omega (arith, ends .d-high, mul-le-mul-left d (ends .d-high))
-
     -- the next right vertex met has its d entries in the list, and their counts have room
     pub walk-countable : (u m : ℕ) (counts : List ℕ) → u < n → m < d → n ≤ length counts → Walked lefts rights n d (u * d) m counts
         → Countable lefts (at rights (u * d + m) * d) d counts
@@ -149,16 +149,16 @@ module _ (lefts rights : List ℕ) (n d : ℕ) where
           inside = omega (arith, ends .lefts-sized, mul-le-mul-right d v-lt);
           left-lt = λ i h. omega (arith, left-lt i h);
           count-low = λ i h.
-              omega (arith, r .count-is _ (left-lt i h), walked-le (at lefts) (at rights) d (u * d) m (at lefts (v * d + i)), mul-le-mul-right d k, square-le);
+              omega (arith, r .count-is _ (left-lt i h), walked-le (at lefts) (at rights) d (u * d) m (at lefts (v * d + i)), mul-le-mul-right d k, square-le d (ends .d-high));
         }
 
-    pub walked-even : (u : ℕ) (counts : List ℕ) → n ≤ length counts → Walked lefts rights n d (u * d) d counts → Even n d counts
-    walked-even u counts room r =
+    pub walked-summable : (u : ℕ) (counts : List ℕ) → n ≤ length counts → Walked lefts rights n d (u * d) d counts → Summable n d counts
+    walked-summable u counts room r =
         record {
           d-high = ends .d-high;
           n-high = ends .n-high;
           sized = room;
-          count-low = λ w l. omega (arith, r .count-is w l, walked-le (at lefts) (at rights) d (u * d) d w, square-le);
+          count-low = λ w l. omega (arith, r .count-is w l, walked-le (at lefts) (at rights) d (u * d) d w, square-le d (ends .d-high));
         }
 
 -- ---- the sum over the counts
@@ -175,7 +175,7 @@ uneven-ext : (count other : ℕ → ℕ) (n d m : ℕ) → ((w : ℕ) → w < m 
 unfolding unevenBy
 uneven-ext count other n d m same = sum-ext m _ _ (λ w l. ap (λ (x : ℕ). gap (n * x) (d * d)) (same w l))
 
--- the count is short of the even share, or not
+-- the count is below its even share, or not
 pub uneven-under : (count : ℕ → ℕ) (n d m sum : ℕ) → sum ≡ unevenBy count n d m → n * count m < d * d
     → sum + (d * d - n * count m) ≡ unevenBy count n d (m + 1)
 unfolding gap
@@ -186,16 +186,13 @@ pub uneven-over : (count : ℕ → ℕ) (n d m sum : ℕ) → sum ≡ unevenBy c
 unfolding gap
 uneven-over count n d m sum e h = omega (arith, uneven-one-more count n d m)
 
-module _ {n d : ℕ} {counts : List ℕ} (even : Even n d counts) where
-  pub even-square : d * d ≤ 256
-  even-square = omega (arith, even .d-high, mul-le-mul-left d (even .d-high))
-
-  pub even-product : (w : ℕ) → w < n → n * at counts w ≤ 524288
-  even-product w l = omega (arith, mul-le-mul-left n (even .count-low w l), even .n-high)
+module _ {n d : ℕ} {counts : List ℕ} (s : Summable n d counts) where
+  pub product-le : (w : ℕ) → w < n → n * at counts w ≤ 524288
+  product-le w l = omega (arith, mul-le-mul-left n (s .count-low w l), s .n-high)
 
   uneven-each : (w : ℕ) → w < n → gap (n * at counts w) (d * d) ≤ 524288
   unfolding gap
-  uneven-each w l = omega (arith, even-product w l, even-square)
+  uneven-each w l = omega (arith, product-le w l, square-le d (s .d-high))
 
   pub uneven-le : (m : ℕ) → m ≤ n → unevenBy (at counts) n d m ≤ m * 524288
   unfolding unevenBy

@@ -5,8 +5,8 @@
 --   chainSweeps n d D R m b  the place of the first zero in the chain that begins with b, counted from 1;
 --                            0 where a step on the way is not covered. m bounds the chain's length; b + 1 is always enough.
 --   sweepsNamed n d D R F    the sweeps named for F flips, 0 where F is not covered
-use Prim.Native.Nat.{ℕ, zero, suc, _+_, _-_, _*_, _/_}
-use mathlib.Core.Bool.{Bool, true, false, cond, _&&_}
+use Prim.Native.Nat.{ℕ, zero, suc, _-_, _*_, _/_}
+use mathlib.Core.Bool.{Bool, cond, _&&_}
 use lib.Dec.{ltb, leb}
 
 unfoldable pub slack : ℕ → ℕ → ℕ → ℕ → ℕ

@@ -9,7 +9,7 @@
 --   Countable, Counted            what the count of d entries needs to know, and what it does
 --   Fresh n counts                the counts of n vertices are 0
 --   Walked .. base m counts       they are those of the walks by the m edges from `base` on
---   Even n d counts               what the sum over the counts needs to know
+--   Summable n d counts           what the sum over the counts needs to know
 --   unevenBy count n d m          the sum over the first m vertices of |n·count - d·d|
 --   walkedUneven, largestWalked   that sum over all n vertices after the walk of u, and the largest for u below m
 use Prim.Native.Nat.{ℕ, _+_, _*_, _/_, _≤_, _<_}
@@ -67,7 +67,7 @@ pub record Fresh (n : ℕ) (counts : List ℕ) : Type 0 where
 pub record Walked (lefts rights : List ℕ) (n d base m : ℕ) (counts : List ℕ) : Type 0 where
   pub count-is : (w : ℕ) → w < n → at counts w ≡ walked (at lefts) (at rights) d base m w
 
-pub record Even (n d : ℕ) (counts : List ℕ) : Type 0 where
+pub record Summable (n d : ℕ) (counts : List ℕ) : Type 0 where
   pub d-high : d ≤ 16
   pub n-high : n ≤ 2048
   pub sized : n ≤ length counts

@@ -1,4 +1,4 @@
-// A plan's numbers: n and the sheet's d and k with what is measured of them, the inner distance D and the spread R.
+// A plan's numbers: the sheet's d and k, its inner distance D, and the spread R of the wiring.
 use crate::spread::measured_spread;
 use inner_code::Refusal;
 use inner_code::Sheet;
@@ -44,7 +44,7 @@ pub fn plan_numbers(sheet: &[u8], n: usize, wiring: &[u8]) -> Numbers
     }
 }
 
-// The spread of a plan's wiring, how unevenly the edges of its left vertices meet. Refusals 1 to 10.
+// Checks a plan and answers the spread of its wiring: the smaller, the more evenly its left vertices meet. Refusals 1 to 10.
 pub fn plan_spread(sheet: &[u8], n: usize, wiring: &[u8]) -> Spread
     ensures { λ r. ⌜ spreadReply r ≡ spreadAnswer (now (sheet .entry)) n (now (wiring .entry)) ⌝ }
 {

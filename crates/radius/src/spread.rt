@@ -6,7 +6,7 @@ ghost use lib.ListN.{length};
 ghost use Rattle.bits.specs.Bit.{at};
 ghost use Rattle.wiring.specs.Wiring.{edgeOf};
 ghost use Rattle.radius.specs.Spread.{spread};
-ghost use Rattle.radius.specs.Walk.{Wires, Noted, Ends, arrivals, Countable, Counted, Fresh, Walked, Even, unevenBy, largestWalked};
+ghost use Rattle.radius.specs.Walk.{Wires, Noted, Ends, arrivals, Countable, Counted, Fresh, Walked, Summable, unevenBy, largestWalked};
 
 // The spread R of an accepted wiring.
 pub fn measured_spread(wiring: &[u8], n: usize, d: usize) -> u64
@@ -99,7 +99,7 @@ fn count_edges(lefts: &[u16], from: usize, d: usize, counts: &mut [u32])
 
 // The sum over all left vertices of the absolute value of n * count - d * d.
 fn unevenness_of(counts: &[u32], n: usize, d: usize) -> u64
-    requires { ⌜ Even n d (now counts) ⌝ }
+    requires { ⌜ Summable n d (now counts) ⌝ }
     ensures { λ r. ⌜ r ≡ unevenBy (at (now (counts .entry))) n d n ⌝ }
 {
     let even = (d * d) as u32;

@@ -50,5 +50,3 @@ plan-numbers-spec =
     measured-spread-requires
     returns
     returns-2)
-
--- x

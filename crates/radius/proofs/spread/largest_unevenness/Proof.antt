@@ -9,7 +9,7 @@ use denote.Ref.{now}
 use lib.ListN.{length}
 use Rattle.bits.specs.Bit.{at}
 use Rattle.radius.specs.Walk.{largestWalked}
-use Rattle.radius.proofs.Walks.{walked-even, walked-uneven, largest-none, largest-raised, largest-kept}
+use Rattle.radius.proofs.Walks.{walked-summable, walked-uneven, largest-none, largest-raised, largest-kept}
 use Rattle.radius.proofs.spread.largest_unevenness.Statement.{statement}
 use Rattle.radius.proofs.spread.largest_unevenness.Tie as tie
 
@@ -50,7 +50,7 @@ unevenness-of-requires c κs =
     let start = c .before .before .before .before .before .before .before .before .before .before .before in
     let args = start .args in
     let after = c .before .before in
-    walked-even (now (args .lefts)) (now (args .rights)) (args .n) (args .d) (start .pre) (c .before .before .before .before .before .before .before .before .loop .u)
+    walked-summable (now (args .lefts)) (now (args .rights)) (args .n) (args .d) (start .pre) (c .before .before .before .before .before .before .before .before .loop .u)
     (after .walk .last .1 .1 .1 .1 .1 .0) (omega (arith, sized after, start .pre .n-high)) (after .walk .ensures)
 
 add-u : tie.Need-add-u Inv-loop μ-loop

@@ -8,7 +8,7 @@ use native.Mathlib.Omega.{arith}
 use denote.Ref.{now}
 use Rattle.bits.specs.Bit.{at}
 use Rattle.radius.specs.Walk.{unevenBy}
-use Rattle.radius.proofs.Walks.{uneven-none, uneven-under, uneven-over, uneven-le, even-square, even-product}
+use Rattle.radius.proofs.Walks.{uneven-none, uneven-under, uneven-over, uneven-le, product-le, square-le}
 use Rattle.radius.proofs.spread.unevenness_of.Statement.{statement}
 use Rattle.radius.proofs.spread.unevenness_of.Tie as tie
 
@@ -19,10 +19,10 @@ abbrev μ-loop : tie.MeasureT-loop
 μ-loop counts n d even factor sum₀ w₀ sum w = n - w
 
 mul-even : tie.Need-mul-even Inv-loop μ-loop
-mul-even c = omega (arith, even-square (c .pre))
+mul-even c = omega (arith, square-le (c .args .d) (c .pre .d-high))
 
 cast-even : tie.Need-cast-even Inv-loop μ-loop
-cast-even c = omega (arith, even-square (c .pre))
+cast-even c = omega (arith, square-le (c .args .d) (c .pre .d-high))
 
 cast-factor : tie.Need-cast-factor Inv-loop μ-loop
 cast-factor c = search needs
@@ -38,23 +38,23 @@ shared-slice-read-met c = search needs
 
 mul-met-2 : tie.Need-mul-met-2 Inv-loop μ-loop
 unfolding at
-mul-met-2 c = omega (arith, even-product (c .before .before .before .pre) (c .before .before .loop .w) (omega arith))
+mul-met-2 c = omega (arith, product-le (c .before .before .before .pre) (c .before .before .loop .w) (omega arith))
 
 sub-sum : tie.Need-sub-sum Inv-loop μ-loop
 sub-sum c = search needs
 
 add-sum : tie.Need-add-sum Inv-loop μ-loop
 add-sum c =
-    let even = c .before .before .before .before .pre in
+    let start = c .before .before .before .before in
     let before = c .before .before .before .loop in
-    omega (arith, before .inv .1, uneven-le even (before .w) (omega arith), even .n-high, even-square even)
+    omega (arith, before .inv .1, uneven-le (start .pre) (before .w) (omega arith), start .pre .n-high, square-le (start .args .d) (start .pre .d-high))
 
 add-sum-2 : tie.Need-add-sum-2 Inv-loop μ-loop
 unfolding at
 add-sum-2 c =
-    let even = c .before .before .before .before .pre in
+    let start = c .before .before .before .before in
     let before = c .before .before .before .loop in
-    omega (arith, before .inv .1, uneven-le even (before .w) (omega arith), even .n-high, even-product even (before .w) (omega arith))
+    omega (arith, before .inv .1, uneven-le (start .pre) (before .w) (omega arith), start .pre .n-high, product-le (start .pre) (before .w) (omega arith))
 
 add-w : tie.Need-add-w Inv-loop μ-loop
 add-w c = search needs
@@ -75,9 +75,9 @@ loop-again c =
 
 cast-result : tie.Need-cast-result Inv-loop μ-loop
 cast-result c =
-    let even = c .before .before .pre in
+    let start = c .before .before in
     let before = c .before .loop in
-    omega (arith, before .inv .1, uneven-le even (before .w) (omega arith), even .n-high)
+    omega (arith, before .inv .1, uneven-le (start .pre) (before .w) (omega arith), start .pre .n-high)
 
 returns : tie.Need-returns Inv-loop μ-loop
 returns c =

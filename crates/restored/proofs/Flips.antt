@@ -1,0 +1,35 @@
+-- Flipping one bit of a block brings it at most one bit further from another.
+--   flips N a b   the number of bits 0 .. N - 1 in which two blocks differ
+use mathlib.Core.Path.{_≡_, refl, sym, ap, _∙_}
+use mathlib.Core.List.{List}
+use mathlib.Core.Logic.{_≢_}
+use Prim.Native.Nat.{ℕ, _+_, _*_, _≤_, _<_}
+use native.Mathlib.Nat.{le-trans, le-of-eq}
+use native.Mathlib.Decide.{ℕ-discrete}
+use native.Mathlib.Omega.{arith}
+use lib.Dec.{eqb}
+use lib.Bits.{bitXor, xor-self}
+use Rattle.bits.specs.Bit.{bitAt, withBit}
+use Rattle.bits.specs.Sum.{sum, flag}
+use Rattle.bits.proofs.Sums.{sum-mono, sum-add, sum-none, count-at, flag-equal}
+use Rattle.bits.proofs.Xor.{xor-bits-lt}
+use Rattle.bits.proofs.Bytes.{bitAt-lt, bitAt-other}
+use Rattle.radius.specs.Demand.{flips}
+
+pub flips-one : (N : ℕ) (sent block : List ℕ) (i b : ℕ) → i < N → b < 2 → flips N sent (withBit block i b) ≤ flips N sent block + 1
+unfolding flips
+flips-one N sent block i b h l =
+    le-trans
+    (sum-mono N _ (λ e. bitXor (bitAt sent e) (bitAt block e) + flag (eqb e i)) (λ e k. each e))
+    (le-of-eq (sum-add N _ _ ∙ ap (λ (x : ℕ). sum N (λ e. bitXor (bitAt sent e) (bitAt block e)) + x) (count-at N i h)))
+  where
+    each : (e : ℕ) → bitXor (bitAt sent e) (bitAt (withBit block i b) e) ≤ bitXor (bitAt sent e) (bitAt block e) + flag (eqb e i)
+    each e =
+        elim (ℕ-discrete e i) [
+          | yes q ↦ omega (arith, flag-equal e i q, xor-bits-lt (bitAt sent e) (bitAt (withBit block i b) e) (bitAt-lt sent e) (bitAt-lt (withBit block i b) e))
+          | no q ↦ omega (arith, ap (bitXor (bitAt sent e)) (bitAt-other block i e b (λ p. q (sym p)) l))
+        ]
+
+pub flips-none : (N : ℕ) (sent : List ℕ) → flips N sent sent ≡ 0
+unfolding flips
+flips-none N sent = sum-none N _ (λ i h. xor-self (bitAt sent i))

@@ -1,0 +1,33 @@
+// Flips.
+ghost use Prim.Native.Nat.{_+_, _≤_, _<_};
+ghost use Rattle.radius.specs.Demand.{flips};
+
+// Flips bits of a block of 64 bits that equal the sent ones, at most three of them: each byte of `positions` names one, by its
+// remainder by 64.
+pub fn flip_some(positions: &[u8], sent: &[u8], block: &mut [u8])
+    ensures { λ _. ⌜ flips 64 (now (sent .entry)) (now (block .exit)) ≤ flips 64 (now (sent .entry)) (now (block .entry)) + 3 ⌝ }
+{
+    let mut flipped: usize = 0;
+    let mut i: usize = 0;
+    while i < positions.len() {
+        if flipped < 3 {
+            let place = (positions[i] % 64) as usize;
+            flipped += flip_one(sent, block, place);
+        }
+        i += 1;
+    }
+}
+
+// Flips one bit of a block if it equals the sent one, and answers how many bits it flipped.
+fn flip_one(sent: &[u8], block: &mut [u8], place: usize) -> usize
+    requires { ⌜ place < 64 ⌝ }
+    ensures { λ r. ⌜ r ≤ 1 ⌝ }
+    ensures { λ r. ⌜ flips 64 (now (sent .entry)) (now (block .exit)) ≤ flips 64 (now (sent .entry)) (now (block .entry)) + r ⌝ }
+{
+    let bit = bits::bit(block, place);
+    if bit == bits::bit(sent, place) {
+        bits::put_bit(block, place, 1 - bit);
+        return 1;
+    }
+    0
+}
