@@ -1,4 +1,8 @@
 pub mod Sweeping
 pub mod Settling
+pub mod Mending
+pub mod Visiting
+pub mod Passes
+pub mod Copies
 pub mod Runs
 pub mod Reporting

@@ -1,5 +1,5 @@
--- What an accepted plan gives, when a block settles, and what the decoder answers and leaves.
---   Sound sheet                       what an accepted sheet is: its d, its k, its length and its rows
+-- When a block settles, and what the decoder answers and leaves.
+--   Sound sheet                       what an accepted sheet is: its d, its k, its length and its rows (inner_code SheetChecks)
 --   sheetCheck, planCheck             the sheet's place in the table, and sheet and wiring (inner_code specs Sheet, wiring specs Wiring)
 --   sweptBlock sheet n wiring i block the block after i sweeps with the sheet's nearest word (specs Decode)
 --   isSettled sheet n wiring block i  the block after i sweeps is a codeword block
@@ -8,58 +8,33 @@
 --   Decoded .. reply left             the decoder answers `reply` and leaves the output `left`
 --   written front l                   the list l with `front` at its beginning (specs Decode)
 --   Within bound reply                the reply does not refuse, or refuses with a number up to `bound`
--- Laws are named by their subject, then by the fact: `sheet-`, `plan-` and `block-` lead from a check to what it says, `map-` is
+-- Laws are named by their subject, then by the fact: `plan-` and `block-` are about the numbers of a
+-- refused plan and block, `map-` is
 -- about the sheet's nearest word, `settles-` about the count at which a block settles, `written-` about the list that is left, and
 -- `decode-` gives answer and output at one outcome each, from the tests before it that have passed and the one that holds:
 --   decode-plan (1 to 10), decode-block (11, 12), decode-short (13), decode-limit (14), decode-unsettled (15), decode-settled
 use Prim.Native.Nat.{ℕ, zero, suc, _+_, _-_, _*_, _^_, _≤_, _<_}
-use mathlib.Core.Bool.{Bool, true, false, not, _||_, true≢false}
+use mathlib.Core.Bool.{Bool, true, false, not, _||_}
 use mathlib.Core.List.{List, [], _∷_}
-use mathlib.Core.Logic.{⊎-elim}
 use mathlib.Core.Path.{_≡_, refl, sym, ap, _∙_}
-use native.Mathlib.Nat.{not-suc-le-zero, eq-or-lt-of-le, le-of-suc-le-suc}
 use native.Mathlib.Omega.{arith}
 use lib.Dec.{ltb, leb, eqb}
 use lib.ListN.{length, getD, drop, length-append, length-drop, List·getD-append}
 use lib.Seq.{getD-append-add, getD-drop}
-use borrow.Author.Tests.{ltb-false, lt-ltb, le-ltb, leb-false, eqb-true, ne-eqb, not-true, not-false}
+use borrow.Author.Tests.{lt-ltb, le-ltb, ne-eqb, not-true, not-false}
 use Rattle.inner_code.specs.Reply.{Reply, done, refused, refuseIf, andThen}
 use Rattle.inner_code.specs.Code.{someBelow, isCodeword, nearestWord}
-use Rattle.inner_code.specs.Sheet.{degree, rowCount, rowOf, rowCheck, rowsCheck, sheetCheck}
-use Rattle.inner_code.proofs.Replies.{refuse-taken, refuse-passed, refuse-done, andThen-passed, andThen-refused, andThen-done}
-use Rattle.inner_code.proofs.SheetChecks.{Sound, sound}
+use Rattle.inner_code.specs.Sheet.{degree, rowCount, rowOf, rowsCheck, sheetCheck}
+use Rattle.inner_code.proofs.Replies.{refuse-taken, refuse-passed, andThen-passed, andThen-refused}
+use Rattle.inner_code.proofs.SheetChecks.{Sound}
 use Rattle.inner_code.proofs.NearestWord.{nearest-codeword, nearest-lt, nearest-fixed}
 use Rattle.wiring.specs.Wiring.{edgeOf, entriesCheck, wiringCheck, planCheck}
 use Rattle.wiring.specs.Search.{firstFailing}
 use Rattle.wiring.specs.Block.{blockBytes, blockCheck, isCodewordBlock}
 use Rattle.wiring.proofs.Searches.{first-at, first-all, first-failed, first-passed}
-use Rattle.wiring.proofs.Permutation.{Wired, wired}
 use Rattle.wiring.proofs.Blocks.{strayBit}
 use Rattle.decoder.specs.Decode.{sweptBlock, settlesAt, decodeAnswer, decodeOutput, outputFor, written}
 use Rattle.decoder.proofs.Sweeping.{after-stays}
-
--- ---- an accepted plan
-
-sheet-tests : (sheet : List ℕ) → sheetCheck sheet
-    ≡ refuseIf (ltb (length sheet) 2) 1 0
-    (refuseIf (ltb (degree sheet) 2 || ltb 16 (degree sheet)) 2 0
-    (refuseIf (ltb (rowCount sheet) 1 || (ltb 11 (rowCount sheet) || ltb (degree sheet) (rowCount sheet))) 3 0
-    (refuseIf (not (eqb (length sheet) (2 + 2 * rowCount sheet))) 4 0
-    (rowsCheck (degree sheet) (rowOf sheet) (rowCount sheet)))))
-unfolding sheetCheck
-sheet-tests sheet = refl
-
-plan-parts : (sheet : List ℕ) (n : ℕ) (wiring values : List ℕ) → planCheck sheet n wiring ≡ done values → Sound sheet × Wired (degree sheet) n wiring
-unfolding planCheck
-plan-parts sheet n wiring values e =
-    let ((passed, accepted), rest) = andThen-done (sheetCheck sheet) (wiringCheck (degree sheet) n wiring) values e in
-    (sound sheet passed accepted, wired (degree sheet) n wiring rest)
-
-pub plan-sound : {values : List ℕ} (sheet : List ℕ) (n : ℕ) (wiring : List ℕ) → planCheck sheet n wiring ≡ done values → Sound sheet
-plan-sound {values} sheet n wiring e = plan-parts sheet n wiring values e .0
-
-pub plan-wired : {values : List ℕ} (sheet : List ℕ) (n : ℕ) (wiring : List ℕ) → planCheck sheet n wiring ≡ done values → Wired (degree sheet) n wiring
-plan-wired {values} sheet n wiring e = plan-parts sheet n wiring values e .1
 
 -- ---- the numbers of refusals
 
@@ -94,6 +69,15 @@ entries-within N edge zero = passes
 entries-within N edge (suc m) =
     within-then (entries-within N edge m)
     (within-if (leb N (edge m)) 9 m (omega arith) (within-if (someBelow m (λ j. eqb (edge j) (edge m))) 10 m (omega arith) passes))
+
+sheet-tests : (sheet : List ℕ) → sheetCheck sheet
+    ≡ refuseIf (ltb (length sheet) 2) 1 0
+    (refuseIf (ltb (degree sheet) 2 || ltb 16 (degree sheet)) 2 0
+    (refuseIf (ltb (rowCount sheet) 1 || (ltb 11 (rowCount sheet) || ltb (degree sheet) (rowCount sheet))) 3 0
+    (refuseIf (not (eqb (length sheet) (2 + 2 * rowCount sheet))) 4 0
+    (rowsCheck (degree sheet) (rowOf sheet) (rowCount sheet)))))
+unfolding sheetCheck
+sheet-tests sheet = refl
 
 sheet-within : (sheet : List ℕ) → Within 10 (sheetCheck sheet)
 sheet-within sheet =

@@ -10,7 +10,7 @@
 -- Laws are named by their subject, then by the fact: `visited-` is about the first m vertices of a side, `sweep-` about a whole
 -- sweep, `after-` about i sweeps in turn. At the end of a name, `-one-more` is one more step, `-other` a bit that no visited
 -- vertex has, `-word` and `-later` the words of visited vertices and of those still to come, `-block` the check of 11 and 12,
--- `-bytes` that bytes stay below 256, `-skip` and `-fixed` a map that leaves words as they are, `-stays` a block that does not
+-- `-bytes` that bytes stay below 256, `-skip` and `-fixed` a map that leaves words as they are, `-ext` two maps that agree, `-stays` a block that does not
 -- change any more, `-satisfied` vertices that read codewords.
 use Prim.Native.Nat.{ℕ, zero, suc, _+_, _*_, _^_, _≤_, _<_}
 use mathlib.Core.Bool.{Bool, true, false, not, and-true}
@@ -75,6 +75,14 @@ module _ (map bit : ℕ → ℕ) (d : ℕ) where
   visited-fixed (suc m) block same =
       rw (visited-fixed m block (λ v l. same v (le-step l)), same m (lt-suc-self m)) (scattered-fixed bit d block m)
 
+-- a map counts only on words of d digits
+pub visited-ext : (map other bit : ℕ → ℕ) (d : ℕ) → ((w : ℕ) → w < 2 ^ d → map w ≡ other w) → (m : ℕ) (block : List ℕ)
+    → visited map bit d m block ≡ visited other bit d m block
+unfolding visited
+visited-ext map other bit d same zero block = refl
+visited-ext map other bit d same (suc v) block =
+    rw (visited-ext map other bit d same v block, same _ (vertex-lt bit d (visited other bit d v block) v))
+
 module _ (map bit : ℕ → ℕ) (d n : ℕ) (once : (i j : ℕ) → i < n * d → j < n * d → bit i ≡ bit j → i ≡ j) where
   -- a vertex still to come reads what it read at first
   pub visited-later : (m : ℕ) (block : List ℕ) (v : ℕ) → m ≤ v → v < n → vertexWord bit d (visited map bit d m block) v ≡ vertexWord bit d block v
@@ -107,6 +115,11 @@ pub sweep-fixed : (map edge : ℕ → ℕ) (d n : ℕ) (right : Bool) (block : L
     → sweep map edge d n right block ≡ block
 unfolding sweep
 sweep-fixed map edge d n right = visited-fixed map (sideBit right edge) d n
+
+pub sweep-ext : (map other edge : ℕ → ℕ) (d n : ℕ) → ((w : ℕ) → w < 2 ^ d → map w ≡ other w) → (right : Bool) (block : List ℕ)
+    → sweep map edge d n right block ≡ sweep other edge d n right block
+unfolding sweep
+sweep-ext map other edge d n same right = visited-ext map other (sideBit right edge) d same n
 
 module _ {d n : ℕ} {wiring : List ℕ} (w : Wired d n wiring) (map : ℕ → ℕ) where
   -- after a sweep every vertex of the side reads the map of what it read before

@@ -1,5 +1,11 @@
-// The correction report.
+// Sweeps: the decoder and the correction report.
+mod decoding;
+mod mend;
 mod report;
+mod settle;
+mod sweep;
 
+pub use decoding::Decoded;
+pub use decoding::decode;
 pub use report::Reported;
 pub use report::report_runs;

@@ -23,7 +23,7 @@ use Rattle.inner_code.proofs.Replies.{refuse-taken, refuse-passed, refuse-done,
 use Rattle.inner_code.proofs.SheetChecks.{sound-accepted}
 use Rattle.wiring.specs.Wiring.{edgeOf, edgesBetween, planCheck}
 use Rattle.wiring.proofs.Permutation.{placeOf, wired-back, place-lt, place-edge, edge-place}
-use Rattle.decoder.proofs.Settling.{plan-sound, plan-wired}
+use Rattle.wiring.proofs.Plans.{plan-sound}
 use Rattle.radius.specs.Answer.{spreadOf, marginOf, spreadAnswer, marginAnswer}
 use Rattle.radius.proofs.PairBound.{size, edgesInside}
 use Rattle.radius.proofs.Graph.{pair-bound-wired}
@@ -39,7 +39,7 @@ module _ (sheet : List ℕ) (n : ℕ) (wiring : List ℕ) where
   plan-done : {values : List ℕ} → planCheck sheet n wiring ≡ done values → planCheck sheet n wiring ≡ done []
   unfolding planCheck
   plan-done e =
-      andThen-passed _ _ [] (sound-accepted sheet (plan-sound sheet n wiring e)) ∙ wired-back (degree sheet) n wiring (plan-wired sheet n wiring e)
+      andThen-passed _ _ [] (sound-accepted sheet (plan-sound sheet n wiring e .0)) ∙ wired-back (degree sheet) n wiring (plan-sound sheet n wiring e .1)
 
   -- ---- the spread
 
@@ -98,6 +98,5 @@ pub pair-bound-plan : (sheet : List ℕ) (n : ℕ) (wiring : List ℕ) → planC
 unfolding spreadOf
 pair-bound-plan sheet n wiring plan =
     let d : ℕ = degree sheet in
-    let s = plan-sound sheet n wiring plan in
-    let w = plan-wired sheet n wiring plan in
+    let (s, w) = plan-sound sheet n wiring plan in
     pair-bound-wired n d (edgeOf wiring) (placeOf wiring (n * d)) (omega (arith, s .degree-low)) (w .edge-lt) (place-lt w) (place-edge w) (edge-place w)

@@ -30,7 +30,8 @@ use Rattle.wiring.specs.Wiring.{planCheck}
 use Rattle.wiring.specs.Block.{blockBytes, blockCheck}
 use Rattle.wiring.proofs.Blocks.{block-sized, block-clear, block-back}
 use Rattle.decoder.specs.Decode.{sweptBlock, settlesAt, decodeAnswer, decodeOutput, written}
-use Rattle.decoder.proofs.Settling.{isSettled, plan-sound, plan-wired, block-number, map-lt, settles-codeword, settles-first, settles-stays, decode-block, decode-short, decode-limit, decode-settled}
+use Rattle.wiring.proofs.Plans.{plan-sound}
+use Rattle.decoder.proofs.Settling.{isSettled, block-number, map-lt, settles-codeword, settles-first, settles-stays, decode-block, decode-short, decode-limit, decode-settled}
 use Rattle.radius.specs.Answer.{distanceOf, spreadOf, marginOf, marginAnswer}
 use Rattle.radius.specs.Demand.{flips, Block, Codeword, codewordOf, settledAfter, StoppedBefore15}
 use Rattle.radius.proofs.Restoring.{after-restores}
@@ -52,8 +53,7 @@ pub swept-restores : (sheet : List ℕ) (n : ℕ) (wiring received : List ℕ) (
     → (c : List ℕ) → Codeword sheet n wiring c → flips (n * degree sheet) c received ≤ F → sweptBlock sheet n wiring q received ≡ c
 unfolding marginOf distanceOf spreadOf sweptBlock codewordOf
 swept-restores sheet n wiring received F q covered block c code few =
-    let s = plan-sound sheet n wiring (covered .plan) in
-    let w = plan-wired sheet n wiring (covered .plan) in
+    let (s, w) = plan-sound sheet n wiring (covered .plan) in
     rw (covered .named)
     (after-restores w (rowOf sheet) (rowCount sheet) (distanceOf sheet) _ (map-lt s)
     (nearest-near (rowOf sheet) (rowCount sheet) (degree sheet) (s .degree-high) (s .rows-lt)) c (code .satisfied)
@@ -134,7 +134,7 @@ demand3 sheet n wiring sent received output F q H code bytes few margin enough f
     let count : ℕ = settlesAt sheet n wiring received H in
     let by : count ≤ q = settles-by sheet n wiring received H q sent code swept in
     let in-time : count ≤ H = le-trans by enough in
-    let as-sent = settles-as sheet n wiring received H q sent code swept (plan-sound sheet n wiring plan) enough in
+    let as-sent = settles-as sheet n wiring received H q sent code swept (plan-sound sheet n wiring plan .0) enough in
     let decoded = decode-settled sheet n wiring received output H plan pass room limit count refl in-time in
     record {
       count = count;

@@ -29,7 +29,7 @@ use Rattle.inner_code.proofs.InnerDistance as inner
 use Rattle.inner_code.proofs.SheetChecks.{Sound}
 use Rattle.wiring.specs.Wiring.{edgeOf, edgesBetween, planCheck}
 use Rattle.wiring.proofs.Permutation.{Wired, placeOf, place-lt, place-edge, edge-place}
-use Rattle.decoder.proofs.Settling.{plan-sound, plan-wired}
+use Rattle.wiring.proofs.Plans.{plan-sound}
 use Rattle.radius.specs.Answer.{distanceOf, spreadOf, marginOf}
 use Rattle.radius.specs.Margin.{sweepsNamed}
 use Rattle.radius.specs.Ranges.{InRange, planRange, namedInRange}
@@ -139,8 +139,7 @@ module _ (sheet : List ℕ) where
     pub plan-within : InRange n (degree sheet) (distanceOf sheet) (spreadOf sheet n wiring)
     unfolding distanceOf spreadOf
     plan-within =
-        let s = plan-sound sheet n wiring plan in
-        let w = plan-wired sheet n wiring plan in
+        let (s, w) = plan-sound sheet n wiring plan in
         record {
           n-high = w .n-high;
           d-high = s .degree-high;

@@ -13,8 +13,9 @@ use Rattle.bits.specs.Bit.{bitAt, withBit}
 use Rattle.bits.specs.Sum.{sum, flag}
 use Rattle.bits.proofs.Sums.{sum-mono, sum-add, sum-none, count-at, flag-equal}
 use Rattle.bits.proofs.Xor.{xor-bits-lt}
-use Rattle.bits.proofs.Bytes.{bitAt-lt, bitAt-other}
+use Rattle.bits.proofs.Bytes.{bitAt-lt, bitAt-other, withBit-byte}
 use Rattle.radius.specs.Demand.{flips}
+use Rattle.restored.specs.Flip.{Flipped}
 
 pub flips-one : (N : ℕ) (sent block : List ℕ) (i b : ℕ) → i < N → b < 2 → flips N sent (withBit block i b) ≤ flips N sent block + 1
 unfolding flips
@@ -33,3 +34,15 @@ flips-one N sent block i b h l =
 pub flips-none : (N : ℕ) (sent : List ℕ) → flips N sent sent ≡ 0
 unfolding flips
 flips-none N sent = sum-none N _ (λ i h. xor-self (bitAt sent i))
+
+pub flipped-none : (sent block : List ℕ) → Flipped sent block block 0
+flipped-none sent block = record { few = omega arith; bytes = λ h. h }
+
+pub flipped-one : (sent block : List ℕ) (i b : ℕ) → i < 64 → b < 2 → Flipped sent block (withBit block i b) 1
+flipped-one sent block i b h l = record { few = flips-one 64 sent block i b h l; bytes = withBit-byte block i b l }
+
+pub flipped-then : {sent a b c : List ℕ} {m n : ℕ} → Flipped sent a b m → Flipped sent b c n → Flipped sent a c (m + n)
+flipped-then p q = record { few = omega (arith, p .few, q .few); bytes = λ h. q .bytes (p .bytes h) }
+
+pub flipped-most : {sent a b : List ℕ} {m n : ℕ} → m ≤ n → Flipped sent a b m → Flipped sent a b n
+flipped-most l p = record { few = omega (arith, p .few); bytes = p .bytes }

@@ -1,6 +1,6 @@
 -- The square plan with the house code: it is accepted, the sent block is a codeword of it, its margin covers three flips within two
 -- sweeps, and so the guarantee restores the sent block.
-use mathlib.Core.Path.{_≡_, refl, sym, ap, _∙_}
+use mathlib.Core.Path.{_≡_, refl, sym, ap, ap₂, _∙_}
 use mathlib.Core.Logic.{_⊎_, inl, inr, ⊎-elim}
 use mathlib.Core.List.{List, [], _∷_}
 use mathlib.Core.Bool.{Bool, true}
@@ -8,6 +8,7 @@ use Prim.Native.Nat.{ℕ, zero, suc, _*_, _≤_, _<_}
 use native.Mathlib.Nat.{le-refl}
 use native.Mathlib.Decide.{decLe}
 use native.Mathlib.Omega.{arith}
+use borrow.Author.Tests.{le-leb}
 use lib.Count.{ones, onesIn}
 use lib.Dec.{lit<, eqb, ltb}
 use lib.ListN.{length, getD}
@@ -22,14 +23,16 @@ use Rattle.wiring.specs.Wiring.{edgeOf, entryCheck, entriesCheck, wiringCheck, 
 use Rattle.wiring.specs.Block.{blockBytes, blockCheck, sideBit, vertexWord, satisfied, firstUnsatisfied, isCodewordBlock}
 use Rattle.wiring.proofs.Blocks.{block-back}
 use Rattle.bits.proofs.Bytes.{bitAt-past}
-use Rattle.decoder.specs.Decode.{settlesAt, decodeAnswer}
+use Rattle.decoder.specs.Decode.{settlesAt, decodeAnswer, decodeOutput, written}
+use Rattle.decoder.specs.Answer.{decodeReply}
+use Rattle.decoder.specs.declared.decoding.Decoded.{Decoded}
 use Rattle.decoder.proofs.Settling.{decode-settled, decode-unsettled}
 use Rattle.radius.specs.Spread.{meeting, unevenness, largest, spread}
 use Rattle.radius.specs.Margin.{slack, stepCovered, nextBound, oneMore, chainSweeps, sweepsNamed}
 use Rattle.radius.specs.Answer.{distanceOf, spreadOf, marginOf, marginAnswer}
 use Rattle.radius.specs.Demand.{flips, Block, codewordOf, Codeword, StoppedBefore15}
 use Rattle.radius.proofs.Guarantee.{Restored, demand3}
-use Rattle.restored.specs.Plan.{squareWiring, sentBlock}
+use Rattle.restored.specs.Plan.{squareWiring, sentBlock, settledWithin}
 
 square-accepted : planCheck houseSheet 8 squareWiring ≡ done []
 unfolding planCheck sheetCheck refuseIf andThen rowsCheck rowCheck isCodeword someBelow combination digit degree rowCount rowOf pairAt houseSheet wiringCheck entriesCheck entryCheck edgeOf squareWiring
@@ -48,7 +51,7 @@ block-of-eight : (block : List ℕ) → length block ≡ 8 → blockCheck 64 blo
 unfolding blockBytes
 block-of-eight block e = block-back 64 block e (λ i h. bitAt-past block i (omega arith))
 
-sent-bytes : (k : ℕ) → getD sentBlock k 0 < 256
+pub sent-bytes : (k : ℕ) → getD sentBlock k 0 < 256
 unfolding sentBlock
 sent-bytes zero = lit< tt
 sent-bytes (suc zero) = lit< tt
@@ -102,3 +105,39 @@ pub square-restored : (received output : List ℕ) → length received ≡ 8 →
 square-restored received output er eo bytes few =
     demand3 houseSheet 8 squareWiring sentBlock received output 3 2 2 sent-codeword bytes (rw square-degree few) square-margin (omega arith)
     (never-stopped received output er eo)
+
+-- ---- what the program expects
+
+pub settled-within : (r : Decoded) (count q : ℕ) → decodeReply r ≡ done (count ∷ []) → count ≤ q → settledWithin r q ≡ true
+settled-within (Decoded.Settled s) count q e l = let same : s ≡ count = cc in le-leb s q (omega arith)
+settled-within (Decoded.Refused f) count q e l = let z : _≡_ {A = ℕ} 0 1 = cc in absurd (omega arith)
+
+pub written-eight : (front : List ℕ) → front ≡ sentBlock → written front (0 ∷ 0 ∷ 0 ∷ 0 ∷ 0 ∷ 0 ∷ 0 ∷ 0 ∷ []) ≡ sentBlock
+unfolding written sentBlock
+written-eight front e = ap (λ (l : List ℕ). written l (0 ∷ 0 ∷ 0 ∷ 0 ∷ 0 ∷ 0 ∷ 0 ∷ 0 ∷ [])) e
+
+-- a decoder call on the built-in plan, with at most three bits flipped
+pub record Called (sheet wiring sent received output : List ℕ) (r : Decoded) (left : List ℕ) : Type 0 where
+  pub sheet-is : sheet ≡ houseSheet
+  pub wiring-is : wiring ≡ squareWiring
+  pub sent-is : sent ≡ sentBlock
+  pub sized : length received ≡ 8
+  pub room : length output ≡ 8
+  pub bytes : (k : ℕ) → getD received k 0 < 256
+  pub few : flips 64 sent received ≤ 3
+  pub answer : decodeReply r ≡ decodeAnswer sheet 8 wiring received output 2
+  pub leaves : left ≡ decodeOutput sheet 8 wiring received output 2
+
+module _ {sheet wiring sent received output : List ℕ} {r : Decoded} {left : List ℕ} (call : Called sheet wiring sent received output r left) where
+  restored-call : Restored houseSheet 8 squareWiring sentBlock received output 2 2
+  restored-call = square-restored received output (call .sized) (call .room) (call .bytes) (rw (← call .sent-is) (call .few))
+
+  pub call-within : settledWithin r 2 ≡ true
+  call-within =
+      settled-within r (restored-call .count) 2
+      (call .answer ∙ ap₂ (λ (s w : List ℕ). decodeAnswer s 8 w received output 2) (call .sheet-is) (call .wiring-is) ∙ restored-call .answer)
+      (restored-call .within)
+
+  pub call-restores : left ≡ written sentBlock output
+  call-restores =
+      call .leaves ∙ ap₂ (λ (s w : List ℕ). decodeOutput s 8 w received output 2) (call .sheet-is) (call .wiring-is) ∙ restored-call .restored

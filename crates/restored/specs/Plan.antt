@@ -1,8 +1,12 @@
 -- The built-in plan, and what the program expects of an answer.
 --   squareWiring              n = d = 8, entry v·8 + j is edge 8j + v
 --   sentBlock                 the codeword that is sent
+--   settledWithin decoded q   the decoder settled within q sweeps
 use Prim.Native.Nat.{ℕ}
 use mathlib.Core.List.{List, [], _∷_}
+use mathlib.Core.Bool.{Bool, false}
+use lib.Dec.{leb}
+use Rattle.decoder.specs.declared.decoding.Decoded.{Decoded}
 
 unfoldable pub squareWiring : List ℕ
 squareWiring =
@@ -17,3 +21,7 @@ squareWiring =
 
 unfoldable pub sentBlock : List ℕ
 sentBlock = 0 ∷ 0 ∷ 15 ∷ 15 ∷ 0 ∷ 0 ∷ 15 ∷ 15 ∷ []
+
+abbrev pub settledWithin : Decoded → ℕ → Bool
+settledWithin (Decoded.Settled count) q = leb count q
+settledWithin (Decoded.Refused r) q = false

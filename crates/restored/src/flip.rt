@@ -1,11 +1,11 @@
 // Flips.
-ghost use Prim.Native.Nat.{_+_, _≤_, _<_};
-ghost use Rattle.radius.specs.Demand.{flips};
+ghost use Prim.Native.Nat.{_≤_, _<_};
+ghost use Rattle.restored.specs.Flip.{Flipped};
 
 // Flips bits of a block of 64 bits that equal the sent ones, at most three of them: each byte of `positions` names one, by its
 // remainder by 64.
 pub fn flip_some(positions: &[u8], sent: &[u8], block: &mut [u8])
-    ensures { λ _. ⌜ flips 64 (now (sent .entry)) (now (block .exit)) ≤ flips 64 (now (sent .entry)) (now (block .entry)) + 3 ⌝ }
+    ensures { λ _. ⌜ Flipped (now (sent .entry)) (now (block .entry)) (now (block .exit)) 3 ⌝ }
 {
     let mut flipped: usize = 0;
     let mut i: usize = 0;
@@ -22,7 +22,7 @@ pub fn flip_some(positions: &[u8], sent: &[u8], block: &mut [u8])
 fn flip_one(sent: &[u8], block: &mut [u8], place: usize) -> usize
     requires { ⌜ place < 64 ⌝ }
     ensures { λ r. ⌜ r ≤ 1 ⌝ }
-    ensures { λ r. ⌜ flips 64 (now (sent .entry)) (now (block .exit)) ≤ flips 64 (now (sent .entry)) (now (block .entry)) + r ⌝ }
+    ensures { λ r. ⌜ Flipped (now (sent .entry)) (now (block .entry)) (now (block .exit)) r ⌝ }
 {
     let bit = bits::bit(block, place);
     if bit == bits::bit(sent, place) {

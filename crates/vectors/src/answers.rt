@@ -1,6 +1,7 @@
 // One call of a service, with its line.
 use crate::input;
 use crate::output;
+use decoder::Decoded;
 use decoder::Reported;
 use inner_code::Nearest;
 use radius::Margin;
@@ -64,7 +65,16 @@ fn on_block(service: u8, sheet: &[u8], n: usize, wiring: &[u8], block: &[u8]) {
         return;
     }
     if service == 4 {
-        input::number();
+        let limit = input::number();
+        decode(
+            sheet,
+            n,
+            wiring,
+            block,
+            &mut space[..second],
+            limit as usize,
+        );
+        return;
     }
     output::text(b"absent");
 }
@@ -149,4 +159,18 @@ fn margin(sheet: &[u8], n: usize, wiring: &[u8], flips: u64) {
             output::refused(r.number, r.place);
         }
     }
+}
+
+fn decode(sheet: &[u8], n: usize, wiring: &[u8], received: &[u8], output: &mut [u8], limit: usize) {
+    match decoder::decode(sheet, n, wiring, received, output, limit) {
+        Decoded::Settled(sweeps) => {
+            output::text(b"ok ");
+            output::number(sweeps as u64);
+        }
+        Decoded::Refused(r) => {
+            output::refused(r.number, r.place);
+        }
+    }
+    output::text(b" ");
+    output::bytes(output);
 }

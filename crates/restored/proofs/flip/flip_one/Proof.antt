@@ -3,7 +3,7 @@ use native.Mathlib.Nat.{le-of-suc-le-suc}
 use native.Mathlib.Omega.{arith}
 use denote.Ref.{now}
 use Rattle.bits.proofs.Bytes.{bitAt-lt}
-use Rattle.restored.proofs.Flips.{flips-one}
+use Rattle.restored.proofs.Flips.{flipped-none, flipped-one}
 use borrow.Author.Needs.{needs}
 use Rattle.restored.proofs.flip.flip_one.Statement.{statement}
 use Rattle.restored.proofs.flip.flip_one.Tie as tie
@@ -36,7 +36,7 @@ same-length c = search needs
 returns : tie.Need-returns
 returns c =
     let args = c .before .before .before .before .before .before .before .before .before .before .args in
-    (search needs, rw (c .before .before .put-bit .ensures) (flips-one 64 (now (args .sent)) (now (args .block)) (args .place) _ (search needs) (omega arith)))
+    (search needs, rw (c .before .before .put-bit .ensures) (flipped-one (now (args .sent)) (now (args .block)) (args .place) _ (search needs) (omega arith)))
 
 -- src/flip.rt:22:1
 same-length-2 : tie.Need-same-length-2
@@ -44,7 +44,7 @@ same-length-2 c = search needs
 
 -- src/flip.rt:22:1
 returns-2 : tie.Need-returns-2
-returns-2 c = search needs
+returns-2 c = (search needs, flipped-none _ _)
 
 pub flip-one-spec : {M : Type 1} → statement M
 flip-one-spec =

@@ -5,7 +5,8 @@ use mathlib.Core.Path.{_≡_}
 use mathlib.Core.Logic.{⊎-elim}
 use native.Mathlib.Omega.{arith}
 use lib.ListN.{length}
-use Rattle.radius.specs.Demand.{flips}
+use Rattle.restored.specs.Flip.{Flipped}
+use Rattle.restored.proofs.Flips.{flipped-none, flipped-then, flipped-most}
 use Rattle.restored.proofs.flip.flip_some.Statement.{statement}
 use Rattle.restored.proofs.flip.flip_some.Tie as tie
 use Rattle.restored.proofs.flip.flip_some.Reads as reads
@@ -14,14 +15,14 @@ use Rattle.restored.proofs.flip.flip_one.Reads as flip-one-reads
 
 abbrev Inv-loop : tie.InvT-loop
 Inv-loop positions sent block₀ flipped₀ i₀ block flipped i =
-    (i ≤ length positions) × (flipped ≤ 3) × (length block ≡ length block₀) × (flips 64 sent block ≤ flips 64 sent block₀ + flipped)
+    (i ≤ length positions) × (flipped ≤ 3) × (length block ≡ length block₀) × Flipped sent block₀ block flipped
 
 abbrev μ-loop : tie.MeasureT-loop
 μ-loop positions sent block₀ flipped₀ i₀ block flipped i = length positions - i
 
 -- src/flip.rt:12:5
 loop-holds : tie.Need-loop-holds Inv-loop μ-loop
-loop-holds c = search needs
+loop-holds c = (search needs, search needs, search needs, flipped-none _ _)
 
 -- src/flip.rt:14:26
 shared-slice-read-place : tie.Need-shared-slice-read-place Inv-loop μ-loop
@@ -51,8 +52,8 @@ loop-less c = search needs
 loop-again : tie.Need-loop-again Inv-loop μ-loop
 loop-again c =
     ⊎-elim
-    (λ w. rw (w .6, w .7) (search needs, omega (arith, w .3 .ensures .0), omega (arith, w .3 .kept .1 .0), omega (arith, w .3 .ensures .1)))
-    (λ w. rw (w .1, w .2) (search needs, search needs, search needs, search needs)) (c .if1 .came)
+    (λ w. rw (w .6, w .7) (search needs, omega (arith, w .3 .ensures .0), omega (arith, w .3 .kept .1 .0), flipped-then (c .before .before .loop .inv .3) (w .3 .ensures .1)))
+    (λ w. rw (w .1, w .2) (search needs, search needs, search needs, c .before .before .loop .inv .3)) (c .if1 .came)
 
 -- src/flip.rt:7:1
 same-length : tie.Need-same-length Inv-loop μ-loop
@@ -60,7 +61,7 @@ same-length c = search needs
 
 -- src/flip.rt:7:1
 returns : tie.Need-returns Inv-loop μ-loop
-returns c = search needs
+returns c = flipped-most (c .before .loop .inv .1) (c .before .loop .inv .3)
 
 pub flip-some-spec : {M : Type 1} → statement M
 flip-some-spec =
