@@ -16,8 +16,10 @@ use Rattle.decoder.specs.Decode.{sweptBlock, settlesAt, decodeAnswer, written, 
 use Rattle.radius.specs.Spread.{meeting, unevenness, largest, spread}
 use Rattle.radius.specs.Margin.{slack, stepCovered, nextBound, oneMore, chainSweeps, sweepsNamed}
 use Rattle.radius.specs.Answer.{distanceOf, spreadOf, marginOf, marginAnswer}
+use Rattle.messages.specs.Position.{bitsPut, blockOf, codewordNumber, isPosition, positionsBefore}
+use Rattle.messages.specs.Message.{carries, encodedNumber, encodedBlock}
 use Rattle.known_answers.specs.Table.{right, allRight, table, sameList, sameReply, squareWiring, pairSheet, pairWiring}
 
 pub known-answers : allRight table ≡ true
-unfolding allRight right table sameList sameReply squareWiring pairSheet pairWiring nearestWord nearestPattern least key noKey keyWhere isCodeword someBelow combination digit word bitAt putDigit withBit pairAt sum gap flag ones onesIn onesUnlessZero fewestOnes distance refuseIf andThen degree rowCount rowOf rowCheck rowsCheck sheetCheck houseSheet houseRow firstFailing edgeOf entryCheck entriesCheck wiringCheck planCheck edgesBetween blockBytes blockCheck sideBit vertexWord scattered satisfied firstUnsatisfied isCodewordBlock visited sweep rightTurn afterSweeps sweptBlock settlesAt decodeAnswer written outputFor decodeOutput meeting unevenness largest spread slack stepCovered nextBound oneMore chainSweeps sweepsNamed distanceOf spreadOf marginOf marginAnswer
+unfolding allRight right table sameList sameReply squareWiring pairSheet pairWiring nearestWord nearestPattern least key noKey keyWhere isCodeword someBelow combination digit word bitAt putDigit withBit pairAt sum gap flag ones onesIn onesUnlessZero fewestOnes distance refuseIf andThen degree rowCount rowOf rowCheck rowsCheck sheetCheck houseSheet houseRow firstFailing edgeOf entryCheck entriesCheck wiringCheck planCheck edgesBetween blockBytes blockCheck sideBit vertexWord scattered satisfied firstUnsatisfied isCodewordBlock visited sweep rightTurn afterSweeps sweptBlock settlesAt decodeAnswer written outputFor decodeOutput meeting unevenness largest spread slack stepCovered nextBound oneMore chainSweeps sweepsNamed distanceOf spreadOf marginOf marginAnswer bitsPut blockOf codewordNumber isPosition positionsBefore carries encodedNumber encodedBlock
 known-answers = refl

@@ -13,6 +13,7 @@ use Rattle.inner_code.specs.House.{houseRow, houseSheet}
 use Rattle.decoder.specs.Decode.{decodeAnswer, decodeOutput}
 use Rattle.radius.specs.Margin.{sweepsNamed}
 use Rattle.radius.specs.Answer.{marginAnswer}
+use Rattle.messages.specs.Message.{encodedBlock}
 
 pub data Row : Type 0 where
   -- a house word and its nearest word
@@ -23,6 +24,8 @@ pub data Row : Type 0 where
   margin : ℕ → ℕ → ℕ → ℕ → ℕ → ℕ → Row
   -- the pair plan: a received byte and a limit, the decoder's answer and the byte in its output
   pair : ℕ → ℕ → Reply → ℕ → Row
+  -- the pair plan: a message byte and the byte that it encodes to
+  message : ℕ → ℕ → Row
 
 -- two lists of numbers are the same
 unfoldable pub sameList : List ℕ → List ℕ → Bool
@@ -59,13 +62,14 @@ unfoldable pub pairWiring : List ℕ
 pairWiring = 0 ∷ 0 ∷ 0 ∷ 1 ∷ []
 
 unfoldable pub right : Row → Bool
-unfolding nearestWord houseRow houseSheet sameReply sameList squareWiring pairSheet pairWiring marginAnswer sweepsNamed decodeAnswer decodeOutput
+unfolding nearestWord houseRow houseSheet sameReply sameList squareWiring pairSheet pairWiring marginAnswer sweepsNamed decodeAnswer decodeOutput encodedBlock
 right (house word nearest) = eqb (nearestWord houseRow 4 8 word) nearest
 right (square flips reply) = sameReply (marginAnswer houseSheet 8 squareWiring flips) reply
 right (margin n d D R flips sweeps) = eqb (sweepsNamed n d D R flips) sweeps
 right (pair received limit reply left) =
     sameReply (decodeAnswer pairSheet 1 pairWiring (received ∷ []) (0 ∷ []) limit) reply
     && sameList (decodeOutput pairSheet 1 pairWiring (received ∷ []) (0 ∷ []) limit) (left ∷ [])
+right (message byte encoded) = sameList (encodedBlock pairSheet 1 pairWiring (byte ∷ [])) (encoded ∷ [])
 
 unfoldable pub allRight : List Row → Bool
 unfolding right
@@ -88,4 +92,5 @@ table =
     ∷ margin 31 16 16 480 63 4
     ∷ margin 31 16 16 480 64 0
     ∷ pair 0x80 1 (done (1 ∷ [])) 0xc0
+    ∷ message 0x80 0xc0
     ∷ []

@@ -1,0 +1,9 @@
+pub mod Elimination
+pub mod Checks
+pub mod Numbers
+pub mod Ranks
+pub mod Positions
+pub mod Encoding
+pub mod Reading
+pub mod Fronts
+pub mod Answers
