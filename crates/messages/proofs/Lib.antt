@@ -7,3 +7,9 @@ pub mod Encoding
 pub mod Reading
 pub mod Fronts
 pub mod Answers
+pub mod StoredRows
+pub mod Pivots
+pub mod Solving
+pub mod LiveRows
+pub mod Written
+pub mod Outcomes

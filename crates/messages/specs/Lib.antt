@@ -1,3 +1,5 @@
 pub mod Position
 pub mod Message
 pub mod Elimination
+pub mod Columns
+pub mod Service

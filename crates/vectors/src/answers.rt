@@ -4,6 +4,8 @@ use crate::output;
 use decoder::Decoded;
 use decoder::Reported;
 use inner_code::Nearest;
+use messages::Encoded;
+use messages::Taken;
 use radius::Margin;
 use radius::Spread;
 use wiring::Located;
@@ -76,7 +78,11 @@ fn on_block(service: u8, sheet: &[u8], n: usize, wiring: &[u8], block: &[u8]) {
         );
         return;
     }
-    output::text(b"absent");
+    if service == 8 {
+        encode(sheet, n, wiring, block, &mut space[..second]);
+        return;
+    }
+    read(sheet, n, wiring, block, &mut space[..second]);
 }
 
 fn nearest(sheet: &[u8], word: u64) {
@@ -168,6 +174,32 @@ fn decode(sheet: &[u8], n: usize, wiring: &[u8], received: &[u8], output: &mut [
             output::number(sweeps as u64);
         }
         Decoded::Refused(r) => {
+            output::refused(r.number, r.place);
+        }
+    }
+    output::text(b" ");
+    output::bytes(output);
+}
+
+fn encode(sheet: &[u8], n: usize, wiring: &[u8], message: &[u8], output: &mut [u8]) {
+    match messages::encode(sheet, n, wiring, message, output) {
+        Encoded::Done => {
+            output::text(b"ok");
+        }
+        Encoded::Refused(r) => {
+            output::refused(r.number, r.place);
+        }
+    }
+    output::text(b" ");
+    output::bytes(output);
+}
+
+fn read(sheet: &[u8], n: usize, wiring: &[u8], block: &[u8], output: &mut [u8]) {
+    match messages::read_block(sheet, n, wiring, block, output) {
+        Taken::Done => {
+            output::text(b"ok");
+        }
+        Taken::Refused(r) => {
             output::refused(r.number, r.place);
         }
     }

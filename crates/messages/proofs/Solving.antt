@@ -1,0 +1,115 @@
+-- The rows of a plan once all its checks are done, as the code keeps them, and the message positions among them.
+--   UnitResidues basis k d residues  entry i is what the basis leaves of the word whose one digit is at edge i (specs Columns)
+--   Masks row k d residues           the same by the rows of a sheet (specs Columns)
+--   Short d n wiring                 an accepted wiring of at most 512 edges (specs Columns)
+--   Eliminated .. m columns          the columns hold the rows after m checks (specs Columns)
+--   Solved basis k .. columns        the columns hold the rows after all checks (specs Columns)
+--   StoredPlan .. N columns          the columns hold the final rows of an accepted plan of N edges (specs Columns)
+--   PlanAccepted ..                  what a caller learns from a plan's check that accepts (wiring Plans)
+-- Laws are named by their subject, then by the fact: `residues-` is about the masks, `eliminated-` about the checks in turn, `plan-` about
+-- an accepted plan, `stored-` about the columns of its final rows.
+use Prim.Native.Nat.{ℕ, zero, suc, _+_, _-_, _*_, _/_, _%_, _^_, _≤_, _<_, min}
+use mathlib.Core.Bool.{Bool, true, false}
+use mathlib.Core.List.{List, []}
+use mathlib.Core.Path.{_≡_, refl, sym, ap, ap₂, _∙_}
+use native.Mathlib.Nat.{min-eq-left, ne-of-lt}
+use native.Mathlib.Omega.{arith}
+use lib.Dec.{eqb}
+use lib.ListN.{length, getD, set, replicate}
+use lib.Seq.{getD-set-same, getD-set-other}
+use borrow.Author.Count.{below-more}
+use Rattle.bits.specs.Bit.{at}
+use Rattle.inner_code.specs.Reduction.{reduced, reducedBy, withEchelon}
+use Rattle.inner_code.specs.Sheet.{degree, rowCount, rowOf}
+use Rattle.inner_code.specs.declared.sheet.CheckedSheet.{CheckedSheet}
+use Rattle.inner_code.proofs.EchelonForm.{reducedBy-stored}
+use Rattle.wiring.specs.Wiring.{edgeOf}
+use Rattle.wiring.proofs.Plans.{PlanAccepted}
+use Rattle.messages.specs.Elimination.{after, start, graphCheck, planChecks, finalState}
+use Rattle.messages.specs.Columns.{UnitResidues, Masks, Short, Stores, HitSet, lowestRow, Spread, Eliminated, Solved, StoredPlan}
+use Rattle.messages.proofs.Elimination.{after-zero}
+use Rattle.messages.proofs.Pivots.{step-spread, step-none}
+
+-- ---- the masks
+
+module _ (basis : List ℕ) (k d : ℕ) where
+  -- one more entry: `word` is the word whose one digit is at edge i
+  pub residues-one-more : (i word left : ℕ) (residues : List ℕ)
+      → ((q : ℕ) → q < i → getD residues q 0 ≡ reducedBy (at basis) (min k 11) (2 ^ (d - 1 - q)))
+      → i < length residues → word ≡ 2 ^ (d - 1 - i) → left ≡ reducedBy (at basis) (min k 11) word
+      → (q : ℕ) → q < i + 1 → getD (set residues i left) q 0 ≡ reducedBy (at basis) (min k 11) (2 ^ (d - 1 - q))
+  residues-one-more i word left residues before inside unit e =
+      below-more (λ (q : ℕ). getD (set residues i left) q 0 ≡ reducedBy (at basis) (min k 11) (2 ^ (d - 1 - q))) i
+      (λ q l. getD-set-other residues i q left 0 (ne-of-lt l) ∙ before q l)
+      (getD-set-same residues i left 0 inside ∙ e ∙ ap (reducedBy (at basis) (min k 11)) unit)
+
+  pub residues-last : (i : ℕ) (residues : List ℕ)
+      → ((q : ℕ) → q < i → getD residues q 0 ≡ reducedBy (at basis) (min k 11) (2 ^ (d - 1 - q))) → i ≡ d → UnitResidues basis k d residues
+  residues-last i residues all last = record { each = λ q l. all q (rw last l) }
+
+residues-masks : (row : ℕ → ℕ) (basis : List ℕ) (k d : ℕ) (residues : List ℕ) → UnitResidues basis k d residues
+    → basis ≡ withEchelon row k (replicate 11 0) → k ≤ 11 → Masks row k d residues
+residues-masks row basis k d residues units stored few =
+    record {
+      each = λ i l.
+          units .each i l
+          ∙ ap₂ (λ (b : List ℕ) (m : ℕ). reducedBy (at b) m (2 ^ (d - 1 - i))) stored (min-eq-left few)
+          ∙ reducedBy-stored row k (replicate 11 0) (2 ^ (d - 1 - i)) few;
+    }
+
+-- ---- the checks in turn
+
+module _ {d n : ℕ} {wiring : List ℕ} (s : Short d n wiring) (residues : List ℕ) where
+  pub eliminated-start : (columns : List ℕ) → Stores (n * d) (start (n * d)) columns → Eliminated d n wiring residues 0 columns
+  eliminated-start columns stored = record { rows = λ row k masks. rw after-zero stored }
+
+  module _ (m : ℕ) (columns hits : List ℕ) (earlier : Eliminated d n wiring residues m columns) (fails : HitSet d n wiring residues m columns hits) where
+    pub eliminated-spread : (p : ℕ) (left : List ℕ) → p ≡ lowestRow hits (n * d) → p < n * d → Spread (n * d) p hits columns left
+        → Eliminated d n wiring residues (m + 1) left
+    eliminated-spread p left low inside spread =
+        record {
+          rows = λ row k masks.
+              step-spread (n * d) (s .short) (graphCheck row k d n (edgeOf wiring)) m columns hits (earlier .rows row k masks) (fails .rows row k masks)
+              p left low inside spread;
+        }
+
+    pub eliminated-none : (p : ℕ) → p ≡ lowestRow hits (n * d) → n * d ≤ p → Eliminated d n wiring residues (m + 1) columns
+    eliminated-none p low none =
+        record {
+          rows = λ row k masks.
+              step-none (n * d) (s .short) (graphCheck row k d n (edgeOf wiring)) m columns hits (earlier .rows row k masks) (fails .rows row k masks)
+              (rw low at none);
+        }
+
+  pub eliminated-all : (basis : List ℕ) (k : ℕ) (columns : List ℕ) → UnitResidues basis k d residues
+      → Eliminated d n wiring residues (2 * (n * d)) columns → Solved basis k d n wiring columns
+  eliminated-all basis k columns units all =
+      record { rows = λ row stored few. all .rows row k (residues-masks row basis k d residues units stored few) }
+
+-- ---- an accepted plan
+
+pub plan-short : (sheet : List ℕ) (n : ℕ) (wiring : List ℕ) (r : CheckedSheet) (d k : ℕ) → PlanAccepted sheet n wiring r d k → n * d ≤ 512 → Short d n wiring
+plan-short sheet n wiring r d k a short =
+    record {
+      wired = rw (a .d-is) (a .plan-wired);
+      some = omega (arith, a .d-is, a .sheet-sound .degree-low);
+      narrow = omega (arith, a .d-is, a .sheet-sound .degree-high);
+      short = short;
+    }
+
+pub plan-stored : (sheet : List ℕ) (n : ℕ) (wiring : List ℕ) (r : CheckedSheet) (d k : ℕ) (columns : List ℕ)
+    → PlanAccepted sheet n wiring r d k → n * d ≤ 512 → Solved (r .basis) k d n wiring columns → StoredPlan sheet n wiring (n * d) columns
+unfolding finalState planChecks
+plan-stored sheet n wiring r d k columns a short solved =
+    record {
+      plan = a .plan-done;
+      edges = ap (λ (x : ℕ). n * x) (a .d-is);
+      short = short;
+      stored = rw (a .d-is) (rw (a .d-is, a .k-is) at final);
+    }
+  where
+    echelon : r .basis ≡ withEchelon (rowOf sheet) k (replicate 11 0)
+    echelon = a .basis-is ∙ ap (λ (m : ℕ). withEchelon (rowOf sheet) m (replicate 11 0)) (sym (a .k-is))
+
+    final : Stores (n * d) (after (n * d) (graphCheck (rowOf sheet) k d n (edgeOf wiring)) (2 * (n * d))) columns
+    final = solved .rows (rowOf sheet) echelon (rw (a .k-is) (a .sheet-sound .count-high))

@@ -1,0 +1,181 @@
+-- Bits that are written to the front of an output: those of the encoded block, and those of the message that is read.
+--   fronted front l                 the list l with `front` at its beginning (specs Message)
+--   bitsPut x m l                   the byte string l with its bits 0 .. m - 1 made the digits of x (specs Position)
+--   BitsPut N chosen columns l left `left` is l with the bits of the chosen rows put together at its places 0 .. N - 1 (specs Columns)
+--   bitsTaken columns block j l     the byte string l with the block's bits at the rows left below j put at its front (specs Columns)
+--   liveBefore columns j            how many rows below j have a 1 at their own place (specs Columns)
+--   StoredPlan .. N columns         the columns hold the final rows of an accepted plan of N edges (specs Columns)
+-- Laws are named by their subject, then by the fact: `put-` is about the encoded bits, `taken-` about the bits that are read. At the end
+-- of a name, `-none` is the beginning of a loop, `-one-more` and `-kept` a turn that writes and one that does not, `-fronted` says that
+-- only the front is written, `-encoded` and `-read` what stands there at the end.
+use Prim.Native.Nat.{ℕ, zero, suc, _+_, _*_, _%_, _≤_, _<_}
+use mathlib.Core.Bool.{Bool, true, false, cond}
+use mathlib.Core.List.{List, []}
+use mathlib.Core.Logic.{_≢_}
+use mathlib.Core.Path.{_≡_, refl, sym, ap, ap₂, _∙_}
+use native.Mathlib.Nat.{le-of-lt, le-trans, le-step, lt-suc-self, lt-of-lt-of-le, mod-eq-of-lt, add-zero}
+use native.Mathlib.Decide.{ℕ-discrete}
+use native.Mathlib.Numerals.{add-one}
+use native.Mathlib.Omega.{arith}
+use lib.Dec.{eqb}
+use lib.ListN.{length, replicate, length-replicate}
+use borrow.Author.Tests.{eq-eqb, ne-eqb}
+use Rattle.bits.specs.Bit.{digit, bitAt, withBit}
+use Rattle.bits.specs.Sum.{flag}
+use Rattle.bits.proofs.Bytes.{bitAt-lt, length-withBit}
+use Rattle.inner_code.specs.Sheet.{degree}
+use Rattle.wiring.specs.Block.{blockBytes}
+use Rattle.messages.specs.Position.{bitsPut, blockOf, isPosition, positionsBefore, messageBits}
+use Rattle.messages.specs.Message.{encodedNumber, encodedBlock, readBefore, readMessage, fronted}
+use Rattle.messages.specs.Elimination.{finalState}
+use Rattle.messages.specs.Columns.{rowBit, StoredPlan, liveBefore, Chosen, columnParity, BitsPut, bitsTaken}
+use Rattle.messages.proofs.Elimination.{parity-lt}
+use Rattle.messages.proofs.Numbers.{bitsPut-none, bitsPut-one-more, length-bitsPut, blockOf-is, bytes-fit}
+use Rattle.messages.proofs.Positions.{position-live}
+use Rattle.messages.proofs.Encoding.{encoded-block-is}
+use Rattle.messages.proofs.Reading.{read-none, read-position, read-other}
+use Rattle.messages.proofs.Fronts.{fronted-withBit}
+use Rattle.messages.proofs.StoredRows.{rowBit-lt}
+use Rattle.messages.proofs.Pivots.{flag-test}
+use Rattle.messages.proofs.LiveRows.{live-one-more, stored-live, stored-count, stored-bits, stored-digit}
+
+-- ---- the encoded bits
+
+parity-bit : (chosen columns : List ℕ) (e : ℕ) → columnParity chosen columns e < 2
+unfolding columnParity
+parity-bit chosen columns e = parity-lt 512 _ _
+
+module _ (chosen columns l : List ℕ) where
+  pub put-none : BitsPut 0 chosen columns l l
+  put-none = record { is = λ x same. sym (bitsPut-none x l) }
+
+  -- b is the bit that is written
+  pub put-one-more : (e b : ℕ) (output next : List ℕ) → BitsPut e chosen columns l output → b ≡ columnParity chosen columns e
+      → next ≡ withBit output e (b % 2) → BitsPut (e + 1) chosen columns l next
+  put-one-more e b output next so-far is-b written =
+      record {
+        is = λ x same.
+            let bit : b % 2 ≡ digit x e = ap (λ (y : ℕ). y % 2) is-b ∙ mod-eq-of-lt (parity-bit chosen columns e) ∙ sym (same e (omega arith)) in
+            written ∙ ap₂ (λ (r : List ℕ) (y : ℕ). withBit r e y) (so-far .is x (λ i k. same i (omega arith))) bit ∙ sym (bitsPut-one-more x e l);
+      }
+
+  pub put-last : (N e : ℕ) (output : List ℕ) → BitsPut e chosen columns l output → e ≡ N → BitsPut N chosen columns l output
+  put-last N e output so-far last = rw last at so-far
+
+put-fronted : (x m : ℕ) (front l : List ℕ) → m ≤ length front * 8 → bitsPut x m (fronted front l) ≡ fronted (bitsPut x m front) l
+unfolding bitsPut
+put-fronted x zero front l fits = refl
+put-fronted x (suc m) front l fits =
+    ap (λ (r : List ℕ). withBit r m (digit x m)) (put-fronted x m front l (le-of-lt fits))
+    ∙ fronted-withBit (bitsPut x m front) l m (digit x m) (rw length-bitsPut fits)
+
+-- the whole encoded block
+pub put-encoded : {sheet : List ℕ} {n : ℕ} {wiring : List ℕ} {N : ℕ} {columns : List ℕ} (s : StoredPlan sheet n wiring N columns)
+    (message chosen output left : List ℕ) → Chosen N columns message chosen
+    → BitsPut N chosen columns (fronted (replicate (blockBytes N) 0) output) left → left ≡ fronted (encodedBlock sheet n wiring message) output
+put-encoded {sheet} {n} {wiring} {N} {columns} s message chosen output left c put =
+    put .is x (stored-digit s message chosen c)
+    ∙ put-fronted x N (replicate (blockBytes N) 0) output (rw length-replicate (bytes-fit N))
+    ∙ ap (λ (front : List ℕ). fronted front output)
+    (sym (blockOf-is N x) ∙ ap (λ (M : ℕ). blockOf M x) (s .edges) ∙ sym (encoded-block-is sheet n wiring message))
+  where
+    x : ℕ
+    x = encodedNumber sheet n wiring message
+
+-- ---- the bits that are read
+
+module _ (columns block : List ℕ) where
+  pub taken-none : (l : List ℕ) → bitsTaken columns block 0 l ≡ l
+  unfolding bitsTaken
+  taken-none l = refl
+
+  put-position : (j : ℕ) (l : List ℕ) → rowBit columns j j ≡ 1
+      → bitsTaken columns block (suc j) l ≡ withBit (bitsTaken columns block j l) (liveBefore columns j) (bitAt block j)
+  unfolding bitsTaken
+  put-position j l one =
+      ap (λ (t : Bool). cond t (withBit (bitsTaken columns block j l) (liveBefore columns j) (bitAt block j)) (bitsTaken columns block j l)) (eq-eqb _ 1 one)
+
+  pass-other : (j : ℕ) (l : List ℕ) → rowBit columns j j ≢ 1 → bitsTaken columns block (suc j) l ≡ bitsTaken columns block j l
+  unfolding bitsTaken
+  pass-other j l other =
+      ap (λ (t : Bool). cond t (withBit (bitsTaken columns block j l) (liveBefore columns j) (bitAt block j)) (bitsTaken columns block j l)) (ne-eqb _ 1 other)
+
+  -- one turn: `read` is the row's bit at its own place, b the block's bit
+  module _ (p rank read : ℕ) (l output : List ℕ) (counted : rank ≡ liveBefore columns p) (so-far : output ≡ bitsTaken columns block p l)
+      (is-read : read ≡ rowBit columns p p) where
+    pub taken-one-more : (b : ℕ) (next : List ℕ) → read ≡ 1 → b ≡ bitAt block p → next ≡ withBit output rank (b % 2)
+        → (rank + 1 ≡ liveBefore columns (p + 1)) × (next ≡ bitsTaken columns block (p + 1) l)
+    taken-one-more b next one is-b written =
+        let bit : b % 2 ≡ bitAt block p = ap (λ (y : ℕ). y % 2) is-b ∙ mod-eq-of-lt (bitAt-lt block p) in (
+          live-one-more columns p rank 1 counted (sym one ∙ is-read),
+          rw add-one
+              (written
+              ∙ ap (λ (r : List ℕ). withBit r rank (b % 2)) so-far
+              ∙ ap₂ (λ (i y : ℕ). withBit (bitsTaken columns block p l) i y) counted bit
+              ∙ sym (put-position p l (sym is-read ∙ one))),
+        )
+
+    pub taken-kept : read ≢ 1 → (rank ≡ liveBefore columns (p + 1)) × (output ≡ bitsTaken columns block (p + 1) l)
+    taken-kept other =
+        let none : rowBit columns p p ≡ 0 = omega (arith, rowBit-lt columns p p) in (
+          sym (add-zero rank) ∙ live-one-more columns p rank 0 counted (sym none),
+          rw add-one (so-far ∙ sym (pass-other p l (λ one. other (is-read ∙ one)))),
+        )
+
+  length-taken : (j : ℕ) (l : List ℕ) → length (bitsTaken columns block j l) ≡ length l
+  length-taken zero l = ap length (taken-none l)
+  length-taken (suc j) l = go (length-taken j l) (ℕ-discrete (rowBit columns j j) 1)
+    where
+      go : length (bitsTaken columns block j l) ≡ length l → Dec (rowBit columns j j ≡ 1) → length (bitsTaken columns block (suc j) l) ≡ length l
+      go e (yes one) = ap length (put-position j l one) ∙ length-withBit _ _ _ ∙ e
+      go e (no other) = ap length (pass-other j l other) ∙ e
+
+  live-suc : (j : ℕ) → liveBefore columns (suc j) ≡ liveBefore columns j + rowBit columns j j
+  live-suc j = rw (← add-one j) (sym (live-one-more columns j _ _ refl refl))
+
+  taken-fronted : (j : ℕ) (front l : List ℕ) → liveBefore columns j ≤ length front * 8
+      → bitsTaken columns block j (fronted front l) ≡ fronted (bitsTaken columns block j front) l
+  taken-fronted zero front l fits = taken-none (fronted front l) ∙ ap (λ (r : List ℕ). fronted r l) (sym (taken-none front))
+  taken-fronted (suc j) front l fits =
+      go (taken-fronted j front l (omega (arith, live-suc j))) (ℕ-discrete (rowBit columns j j) 1)
+    where
+      go : bitsTaken columns block j (fronted front l) ≡ fronted (bitsTaken columns block j front) l → Dec (rowBit columns j j ≡ 1)
+          → bitsTaken columns block (suc j) (fronted front l) ≡ fronted (bitsTaken columns block (suc j) front) l
+      go e (yes one) =
+          put-position j (fronted front l) one
+          ∙ ap (λ (r : List ℕ). withBit r (liveBefore columns j) (bitAt block j)) e
+          ∙ fronted-withBit _ l (liveBefore columns j) (bitAt block j) (omega (arith, live-suc j, length-taken j front))
+          ∙ ap (λ (r : List ℕ). fronted r l) (sym (put-position j front one))
+      go e (no other) = pass-other j (fronted front l) other ∙ e ∙ ap (λ (r : List ℕ). fronted r l) (sym (pass-other j front other))
+
+module _ {sheet : List ℕ} {n : ℕ} {wiring : List ℕ} {N : ℕ} {columns : List ℕ} (s : StoredPlan sheet n wiring N columns) (block : List ℕ) where
+  position-test : (j : ℕ) → j < N → isPosition sheet n wiring j ≡ eqb (rowBit columns j j) 1
+  position-test j l =
+      position-live sheet n wiring (s .plan) j ∙ sym (ap (λ (x : ℕ). eqb x 1) (stored-live s j l) ∙ flag-test (finalState sheet n wiring .live j))
+
+  -- on zeros the bits taken are the message read so far
+  taken-before : (j : ℕ) → j ≤ N → bitsTaken columns block j (replicate (blockBytes (messageBits sheet n wiring)) 0) ≡ readBefore sheet n wiring block j
+  taken-before zero h = taken-none columns block _ ∙ sym (read-none sheet n wiring block)
+  taken-before (suc j) h = go (taken-before j (le-of-lt h)) (ℕ-discrete (rowBit columns j j) 1)
+    where
+      zeros : List ℕ
+      zeros = replicate (blockBytes (messageBits sheet n wiring)) 0
+
+      go : bitsTaken columns block j zeros ≡ readBefore sheet n wiring block j → Dec (rowBit columns j j ≡ 1)
+          → bitsTaken columns block (suc j) zeros ≡ readBefore sheet n wiring block (suc j)
+      go e (yes one) =
+          put-position columns block j zeros one
+          ∙ ap₂ (λ (r : List ℕ) (i : ℕ). withBit r i (bitAt block j)) e (stored-count s j (le-of-lt h))
+          ∙ sym (read-position sheet n wiring block j (position-test j h ∙ eq-eqb _ 1 one))
+      go e (no other) =
+          pass-other columns block j zeros other ∙ e ∙ sym (read-other sheet n wiring block j (position-test j h ∙ ne-eqb _ 1 other))
+
+  -- the whole message
+  pub taken-read : (output left : List ℕ)
+      → left ≡ bitsTaken columns block N (fronted (replicate (blockBytes (messageBits sheet n wiring)) 0) output)
+      → left ≡ fronted (readMessage sheet n wiring block) output
+  unfolding readMessage
+  taken-read output left taken =
+      taken
+      ∙ taken-fronted columns block N _ output (rw (stored-bits s, length-replicate) (bytes-fit (messageBits sheet n wiring)))
+      ∙ ap (λ (front : List ℕ). fronted front output) (taken-before N (omega arith) ∙ ap (readBefore sheet n wiring block) (s .edges))

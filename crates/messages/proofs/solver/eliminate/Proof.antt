@@ -1,0 +1,65 @@
+-- `messages::eliminate` meets its contract: after m turns the first m checks are done.
+use borrow.Author.Needs.{needs}
+use mathlib.Core.Path.{_≡_, sym, ap, _∙_}
+use Prim.Native.Nat.{ℕ, _*_, _-_, _≤_}
+use native.Mathlib.Omega.{arith}
+use denote.Ref.{now}
+use lib.ListN.{length}
+use Rattle.messages.specs.Columns.{Eliminated}
+use Rattle.messages.proofs.solver.eliminate.Statement.{statement}
+use Rattle.messages.proofs.solver.eliminate.Tie as tie
+
+abbrev Inv-loop : tie.InvT-loop
+Inv-loop residues d n wiring columns₀ checks m₀ columns m = (m ≤ checks) × (length columns ≡ 4096) × Eliminated d n wiring residues m columns
+
+abbrev μ-loop : tie.MeasureT-loop
+μ-loop residues d n wiring columns₀ checks m₀ columns m = checks - m
+
+mul-checks : tie.Need-mul-checks Inv-loop μ-loop
+mul-checks c = search needs
+
+mul-checks-2 : tie.Need-mul-checks-2 Inv-loop μ-loop
+mul-checks-2 c = search needs
+
+loop-holds : tie.Need-loop-holds Inv-loop μ-loop
+loop-holds c = search needs
+
+put-check-requires : tie.Need-put-check-requires Inv-loop μ-loop
+put-check-requires c κs =
+    let before = c .before .before .loop in
+    let pre = c .before .before .before .before .before .before .pre in
+    (omega arith, (pre .0, (pre .1 .0, (before .inv .1, before .inv .2))))
+
+add-m : tie.Need-add-m Inv-loop μ-loop
+add-m c = search needs
+
+loop-less : tie.Need-loop-less Inv-loop μ-loop
+loop-less c = search needs
+
+loop-again : tie.Need-loop-again Inv-loop μ-loop
+loop-again c = search needs
+
+same-length : tie.Need-same-length Inv-loop μ-loop
+same-length c = search needs
+
+returns : tie.Need-returns Inv-loop μ-loop
+returns c =
+    let args = c .before .before .before .before .before .args in
+    let end : c .before .loop .m ≡ 2 * (args .n * args .d) = omega arith in
+    rw end at (c .before .loop .inv .2)
+
+pub eliminate-spec : {M : Type 1} → statement M
+eliminate-spec =
+    tie.close
+    (tie.spec
+    Inv-loop
+    μ-loop
+    mul-checks
+    mul-checks-2
+    loop-holds
+    put-check-requires
+    add-m
+    loop-less
+    loop-again
+    same-length
+    returns)

@@ -1,0 +1,111 @@
+-- How the code keeps the rows of the elimination: none of this is needed to believe a contract of a service. A set of rows is eight words
+-- of 64, row p being digit p % 64 of word p / 64. Column e, the words 8·e .. 8·e + 7 of a list, is the set of the rows that have a 1 at e.
+--   rowBit columns p e              bit e of row p, for p below 512
+--   noColumns, noRows               512 columns of no row, and one
+--   ColumnPut from a to b left      `left` is `to` with column a of `from` put on its column b
+--   UnitResidues basis k d residues entry i is what the first k rows of the basis leave of the word whose one digit is at edge i
+--   Masks row k d residues          the same by the rows of a sheet: digit j of entry i is `mask row k d j i`
+--   Short d n wiring                an accepted wiring of at most 512 edges
+--   Stores N s columns              the columns hold the rows of the state s
+--   HitSet .. m columns hits        column 0 of `hits` is the set of the rows that fail check m
+--   lowestRow hits N                the lowest row of column 0, N where it has none below N
+--   Spread N p hits columns left    `left` is `columns` with row p put on every row of `hits`
+--   Eliminated .. m columns         the columns hold the rows after m checks of the plan whose masks are `residues`
+--   Solved basis k .. columns       the columns hold the rows after all checks of the plan whose echelon form is `basis`
+--   StoredPlan sheet n wiring N columns  the columns hold the final rows of an accepted plan of N edges, at most 512
+--   liveBefore columns j            how many rows below j have a 1 at their own place: those that are left
+--   Chosen N columns message chosen column 0 of `chosen` is the set of the rows left whose bit in the message is 1
+--   columnParity chosen columns e   the bit e of the rows of a set put together
+--   BitsPut N chosen columns l left `left` is the byte string l with those bits at its places 0 .. N - 1
+--   bitsTaken columns block j l     the byte string l with the block's bits at the rows left below j put at its front
+use Prim.Native.Nat.{ℕ, zero, suc, _+_, _-_, _*_, _/_, _%_, _^_, _≤_, _<_, min}
+use mathlib.Core.Bool.{cond, not}
+use mathlib.Core.List.{List, []}
+use mathlib.Core.Path.{_≡_}
+use lib.Bits.{bitXor}
+use lib.Dec.{eqb}
+use lib.ListN.{getD, replicate}
+use Rattle.bits.specs.Bit.{at, digit, bitAt, withBit}
+use Rattle.bits.specs.Sum.{sum}
+use Rattle.inner_code.specs.Reply.{done}
+use Rattle.inner_code.specs.Reduction.{reduced, reducedBy, withEchelon}
+use Rattle.inner_code.specs.Sheet.{degree}
+use Rattle.wiring.specs.Search.{firstFailing}
+use Rattle.wiring.specs.Wiring.{edgeOf, planCheck}
+use Rattle.wiring.proofs.Permutation.{Wired}
+use Rattle.messages.specs.Position.{bitsPut}
+use Rattle.messages.specs.Elimination.{parity, State, after, graphCheck, finalState}
+
+unfoldable pub rowBit : List ℕ → ℕ → ℕ → ℕ
+unfolding digit
+rowBit columns p e = digit (getD columns (8 * e + p / 64) 0) (p % 64)
+
+unfoldable pub noColumns : List ℕ
+noColumns = replicate 4096 0
+
+unfoldable pub noRows : List ℕ
+noRows = replicate 8 0
+
+pub record ColumnPut (from : List ℕ) (a : ℕ) (to : List ℕ) (b : ℕ) (left : List ℕ) : Type 0 where
+  pub put : (p : ℕ) → p < 512 → rowBit left p b ≡ bitXor (rowBit to p b) (rowBit from p a)
+  pub others : (p e : ℕ) → p < 512 → (e ≡ b → ⊥) → rowBit left p e ≡ rowBit to p e
+
+pub record UnitResidues (basis : List ℕ) (k d : ℕ) (residues : List ℕ) : Type 0 where
+  pub each : (i : ℕ) → i < d → getD residues i 0 ≡ reducedBy (at basis) (min k 11) (2 ^ (d - 1 - i))
+
+pub record Masks (row : ℕ → ℕ) (k d : ℕ) (residues : List ℕ) : Type 0 where
+  pub each : (i : ℕ) → i < d → getD residues i 0 ≡ reduced row k (2 ^ (d - 1 - i))
+
+pub record Short (d n : ℕ) (wiring : List ℕ) : Type 0 where
+  pub wired : Wired d n wiring
+  pub some : 1 ≤ d
+  pub narrow : d ≤ 16
+  pub short : n * d ≤ 512
+
+pub record Stores (N : ℕ) (s : State) (columns : List ℕ) : Type 0 where
+  pub bits : (p e : ℕ) → p < 512 → e < N → rowBit columns p e ≡ s .row p e
+
+pub record HitSet (d n : ℕ) (wiring residues : List ℕ) (m : ℕ) (columns hits : List ℕ) : Type 0 where
+  pub rows : (row : ℕ → ℕ) (k : ℕ) → Masks row k d residues
+      → (p : ℕ) → p < 512 → rowBit hits p 0 ≡ parity (n * d) (graphCheck row k d n (edgeOf wiring) m) (rowBit columns p)
+
+unfoldable pub lowestRow : List ℕ → ℕ → ℕ
+unfolding firstFailing rowBit
+lowestRow hits N = firstFailing N (λ p. not (eqb (rowBit hits p 0) 1))
+
+pub record Spread (N p : ℕ) (hits columns left : List ℕ) : Type 0 where
+  pub bits : (q e : ℕ) → q < 512 → e < N → rowBit left q e ≡ bitXor (rowBit columns q e) (rowBit hits q 0 * rowBit columns p e)
+
+pub record Eliminated (d n : ℕ) (wiring residues : List ℕ) (m : ℕ) (columns : List ℕ) : Type 0 where
+  pub rows : (row : ℕ → ℕ) (k : ℕ) → Masks row k d residues → Stores (n * d) (after (n * d) (graphCheck row k d n (edgeOf wiring)) m) columns
+
+pub record Solved (basis : List ℕ) (k d n : ℕ) (wiring columns : List ℕ) : Type 0 where
+  pub rows : (row : ℕ → ℕ) → basis ≡ withEchelon row k (replicate 11 0) → k ≤ 11
+      → Stores (n * d) (after (n * d) (graphCheck row k d n (edgeOf wiring)) (2 * (n * d))) columns
+
+pub record StoredPlan (sheet : List ℕ) (n : ℕ) (wiring : List ℕ) (N : ℕ) (columns : List ℕ) : Type 0 where
+  pub plan : planCheck sheet n wiring ≡ done []
+  pub edges : N ≡ n * degree sheet
+  pub short : N ≤ 512
+  pub stored : Stores N (finalState sheet n wiring) columns
+
+unfoldable pub liveBefore : List ℕ → ℕ → ℕ
+unfolding sum rowBit
+liveBefore columns j = sum j (λ i. rowBit columns i i)
+
+pub record Chosen (N : ℕ) (columns message chosen : List ℕ) : Type 0 where
+  pub inside : (p : ℕ) → p < N → rowBit chosen p 0 ≡ rowBit columns p p * bitAt message (liveBefore columns p)
+  pub past : (p : ℕ) → N ≤ p → p < 512 → rowBit chosen p 0 ≡ 0
+
+unfoldable pub columnParity : List ℕ → List ℕ → ℕ → ℕ
+unfolding parity rowBit
+columnParity chosen columns e = parity 512 (λ p. rowBit chosen p 0) (λ p. rowBit columns p e)
+
+pub record BitsPut (N : ℕ) (chosen columns l left : List ℕ) : Type 0 where
+  pub is : (x : ℕ) → ((e : ℕ) → e < N → digit x e ≡ columnParity chosen columns e) → left ≡ bitsPut x N l
+
+unfoldable pub bitsTaken : List ℕ → List ℕ → ℕ → List ℕ → List ℕ
+unfolding rowBit liveBefore withBit bitAt
+bitsTaken columns block zero l = l
+bitsTaken columns block (suc j) l =
+    cond (eqb (rowBit columns j j) 1) (withBit (bitsTaken columns block j l) (liveBefore columns j) (bitAt block j)) (bitsTaken columns block j l)

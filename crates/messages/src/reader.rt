@@ -1,0 +1,94 @@
+// The reader: the message that a codeword carries.
+use crate::columns::count_live;
+use crate::columns::row_bit;
+use crate::output::clear;
+use crate::solver::solve;
+use inner_code::Refusal;
+use inner_code::Sheet;
+use wiring::Located;
+use wiring::check_plan;
+use wiring::locate;
+ghost use mathlib.Core.Path.{_≡_};
+ghost use Prim.Native.Nat.{_≤_};
+ghost use lib.ListN.{length};
+ghost use Rattle.messages.specs.Message.{readAnswer, readOutput};
+ghost use Rattle.messages.specs.Columns.{bitsTaken};
+ghost use Rattle.messages.specs.Service.{takenReply, TakenRows};
+
+// The message is read, or the block is turned back.
+pub enum Taken {
+    Done,
+    Refused(Refusal),
+}
+
+// Writes the message that a codeword block carries, its bits at the message positions in rising order, to the front of `output`.
+// Refusals 1 to 10, 19, 11, 12, 22 and 13; a refusal writes nothing.
+pub fn read_block(sheet: &[u8], n: usize, wiring: &[u8], block: &[u8], output: &mut [u8]) -> Taken
+    ensures { λ r. ⌜ takenReply r ≡ readAnswer (now (sheet .entry)) n (now (wiring .entry)) (now (block .entry)) (now (output .entry)) ⌝ }
+    ensures { λ _. ⌜ now (output .exit) ≡ readOutput (now (sheet .entry)) n (now (wiring .entry)) (now (block .entry)) (now (output .entry)) ⌝ }
+{
+    let checked = check_plan(sheet, n, wiring);
+    let values = checked.sheet;
+    match values {
+        Sheet::Refused(r) => Taken::Refused(r),
+        Sheet::Accepted { d, k } => {
+            if 512 < n * d {
+                return Taken::Refused(Refusal {
+                    number: 19,
+                    place: 0,
+                });
+            }
+            match locate(sheet, n, wiring, block) {
+                Located::Refused(r) => Taken::Refused(r),
+                Located::At {
+                    right: _,
+                    vertex: _,
+                } => Taken::Refused(Refusal {
+                    number: 22,
+                    place: 0,
+                }),
+                Located::Nowhere => {
+                    let basis = checked.basis;
+                    let mut columns = [0u64; 4096];
+                    solve(&basis, k, d, n, wiring, &mut columns[..]);
+                    take_message(n * d, &columns[..], block, output)
+                }
+            }
+        }
+    }
+}
+
+// The reader's part once the rows of the plan are known and the block is a codeword.
+fn take_message(edges: usize, columns: &[u64], block: &[u8], output: &mut [u8]) -> Taken
+    requires { ⌜ edges ≤ 512 ⌝ }
+    requires { ⌜ length (now columns) ≡ 4096 ⌝ }
+    ensures { λ r. ⌜ TakenRows edges (now (columns .entry)) (now (block .entry)) (now (output .entry)) r (now (output .exit)) ⌝ }
+{
+    let bytes = (count_live(edges, columns) + 7) / 8;
+    if output.len() < bytes {
+        return Taken::Refused(Refusal {
+            number: 13,
+            place: 0,
+        });
+    }
+    clear(bytes, output);
+    take_bits(edges, columns, block, output);
+    Taken::Done
+}
+
+// Puts the block's bits at the rows left, in rising order, at the front of `output`.
+fn take_bits(edges: usize, columns: &[u64], block: &[u8], output: &mut [u8])
+    requires { ⌜ edges ≤ 512 ⌝ }
+    requires { ⌜ length (now columns) ≡ 4096 ⌝ }
+    ensures { λ _. ⌜ now (output .exit) ≡ bitsTaken (now (columns .entry)) (now (block .entry)) edges (now (output .entry)) ⌝ }
+{
+    let mut rank: usize = 0;
+    let mut p: usize = 0;
+    while p < edges {
+        if row_bit(columns, p, p) == 1 {
+            bits::put_bit(output, rank, bits::bit(block, p));
+            rank += 1;
+        }
+        p += 1;
+    }
+}

@@ -1,0 +1,149 @@
+// The rows that are left once every check of a plan has dropped its pivot.
+use crate::columns::add_column;
+use crate::columns::row_bit;
+use crate::columns::unit_columns;
+ghost use mathlib.Core.Path.{_≡_};
+ghost use Prim.Native.Nat.{_+_, _*_, _<_, _≤_};
+ghost use lib.ListN.{length};
+ghost use Rattle.wiring.specs.Wiring.{edgeOf};
+ghost use Rattle.wiring.specs.Block.{sideBit};
+ghost use Rattle.messages.specs.Columns.{noColumns, noRows, UnitResidues, Short, HitSet, lowestRow, Spread, Eliminated, Solved};
+
+// Finds the rows of an accepted plan of at most 512 edges: a row is left for each message position, and the others are 0.
+pub(crate) fn solve(
+    basis: &[u16; 11],
+    k: usize,
+    d: usize,
+    n: usize,
+    wiring: &[u8],
+    columns: &mut [u64],
+)
+    requires { ⌜ Short d n (now wiring) ⌝ }
+    requires { ⌜ now columns ≡ noColumns ⌝ }
+    ensures { λ _. ⌜ Solved (now (basis .entry)) k d n (now (wiring .entry)) (now (columns .exit)) ⌝ }
+{
+    let mut residues = [0u16; 16];
+    unit_residues(basis, k, d, &mut residues[..]);
+    unit_columns(n * d, columns);
+    eliminate(&residues[..], d, n, wiring, columns);
+}
+
+// What the basis leaves of each word with a single 1, that at edge i as entry i.
+fn unit_residues(basis: &[u16; 11], k: usize, d: usize, residues: &mut [u16])
+    requires { ⌜ d ≤ 16 ⌝ }
+    requires { ⌜ length (now residues) ≡ 16 ⌝ }
+    ensures { λ _. ⌜ UnitResidues (now (basis .entry)) k d (now (residues .exit)) ⌝ }
+{
+    let mut i: usize = 0;
+    while i < d {
+        residues[i] = inner_code::residue(basis, k, 1u16 << (d - 1 - i));
+        i += 1;
+    }
+}
+
+// All checks in order.
+fn eliminate(residues: &[u16], d: usize, n: usize, wiring: &[u8], columns: &mut [u64])
+    requires { ⌜ Short d n (now wiring) ⌝ }
+    requires { ⌜ length (now residues) ≡ 16 ⌝ }
+    requires { ⌜ length (now columns) ≡ 4096 ⌝ }
+    requires { ⌜ Eliminated d n (now wiring) (now residues) 0 (now columns) ⌝ }
+    ensures { λ _. ⌜ Eliminated d n (now (wiring .entry)) (now (residues .entry)) (2 * (n * d)) (now (columns .exit)) ⌝ }
+{
+    let checks = 2 * (n * d);
+    let mut m: usize = 0;
+    while m < checks {
+        put_check(m, residues, d, n, wiring, columns);
+        m += 1;
+    }
+}
+
+// One check: its pivot, the lowest row that fails it, is put on every row that fails, and so is 0 from then on.
+fn put_check(m: usize, residues: &[u16], d: usize, n: usize, wiring: &[u8], columns: &mut [u64])
+    requires { ⌜ m < 2 * (n * d) ⌝ }
+    requires { ⌜ Short d n (now wiring) ⌝ }
+    requires { ⌜ length (now residues) ≡ 16 ⌝ }
+    requires { ⌜ length (now columns) ≡ 4096 ⌝ }
+    requires { ⌜ Eliminated d n (now wiring) (now residues) m (now columns) ⌝ }
+    ensures { λ _. ⌜ Eliminated d n (now (wiring .entry)) (now (residues .entry)) (m + 1) (now (columns .exit)) ⌝ }
+{
+    let edges = n * d;
+    let mut hits = [0u64; 8];
+    find_hits(m, residues, d, n, wiring, columns, &mut hits[..]);
+    let pivot = lowest(edges, &hits[..]);
+    if pivot < edges {
+        spread(edges, pivot, &hits[..], columns);
+    }
+}
+
+// The rows that fail check m: digit m % d of what the reduction leaves at vertex m / d, the left side first.
+fn find_hits(
+    m: usize,
+    residues: &[u16],
+    d: usize,
+    n: usize,
+    wiring: &[u8],
+    columns: &[u64],
+    hits: &mut [u64],
+)
+    requires { ⌜ Short d n (now wiring) ⌝ }
+    requires { ⌜ length (now residues) ≡ 16 ⌝ }
+    requires { ⌜ length (now columns) ≡ 4096 ⌝ }
+    requires { ⌜ now hits ≡ noRows ⌝ }
+    ensures { λ _. ⌜ HitSet d n (now (wiring .entry)) (now (residues .entry)) m (now (columns .entry)) (now (hits .exit)) ⌝ }
+{
+    let vertex = m / d;
+    let right = n <= vertex;
+    let base = vertex % n * d;
+    let digit = m % d;
+    let mut i: usize = 0;
+    while i < d {
+        if (residues[i] >> digit) % 2 == 1 {
+            add_column(columns, bit_of(right, wiring, base + i), hits, 0);
+        }
+        i += 1;
+    }
+}
+
+// The bit of the block at entry i of a side.
+fn bit_of(right: bool, wiring: &[u8], i: usize) -> usize
+    requires { ⌜ 2 * i + 1 < length (now wiring) ⌝ }
+    ensures { λ r. ⌜ r ≡ sideBit right (edgeOf (now (wiring .entry))) i ⌝ }
+{
+    if right {
+        return bits::pair(wiring, 2 * i) as usize;
+    }
+    i
+}
+
+// The lowest row in a set, `edges` where none below it is.
+fn lowest(edges: usize, hits: &[u64]) -> usize
+    requires { ⌜ edges ≤ 512 ⌝ }
+    requires { ⌜ length (now hits) ≡ 8 ⌝ }
+    ensures { λ r. ⌜ r ≡ lowestRow (now (hits .entry)) edges ⌝ }
+{
+    let mut p: usize = 0;
+    while p < edges {
+        if row_bit(hits, p, 0) == 1 {
+            return p;
+        }
+        p += 1;
+    }
+    edges
+}
+
+// Puts row p on every row of a set.
+fn spread(edges: usize, p: usize, hits: &[u64], columns: &mut [u64])
+    requires { ⌜ edges ≤ 512 ⌝ }
+    requires { ⌜ p < edges ⌝ }
+    requires { ⌜ length (now hits) ≡ 8 ⌝ }
+    requires { ⌜ length (now columns) ≡ 4096 ⌝ }
+    ensures { λ _. ⌜ Spread edges p (now (hits .entry)) (now (columns .entry)) (now (columns .exit)) ⌝ }
+{
+    let mut e: usize = 0;
+    while e < edges {
+        if row_bit(columns, p, e) == 1 {
+            add_column(hits, 0, columns, e);
+        }
+        e += 1;
+    }
+}
