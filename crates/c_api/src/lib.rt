@@ -1,0 +1,186 @@
+// The services as a C host calls them: numbers and byte slices in, one small struct out by value. A slice is a pointer and a length in C;
+// include/lembikat.h is the other side. Nothing is kept between calls.
+use decoder::Decoded;
+use decoder::Reported;
+use inner_code::Nearest;
+use inner_code::Refusal;
+use messages::Encoded;
+use messages::Taken;
+use radius::Margin;
+use radius::Spread;
+use wiring::Located;
+ghost use mathlib.Core.Path.{_≡_};
+ghost use Rattle.inner_code.specs.Sheet.{nearestAnswer};
+ghost use Rattle.wiring.specs.Answer.{locateAnswer};
+ghost use Rattle.decoder.specs.Decode.{decodeAnswer, decodeOutput};
+ghost use Rattle.decoder.specs.Report.{reportAnswer, reportList};
+ghost use Rattle.radius.specs.Answer.{spreadAnswer, marginAnswer};
+ghost use Rattle.messages.specs.Message.{encodeAnswer, encodeOutput, readAnswer, readOutput};
+ghost use Rattle.c_api.specs.Answers.{doneWith, refusedWith, told, toldPlace};
+
+// What every call answers. Number 0: the call is done, and `value` is its value. Any other number is the paper's refusal, and `place` the
+// row or entry at fault. The locator alone uses both fields of a call that is done: `place` is 0 for none, 1 for left and 2 for right, and
+// `value` the vertex.
+#[repr(C)]
+pub struct Answer {
+    pub number: u32,
+    pub place: u32,
+    pub value: u64,
+}
+
+// The nearest codeword of a word. Refusals 1 to 6 and 12.
+#[no_mangle]
+pub extern "C" fn lembikat_nearest_word(sheet: &[u8], word: u64) -> Answer
+    ensures { λ r. ⌜ r ≡ told (nearestAnswer (now (sheet .entry)) word) ⌝ }
+{
+    match inner_code::nearest_word(sheet, word) {
+        Nearest::Word(nearest) => done(nearest),
+        Nearest::Refused(r) => refused(r),
+    }
+}
+
+// The first unsatisfied vertex of a block, the left side before the right, the lowest number first. Refusals 1 to 12.
+#[no_mangle]
+pub extern "C" fn lembikat_locate(sheet: &[u8], n: usize, wiring: &[u8], block: &[u8]) -> Answer
+    ensures { λ r. ⌜ r ≡ toldPlace (locateAnswer (now (sheet .entry)) n (now (wiring .entry)) (now (block .entry))) ⌝ }
+{
+    match wiring::locate(sheet, n, wiring, block) {
+        Located::Nowhere => done(0),
+        Located::At { right, vertex } => {
+            if right {
+                return Answer {
+                    number: 0,
+                    place: 2,
+                    value: vertex as u64,
+                };
+            }
+            Answer {
+                number: 0,
+                place: 1,
+                value: vertex as u64,
+            }
+        }
+        Located::Refused(r) => refused(r),
+    }
+}
+
+// Decodes a received block into the front of `output`; the value is the number of sweeps. Refusals 1 to 15; with 15 the front of `output`
+// holds the received block, and no other refusal writes a byte.
+#[no_mangle]
+pub extern "C" fn lembikat_decode(
+    sheet: &[u8],
+    n: usize,
+    wiring: &[u8],
+    received: &[u8],
+    output: &mut [u8],
+    limit: usize,
+) -> Answer
+    ensures { λ r. ⌜ r ≡ told (decodeAnswer (now (sheet .entry)) n (now (wiring .entry)) (now (received .entry)) (now (output .entry)) limit) ⌝ }
+    ensures { λ _. ⌜ now (output .exit) ≡ decodeOutput (now (sheet .entry)) n (now (wiring .entry)) (now (received .entry)) (now (output .entry)) limit ⌝ }
+{
+    match decoder::decode(sheet, n, wiring, received, output, limit) {
+        Decoded::Settled(sweeps) => done(sweeps as u64),
+        Decoded::Refused(r) => refused(r),
+    }
+}
+
+// Lists the runs of bits at which a received and a settled block differ; the value is their number. Refusals 1 to 12 and 16; a refusal
+// writes nothing.
+#[no_mangle]
+pub extern "C" fn lembikat_report(
+    sheet: &[u8],
+    n: usize,
+    wiring: &[u8],
+    received: &[u8],
+    settled: &[u8],
+    list: &mut [u8],
+) -> Answer
+    ensures { λ r. ⌜ r ≡ told (reportAnswer (now (sheet .entry)) n (now (wiring .entry)) (now (received .entry)) (now (settled .entry)) (now (list .entry))) ⌝ }
+    ensures { λ _. ⌜ now (list .exit) ≡ reportList (now (sheet .entry)) n (now (wiring .entry)) (now (received .entry)) (now (settled .entry)) (now (list .entry)) ⌝ }
+{
+    match decoder::report_runs(sheet, n, wiring, received, settled, list) {
+        Reported::Pairs(pairs) => done(pairs as u64),
+        Reported::Refused(r) => refused(r),
+    }
+}
+
+// The spread of a plan. Refusals 1 to 10.
+#[no_mangle]
+pub extern "C" fn lembikat_spread(sheet: &[u8], n: usize, wiring: &[u8]) -> Answer
+    ensures { λ r. ⌜ r ≡ told (spreadAnswer (now (sheet .entry)) n (now (wiring .entry))) ⌝ }
+{
+    match radius::plan_spread(sheet, n, wiring) {
+        Spread::Value(spread) => done(spread),
+        Spread::Refused(r) => refused(r),
+    }
+}
+
+// The sweeps within which so many flipped bits are mended, whichever they are. Refusals 1 to 10, 17 and 18.
+#[no_mangle]
+pub extern "C" fn lembikat_margin(sheet: &[u8], n: usize, wiring: &[u8], flips: u64) -> Answer
+    ensures { λ r. ⌜ r ≡ told (marginAnswer (now (sheet .entry)) n (now (wiring .entry)) flips) ⌝ }
+{
+    match radius::margin_sweeps(sheet, n, wiring, flips) {
+        Margin::Sweeps(sweeps) => done(sweeps),
+        Margin::Refused(r) => refused(r),
+    }
+}
+
+// Writes the codeword that carries a message to the front of `output`. Refusals 1 to 10, 19, 20, 21 and 13; a refusal writes nothing.
+#[no_mangle]
+pub extern "C" fn lembikat_encode(
+    sheet: &[u8],
+    n: usize,
+    wiring: &[u8],
+    message: &[u8],
+    output: &mut [u8],
+) -> Answer
+    ensures { λ r. ⌜ r ≡ told (encodeAnswer (now (sheet .entry)) n (now (wiring .entry)) (now (message .entry)) (now (output .entry))) ⌝ }
+    ensures { λ _. ⌜ now (output .exit) ≡ encodeOutput (now (sheet .entry)) n (now (wiring .entry)) (now (message .entry)) (now (output .entry)) ⌝ }
+{
+    match messages::encode(sheet, n, wiring, message, output) {
+        Encoded::Done => done(0),
+        Encoded::Refused(r) => refused(r),
+    }
+}
+
+// Writes the message that a codeword block carries to the front of `output`. Refusals 1 to 10, 19, 11, 12, 22 and 13; a refusal writes
+// nothing.
+#[no_mangle]
+pub extern "C" fn lembikat_read(
+    sheet: &[u8],
+    n: usize,
+    wiring: &[u8],
+    block: &[u8],
+    output: &mut [u8],
+) -> Answer
+    ensures { λ r. ⌜ r ≡ told (readAnswer (now (sheet .entry)) n (now (wiring .entry)) (now (block .entry)) (now (output .entry))) ⌝ }
+    ensures { λ _. ⌜ now (output .exit) ≡ readOutput (now (sheet .entry)) n (now (wiring .entry)) (now (block .entry)) (now (output .entry)) ⌝ }
+{
+    match messages::read_block(sheet, n, wiring, block, output) {
+        Taken::Done => done(0),
+        Taken::Refused(r) => refused(r),
+    }
+}
+
+// The answer of a call that is done.
+fn done(value: u64) -> Answer
+    ensures { λ r. ⌜ r ≡ doneWith value ⌝ }
+{
+    Answer {
+        number: 0,
+        place: 0,
+        value,
+    }
+}
+
+// The answer of a call that is turned back.
+fn refused(r: Refusal) -> Answer
+    ensures { λ a. ⌜ a ≡ refusedWith (r .number) (r .place) ⌝ }
+{
+    Answer {
+        number: r.number,
+        place: r.place,
+        value: 0,
+    }
+}
