@@ -1,11 +1,75 @@
-# make run    proves, builds and runs the main job on the built-in plan
-# make test   the gate: every proof, every wrong program refused, every stored run
-.PHONY: run test
-run:
-	rt check
+# make run       proves and builds everything, writes the built-in square plan's margin sheet and carries a caption over a simulated link
+# make test      the gate: every proof, every wrong program refused, every stored run, the C host's tests
+# make bench     the decoder and the encoder beside plain C
+# make install   the library, its header and pkg-config file, the program margin and its man page, below PREFIX
+# make uninstall takes them away again
+PREFIX = /usr/local
+DESTDIR =
+CC = gcc
+CFLAGS = -std=c11 -Wall -Wextra -Werror -O2
+SANITIZED = -std=c11 -Wall -Wextra -Werror -O1 -g -fsanitize=address,undefined -fno-sanitize-recover=all
+
+BUILD = target/host
+LIBRARY = $(BUILD)/liblembikat.a
+SOURCES = crates.txt $(shell find crates -name '*.rt' -o -name '*.antt')
+AT = $(DESTDIR)$(PREFIX)
+
+.PHONY: run test bench host install uninstall clean
+
+run: target/bin/margin $(BUILD)/caption_link
+	@echo
 	@echo "the margin sheet of the square plan with the house code:"
 	@target/bin/margin <tests/square-plan.bin
-	@printf '\007\052\077' | target/bin/restored && echo "restored: three flipped bits were mended"
+	@echo
+	@$(BUILD)/caption_link
 
 test:
 	bash .ci/run
+
+# the C host's programs
+host: $(BUILD)/caption_link $(BUILD)/test_vectors $(BUILD)/test_stack $(BUILD)/bench
+
+bench: $(BUILD)/bench
+	$(BUILD)/bench
+
+# Every crate is proved before anything is built from it.
+target/bin/margin: $(SOURCES)
+	rt check
+	@touch $@
+
+$(LIBRARY): $(SOURCES)
+	rt staticlib c_api
+	mkdir -p $(BUILD)
+	cp target/staticlib/libc_api.a $@
+
+$(BUILD)/caption_link: host/caption_link.c include/lembikat.h $(LIBRARY)
+	$(CC) $(CFLAGS) -Iinclude host/caption_link.c $(LIBRARY) -o $@
+
+$(BUILD)/test_vectors: host/test_vectors.c host/reference.c host/reference.h include/lembikat.h $(LIBRARY)
+	$(CC) $(SANITIZED) -Iinclude host/test_vectors.c host/reference.c $(LIBRARY) -o $@
+
+$(BUILD)/test_stack: host/test_stack.c include/lembikat.h $(LIBRARY)
+	$(CC) $(CFLAGS) -Iinclude -pthread host/test_stack.c $(LIBRARY) -o $@
+
+# The baseline is compiled apart from its callers, as the library is.
+$(BUILD)/plain.o: bench/plain.c bench/plain.h
+	mkdir -p $(BUILD)
+	$(CC) -std=c11 -Wall -Wextra -Werror -O3 -c bench/plain.c -o $@
+
+$(BUILD)/bench: bench/bench.c bench/plain.h include/lembikat.h $(BUILD)/plain.o $(LIBRARY)
+	$(CC) $(CFLAGS) -Iinclude bench/bench.c $(BUILD)/plain.o $(LIBRARY) -o $@
+
+install: $(LIBRARY) target/bin/margin
+	install -d $(AT)/lib/pkgconfig $(AT)/include $(AT)/bin $(AT)/share/man/man1
+	install -m 644 $(LIBRARY) $(AT)/lib/liblembikat.a
+	install -m 644 include/lembikat.h $(AT)/include/lembikat.h
+	sed 's|@PREFIX@|$(PREFIX)|' lembikat.pc.in >$(AT)/lib/pkgconfig/lembikat.pc
+	chmod 644 $(AT)/lib/pkgconfig/lembikat.pc
+	install -m 755 target/bin/margin $(AT)/bin/margin
+	install -m 644 man/margin.1 $(AT)/share/man/man1/margin.1
+
+uninstall:
+	rm -f $(AT)/lib/liblembikat.a $(AT)/include/lembikat.h $(AT)/lib/pkgconfig/lembikat.pc $(AT)/bin/margin $(AT)/share/man/man1/margin.1
+
+clean:
+	rm -rf target

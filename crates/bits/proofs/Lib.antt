@@ -2,3 +2,5 @@ pub mod Sums
 pub mod Xor
 pub mod Words
 pub mod Bytes
+pub mod Windows
+pub mod Fronts

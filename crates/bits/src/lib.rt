@@ -1,7 +1,7 @@
 // Bits of byte strings and two-byte numbers, with the laws that every other crate cites.
 ghost use mathlib.Core.Path.{_≡_};
-ghost use Prim.Native.Nat.{_%_};
-ghost use Rattle.bits.specs.Bit.{bitAt, withBit, pairAt};
+ghost use Prim.Native.Nat.{_%_, _<_, _≤_, min};
+ghost use Rattle.bits.specs.Bit.{at, bitAt, withBit, pairAt, wordAt};
 
 // Bit i of a byte string, 0 past its end. Bit 0 has weight 128 in byte 0.
 pub fn bit(bytes: &[u8], i: usize) -> u64
@@ -38,4 +38,37 @@ pub fn pair(bytes: &[u8], at: usize) -> u16
         return high;
     }
     high + (bytes[at + 1] as u16)
+}
+
+// The number that the d bits from bit i on make, bit i of the highest weight. Past the end bits are 0, and a d above 16 counts as 16.
+pub fn word_at(bytes: &[u8], i: usize, d: usize) -> u16
+    ensures { λ r. ⌜ r ≡ wordAt (now (bytes .entry)) i (min d 16) ⌝ }
+{
+    if 16 < d {
+        return cut(bytes, i, 16);
+    }
+    cut(bytes, i, d)
+}
+
+// The d bits from bit i on, out of the three bytes that hold them.
+fn cut(bytes: &[u8], i: usize, d: usize) -> u16
+    requires { ⌜ d ≤ 16 ⌝ }
+    ensures { λ r. ⌜ r ≡ wordAt (now (bytes .entry)) i d ⌝ }
+{
+    let first = i / 8;
+    let high = byte(bytes, first) * 65536;
+    let middle = byte(bytes, first + 1) * 256;
+    let low = byte(bytes, first + 2);
+    let window = high + middle + low;
+    ((window >> (24 - i % 8 - d)) % (1u32 << d)) as u16
+}
+
+// Byte i of a byte string, 0 past its end.
+fn byte(bytes: &[u8], i: usize) -> u32
+    ensures { λ r. ⌜ (r ≡ at (now (bytes .entry)) i) × (r < 256) ⌝ }
+{
+    if bytes.len() <= i {
+        return 0;
+    }
+    bytes[i] as u32
 }

@@ -13,11 +13,12 @@ use native.Mathlib.Numerals.{add-one}
 use native.Mathlib.Omega.{arith}
 use lib.ListN.{length, getD, set, take, drop}
 use lib.Seq.{length-take-le, take-all, take-suc, drop-cons, set-at, append-snoc, take-append-seam, drop-append-seam}
+use Rattle.bits.specs.Bit.{written}
 use Rattle.inner_code.specs.Reply.{done, refused}
 use Rattle.inner_code.specs.Sheet.{degree}
 use Rattle.wiring.specs.Block.{blockBytes}
 use Rattle.wiring.proofs.Blocks.{block-sized}
-use Rattle.decoder.specs.Decode.{written, sweptBlock, settlesAt, decodeAnswer, decodeOutput}
+use Rattle.decoder.specs.Decode.{sweptBlock, settlesAt, decodeAnswer, decodeOutput}
 use Rattle.decoder.specs.Mending.{Prepared}
 use Rattle.decoder.proofs.Settling.{decode-unsettled, decode-settled}
 

@@ -22,7 +22,7 @@ use native.Mathlib.Omega.{arith}
 use lib.ListN.{length, getD, set, length-append}
 use lib.Seq.{sets, sets-eq, take-append-seam, drop-append-add, drop-drop}
 use borrow.Author.Tests.{eq-eqb, ne-eqb}
-use Rattle.bits.specs.Bit.{bitAt}
+use Rattle.bits.specs.Bit.{bitAt, written}
 use Rattle.inner_code.specs.Reply.{Reply, done, refused}
 use Rattle.inner_code.specs.Sheet.{degree}
 use Rattle.inner_code.specs.declared.sheet.CheckedSheet.{CheckedSheet}
@@ -31,10 +31,9 @@ use Rattle.wiring.specs.Block.{blockBytes, blockCheck}
 use Rattle.wiring.proofs.Permutation.{edges-le}
 use Rattle.wiring.proofs.Plans.{PlanAccepted}
 use Rattle.wiring.proofs.Blocks.{block-sized}
-use Rattle.decoder.specs.Decode.{written}
 use Rattle.decoder.specs.Report.{differsAt, runStart, endsAt, runCount, pairBytes, runBytes, reportAnswer, reportList}
 use Rattle.decoder.specs.Agreement.{Held, Agreeing}
-use Rattle.decoder.proofs.Settling.{length-written}
+use Rattle.bits.proofs.Fronts.{length-written}
 use Rattle.decoder.proofs.Runs.{start-one-more-outside, ends-back, ends-inside, ends-empty, runCount-one-more-ends, runCount-one-more-none, runBytes-one-more-ends, runBytes-one-more-none, runCount-mono, length-runBytes, differs-bits, Reported, report-plan, report-received, report-settled-block, report-short, report-done}
 
 -- ---- what two blocks say of a stretch
@@ -135,10 +134,6 @@ stored-pair l at a b =
     let third : at + 2 ≡ suc (suc at) = omega arith in
     let fourth : at + 3 ≡ suc (suc (suc at)) = omega arith in
     rw (second, third, fourth)
-
-pub written-none : (l : List ℕ) → written [] l ≡ l
-unfolding written
-written-none l = refl
 
 -- what is stored behind the front joins it
 pub written-more : (front piece l : List ℕ) → length front + length piece ≤ length l

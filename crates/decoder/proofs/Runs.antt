@@ -27,7 +27,7 @@ use lib.Bits.{bitXor, xor-zero-r}
 use lib.Dec.{ltb, leb, eqb}
 use lib.ListN.{length, getD, length-append}
 use borrow.Author.Tests.{ltb-true, lt-ltb, le-ltb, leb-true, le-leb, eqb-true, eqb-false, eq-eqb, not-true}
-use Rattle.bits.specs.Bit.{bitAt}
+use Rattle.bits.specs.Bit.{bitAt, written}
 use Rattle.bits.specs.Sum.{flag}
 use Rattle.bits.proofs.Sums.{sum-one-more, sum-append, flag-true, flag-false}
 use Rattle.bits.proofs.Xor.{xor-bits-parity}
@@ -40,7 +40,6 @@ use Rattle.inner_code.proofs.Replies.{refuse-taken, refuse-passed, andThen-pass
 use Rattle.wiring.specs.Wiring.{planCheck}
 use Rattle.wiring.specs.Block.{blockCheck}
 use Rattle.wiring.proofs.Blocks.{block-clear}
-use Rattle.decoder.specs.Decode.{written}
 use Rattle.decoder.specs.Report.{differsAt, runStart, endsAt, runCount, pairBytes, runBytes, reportAnswer, listFor, reportList}
 
 holds-or-not : (b : Bool) → (b ≡ true) ⊎ (b ≡ false)

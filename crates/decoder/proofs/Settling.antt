@@ -22,6 +22,7 @@ use lib.Dec.{ltb, leb, eqb}
 use lib.ListN.{length, getD, drop, length-append, length-drop, List·getD-append}
 use lib.Seq.{getD-append-add, getD-drop}
 use borrow.Author.Tests.{lt-ltb, le-ltb, ne-eqb, not-true, not-false}
+use Rattle.bits.specs.Bit.{written}
 use Rattle.inner_code.specs.Reply.{Reply, done, refused, refuseIf, andThen}
 use Rattle.inner_code.specs.Code.{someBelow, isCodeword, nearestWord}
 use Rattle.inner_code.specs.Sheet.{degree, rowCount, rowOf, rowsCheck, sheetCheck}
@@ -33,7 +34,7 @@ use Rattle.wiring.specs.Search.{firstFailing}
 use Rattle.wiring.specs.Block.{blockBytes, blockCheck, isCodewordBlock}
 use Rattle.wiring.proofs.Searches.{first-at, first-all, first-failed, first-passed}
 use Rattle.wiring.proofs.Blocks.{strayBit}
-use Rattle.decoder.specs.Decode.{sweptBlock, settlesAt, decodeAnswer, decodeOutput, outputFor, written}
+use Rattle.decoder.specs.Decode.{sweptBlock, settlesAt, decodeAnswer, decodeOutput, outputFor}
 use Rattle.decoder.proofs.Sweeping.{after-stays}
 
 -- ---- the numbers of refusals
@@ -157,22 +158,6 @@ module _ (sheet : List ℕ) (n : ℕ) (wiring block : List ℕ) where
       let later : i + (j - i) ≡ j = omega arith in
       rw later at (after-stays (rowOf sheet) (rowCount sheet) _ (map-fixed s) (edgeOf wiring) (degree sheet) n i (j - i) block
       (settles-codeword H i refl l))
-
--- ---- a list with another at its beginning
-
-pub length-written : (front l : List ℕ) → length front ≤ length l → length (written front l) ≡ length l
-unfolding written
-length-written front l h = simp (length-append, length-drop) (omega arith)
-
-pub written-front : (front l : List ℕ) (i : ℕ) → i < length front → getD (written front l) i 0 ≡ getD front i 0
-unfolding written
-written-front front l i h = List·getD-append front _ 0 i h
-
-pub written-beyond : (front l : List ℕ) (i : ℕ) → length front ≤ i → getD (written front l) i 0 ≡ getD l i 0
-unfolding written
-written-beyond front l i h =
-    let past : length front + (i - length front) ≡ i = omega arith in
-    rw past at (getD-append-add front (drop (length front) l) (i - length front) 0 ∙ getD-drop (length front) l (i - length front) 0)
 
 -- ---- what the decoder answers and leaves
 

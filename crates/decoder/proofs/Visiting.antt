@@ -5,12 +5,14 @@
 --   changedBy map bit d m block     how many of the vertices 0 .. m - 1 of a side it does so at (specs Mending)
 --   Visits map bit d before v changed block  after the visit of vertices 0 .. v - 1 the block is `block`, and `changed` of them changed
 -- Laws are named by their subject, then by the fact: `changed-` is about the number of changed vertices, `visit-` about one vertex, `visits-`
--- about all vertices so far: none (-none), one more that is written (-changed) or not (-kept), all (-sweep).
-use Prim.Native.Nat.{ℕ, _+_, _*_, _≤_, _<_}
+-- about all vertices so far: none (-none), one more that is written (-changed) or not (-kept), some that are passed over (-passed), all
+-- (-sweep). `passed-` is about the vertices that are passed over.
+use Prim.Native.Nat.{ℕ, zero, suc, _+_, _-_, _*_, _≤_, _<_}
 use mathlib.Core.Bool.{Bool, true, false, not}
 use mathlib.Core.List.{List}
 use mathlib.Core.Path.{_≡_, refl, sym, ap, ap₂, _∙_}
-use native.Mathlib.Nat.{le-refl}
+use native.Mathlib.Nat.{le-refl, add-zero}
+use native.Mathlib.Decide.{ℕ-discrete}
 use native.Mathlib.Omega.{arith}
 use borrow.Author.Tests.{eqb-true, eq-eqb, ne-eqb, not-false}
 use Rattle.bits.specs.Sum.{flag}
@@ -21,7 +23,7 @@ use Rattle.wiring.specs.Access.{readWord, writtenWord}
 use Rattle.wiring.proofs.Permutation.{Wired, side-once}
 use Rattle.wiring.proofs.VertexAccess.{read-inside, write-inside}
 use Rattle.decoder.specs.Sweep.{visited, sweep}
-use Rattle.decoder.specs.Mending.{changes, changedBy}
+use Rattle.decoder.specs.Mending.{mendedBy, changes, changedBy, PassedOver}
 use Rattle.decoder.proofs.Sweeping.{visited-one-more, visited-skip, visited-later}
 
 -- ---- how many vertices change
@@ -114,3 +116,41 @@ module _ {map : ℕ → ℕ} (edge : ℕ → ℕ) {d n : ℕ} (right : Bool) {be
     all .counted ∙ ap (λ (m : ℕ). changedBy map (sideBit right edge) d m before) end,
     all .swept ∙ ap (λ (m : ℕ). visited map (sideBit right edge) d m before) end,
   )
+
+-- ---- vertices that are passed over
+
+module _ {right : Bool} {wiring : List ℕ} {d n : ℕ} {near basis : List ℕ} {k : ℕ} {block : List ℕ} {from : ℕ} where
+  pub passed-none : from ≤ n → PassedOver right wiring d n near basis k block from from
+  passed-none h = record { after = le-refl from; within = h; stay = λ words v a b. absurd (omega arith) }
+
+  pub passed-more : {v word : ℕ} → PassedOver right wiring d n near basis k block from v → v < n → word ≡ readWord right wiring d block v
+      → ((words : List ℕ) → mendedBy near basis k words word ≡ word) → PassedOver right wiring d n near basis k block from (v + 1)
+  passed-more {v} {word} so-far below read here = record { after = omega (arith, so-far .after); within = omega arith; stay = go }
+    where
+      go : (words : List ℕ) (u : ℕ) → from ≤ u → u < v + 1 → mendedBy near basis k words (readWord right wiring d block u) ≡ readWord right wiring d block u
+      go words u low high =
+          elim (ℕ-discrete u v) [
+            | yes e ↦
+                rw e (ap (mendedBy near basis k words) (sym read) ∙ here words ∙ read)
+            | no other ↦ so-far .stay words u low (omega arith)
+          ]
+
+-- passing them over is visiting them
+pub visits-passed : {d n : ℕ} {wiring : List ℕ} (w : Wired d n wiring) (narrow : d ≤ 16) (right : Bool) (words : List ℕ) {near basis : List ℕ} {k : ℕ} {before block : List ℕ}
+    {v to changed : ℕ} → Visits (mendedBy near basis k words) (sideBit right (edgeOf wiring)) d before v changed block
+    → PassedOver right wiring d n near basis k block v to → Visits (mendedBy near basis k words) (sideBit right (edgeOf wiring)) d before to changed block
+visits-passed {d} {n} {wiring} w narrow right words {near} {basis} {k} {before} {block} {v} {to} {changed} so-far passed =
+    rw (sum-back v to (passed .after)) at (go (to - v) (omega (arith, passed .after)))
+  where
+    sum-back : (a b : ℕ) → a ≤ b → a + (b - a) ≡ b
+    sum-back a b h = omega arith
+
+    next : (a b : ℕ) → a + suc b ≡ a + b + 1
+    next a b = omega arith
+
+    go : (m : ℕ) → v + m ≤ to → Visits (mendedBy near basis k words) (sideBit right (edgeOf wiring)) d before (v + m) changed block
+    go zero h = rw (add-zero v) so-far
+    go (suc m) h =
+        let last = visits-kept w narrow right (omega (arith, passed .within)) (go m (omega arith)) {word = readWord right wiring d block (v + m)} refl refl
+        (passed .stay words (v + m) (omega arith) (omega arith)) refl refl in
+        rw (next v m) last

@@ -3,12 +3,12 @@
 --   settlesAt sheet n wiring block H    the first count from 0 to H after which the block is a codeword; H + 1 where none is
 --   decodeAnswer ..                     the answer: 1 to 12, 13, 14, 15, or the sweep count
 --   decodeOutput ..                     the output at exit: the settled block, with 15 the received block, and else nothing new
---   written front l                     the list l with `front` at its beginning
 use Prim.Native.Nat.{ℕ, _+_, _*_}
 use mathlib.Core.List.{List, [], _∷_, _++_}
 use mathlib.Core.Bool.{not, cond}
 use lib.ListN.{length, drop}
 use lib.Dec.{ltb, eqb}
+use Rattle.bits.specs.Bit.{written}
 use Rattle.inner_code.specs.Reply.{Reply, done, refused, refuseIf, andThen}
 use Rattle.inner_code.specs.Code.{nearestWord}
 use Rattle.inner_code.specs.Sheet.{degree, rowCount, rowOf}
@@ -37,9 +37,6 @@ decodeAnswer sheet n wiring received output H =
     (refuseIf (ltb 4096 H) 14 0
     (refuseIf (ltb H (settlesAt sheet n wiring received H)) 15 0
     (done (settlesAt sheet n wiring received H ∷ []))))))
-
-unfoldable pub written : List ℕ → List ℕ → List ℕ
-written front l = front ++ drop (length front) l
 
 -- the block that an answer leaves in the output
 unfoldable pub outputFor : Reply → List ℕ → ℕ → List ℕ → List ℕ → List ℕ → List ℕ

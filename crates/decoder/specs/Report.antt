@@ -11,13 +11,12 @@ use mathlib.Core.List.{List, [], _∷_, _++_}
 use mathlib.Core.Bool.{Bool, true, false, not, cond, _&&_}
 use lib.ListN.{length, drop}
 use lib.Dec.{ltb, eqb}
-use Rattle.bits.specs.Bit.{bitAt}
+use Rattle.bits.specs.Bit.{bitAt, written}
 use Rattle.bits.specs.Sum.{sum, flag}
 use Rattle.inner_code.specs.Reply.{Reply, done, refused, refuseIf, andThen}
 use Rattle.inner_code.specs.Sheet.{degree}
 use Rattle.wiring.specs.Wiring.{planCheck}
 use Rattle.wiring.specs.Block.{blockCheck}
-use Rattle.decoder.specs.Decode.{written}
 
 unfoldable pub differsAt : List ℕ → List ℕ → ℕ → Bool
 unfolding bitAt

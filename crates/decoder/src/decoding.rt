@@ -6,7 +6,8 @@ use wiring::Checked;
 ghost use mathlib.Core.Path.{_≡_};
 ghost use Prim.Native.Nat.{_≤_};
 ghost use lib.ListN.{length};
-ghost use Rattle.decoder.specs.Decode.{written, decodeAnswer, decodeOutput};
+ghost use Rattle.bits.specs.Bit.{written};
+ghost use Rattle.decoder.specs.Decode.{decodeAnswer, decodeOutput};
 ghost use Rattle.decoder.specs.Answer.{decodeReply};
 ghost use Rattle.decoder.specs.Mending.{Prepared};
 

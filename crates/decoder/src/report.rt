@@ -6,7 +6,7 @@ ghost use mathlib.Core.Path.{_≡_};
 ghost use Prim.Native.Nat.{_+_, _*_, _≤_, _<_};
 ghost use lib.ListN.{length};
 ghost use lib.Seq.{sets};
-ghost use Rattle.decoder.specs.Decode.{written};
+ghost use Rattle.bits.specs.Bit.{written};
 ghost use Rattle.decoder.specs.Report.{differsAt, runCount, pairBytes, runBytes, reportAnswer, reportList};
 ghost use Rattle.decoder.specs.ReportAnswer.{reportReply};
 ghost use Rattle.decoder.specs.Agreement.{Held, Agreeing};

@@ -35,8 +35,31 @@ pub fn settle(
     }
     let near = &table[0..tabled];
     let words = &list[0..listed];
-    let first = sweep_side(false, wiring, d, n, near, basis, k, words, block);
-    let second = sweep_side(true, wiring, d, n, near, basis, k, words, block);
+    let mut leaders = [0u32; 512];
+    let first = sweep_side(
+        false,
+        wiring,
+        d,
+        n,
+        near,
+        basis,
+        k,
+        words,
+        &mut leaders,
+        block,
+    );
+    let second = sweep_side(
+        true,
+        wiring,
+        d,
+        n,
+        near,
+        basis,
+        k,
+        words,
+        &mut leaders,
+        block,
+    );
     if second == 0 {
         if first == 0 {
             return 0;
@@ -46,7 +69,18 @@ pub fn settle(
     let mut right = false;
     let mut count = 2;
     while count <= limit {
-        let changed = sweep_side(right, wiring, d, n, near, basis, k, words, block);
+        let changed = sweep_side(
+            right,
+            wiring,
+            d,
+            n,
+            near,
+            basis,
+            k,
+            words,
+            &mut leaders,
+            block,
+        );
         if changed == 0 {
             return count;
         }

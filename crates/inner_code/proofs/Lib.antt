@@ -2,6 +2,7 @@ pub mod Least
 pub mod Combinations
 pub mod InnerDistance
 pub mod NearestWord
+pub mod Cosets
 pub mod EchelonForm
 pub mod Replies
 pub mod Listings

@@ -2,7 +2,7 @@
 use mathlib.Core.Path.{_≡_, refl}
 use mathlib.Core.Bool.{true}
 use lib.Count.{ones, onesIn}
-use Rattle.bits.specs.Bit.{digit, word, bitAt, putDigit, withBit, pairAt}
+use Rattle.bits.specs.Bit.{digit, word, bitAt, putDigit, withBit, pairAt, written}
 use Rattle.bits.specs.Sum.{sum, gap, flag}
 use Rattle.inner_code.specs.Reply.{refuseIf, andThen}
 use Rattle.inner_code.specs.Code.{combination, least, someBelow, isCodeword, onesUnlessZero, fewestOnes, distance, key, noKey, keyWhere, nearestPattern, nearestWord}
@@ -12,7 +12,7 @@ use Rattle.wiring.specs.Search.{firstFailing}
 use Rattle.wiring.specs.Wiring.{edgeOf, entryCheck, entriesCheck, wiringCheck, planCheck, edgesBetween}
 use Rattle.wiring.specs.Block.{blockBytes, blockCheck, sideBit, vertexWord, scattered, satisfied, firstUnsatisfied, isCodewordBlock}
 use Rattle.decoder.specs.Sweep.{visited, sweep, rightTurn, afterSweeps}
-use Rattle.decoder.specs.Decode.{sweptBlock, settlesAt, decodeAnswer, written, outputFor, decodeOutput}
+use Rattle.decoder.specs.Decode.{sweptBlock, settlesAt, decodeAnswer, outputFor, decodeOutput}
 use Rattle.radius.specs.Spread.{meeting, unevenness, largest, spread}
 use Rattle.radius.specs.Margin.{slack, stepCovered, nextBound, oneMore, chainSweeps, sweepsNamed}
 use Rattle.radius.specs.Answer.{distanceOf, spreadOf, marginOf, marginAnswer}

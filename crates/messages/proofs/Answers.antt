@@ -1,7 +1,7 @@
 -- What the encoder and the reader answer and leave in their output, outcome by outcome in the order of the table.
 --   encodeAnswer, encodeOutput   what the encoder answers, and its output at exit (specs Message)
 --   readAnswer, readOutput       what the reader answers, and its output at exit (specs Message)
---   fronted front l              the list l with `front` at its beginning (specs Message)
+--   written front l              the list l with `front` at its beginning (bits specs Bit)
 --   Encoded .. reply left        the encoder answers `reply` and leaves `left`
 --   Read .. reply left           the reader answers `reply` and leaves `left`
 -- Laws are named by the service, then by the outcome: -plan (1 to 10), -long (19), -message (20, 21) or -block (11, 12), -stranger (22),
@@ -14,6 +14,7 @@ use mathlib.Core.Path.{_≡_, refl, ap, _∙_}
 use lib.Dec.{ltb, eqb}
 use lib.ListN.{length}
 use borrow.Author.Tests.{lt-ltb, le-ltb, eq-eqb, ne-eqb}
+use Rattle.bits.specs.Bit.{written}
 use Rattle.inner_code.specs.Reply.{Reply, done, refused, refuseIf, andThen}
 use Rattle.inner_code.specs.Sheet.{degree, rowCount, rowOf}
 use Rattle.inner_code.proofs.Replies.{refuse-taken, refuse-passed, andThen-passed, andThen-refused}
@@ -21,7 +22,7 @@ use Rattle.wiring.specs.Wiring.{edgeOf, planCheck}
 use Rattle.wiring.specs.Block.{blockBytes, blockCheck, isCodewordBlock}
 use Rattle.wiring.proofs.Blocks.{strayBit}
 use Rattle.messages.specs.Position.{messageBits}
-use Rattle.messages.specs.Message.{encodedBlock, readMessage, messageCheck, fronted, whenDone, encodeAnswer, encodeOutput, readAnswer, readOutput}
+use Rattle.messages.specs.Message.{encodedBlock, readMessage, messageCheck, whenDone, encodeAnswer, encodeOutput, readAnswer, readOutput}
 
 -- ---- the message's place
 
@@ -47,7 +48,7 @@ when-refused : (reply : Reply) (front l : List ℕ) (number place : ℕ) → rep
 unfolding whenDone
 when-refused reply front l number place e = ap (λ (r : Reply). whenDone r front l) e
 
-when-done : (reply : Reply) (front l values : List ℕ) → reply ≡ done values → whenDone reply front l ≡ fronted front l
+when-done : (reply : Reply) (front l values : List ℕ) → reply ≡ done values → whenDone reply front l ≡ written front l
 unfolding whenDone
 when-done reply front l values e = ap (λ (r : Reply). whenDone r front l) e
 
@@ -97,7 +98,7 @@ module _ (sheet : List ℕ) (n : ℕ) (wiring message output : List ℕ) where
         encode-output l = encode-refused 13 0 (past-plan ∙ andThen-passed _ _ [] passes ∙ refuse-taken _ 13 0 _ (lt-ltb _ _ l))
 
         pub encode-done : blockBytes (n * degree sheet) ≤ length output
-            → Encoded sheet n wiring message output (done []) (fronted (encodedBlock sheet n wiring message) output)
+            → Encoded sheet n wiring message output (done []) (written (encodedBlock sheet n wiring message) output)
         encode-done l =
             let answers = past-plan ∙ andThen-passed _ _ [] passes ∙ refuse-passed _ 13 0 _ (le-ltb _ _ l) in
             record { answer = answers; leaves = encode-output-is ∙ when-done _ _ _ [] answers }
@@ -156,7 +157,7 @@ module _ (sheet : List ℕ) (n : ℕ) (wiring block output : List ℕ) where
           read-output l = read-refused 13 0 (past-block ∙ refuse-passed _ 22 0 _ (ap not codeword) ∙ refuse-taken _ 13 0 _ (lt-ltb _ _ l))
 
           pub read-done : blockBytes (messageBits sheet n wiring) ≤ length output
-              → Read sheet n wiring block output (done []) (fronted (readMessage sheet n wiring block) output)
+              → Read sheet n wiring block output (done []) (written (readMessage sheet n wiring block) output)
           read-done l =
               let answers = past-block ∙ refuse-passed _ 22 0 _ (ap not codeword) ∙ refuse-passed _ 13 0 _ (le-ltb _ _ l) in
               record { answer = answers; leaves = read-output-is ∙ when-done _ _ _ [] answers }

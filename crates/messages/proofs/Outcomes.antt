@@ -14,6 +14,7 @@ use mathlib.Core.Path.{_≡_, refl, sym, ap, ap₂, _∙_}
 use native.Mathlib.Omega.{arith}
 use lib.Dec.{eqb}
 use lib.ListN.{length, replicate}
+use Rattle.bits.specs.Bit.{written}
 use Rattle.inner_code.specs.Reply.{Reply, done, refused, refuseIf, andThen}
 use Rattle.inner_code.specs.Sheet.{degree, rowCount, rowOf}
 use Rattle.inner_code.specs.declared.sheet.Refusal.{Refusal}
@@ -24,7 +25,7 @@ use Rattle.wiring.specs.Answer.{locateAnswer}
 use Rattle.wiring.proofs.Blocks.{strayBit, block-sized, block-clear, block-back}
 use Rattle.wiring.proofs.CodewordBlocks.{located-none, located-some}
 use Rattle.messages.specs.Position.{messageBits}
-use Rattle.messages.specs.Message.{messageCheck, fronted, encodedBlock, encodeAnswer, encodeOutput, readAnswer, readOutput}
+use Rattle.messages.specs.Message.{messageCheck, encodedBlock, encodeAnswer, encodeOutput, readAnswer, readOutput}
 use Rattle.messages.specs.Columns.{StoredPlan, liveBefore, Chosen, BitsPut, bitsTaken}
 use Rattle.messages.specs.Service.{encodeReply, takenReply, EncodedRows, TakenRows}
 use Rattle.messages.specs.declared.encoder.Encoded.{Encoded}
@@ -75,7 +76,7 @@ module _ (N : ℕ) (columns message output : List ℕ) where
         encode-output sheet n wiring message output (s .plan) (rw (s .edges) at (s .short)) (rw (stored-bits s) at passes) (rw (sized, s .edges) at l))
 
     pub encoded-whole : (chosen cleared left : List ℕ) → bytes ≤ length output → Chosen N columns message chosen
-        → cleared ≡ fronted (replicate bytes 0) output → BitsPut N chosen columns cleared left → EncodedRows N columns message output Encoded.Done left
+        → cleared ≡ written (replicate bytes 0) output → BitsPut N chosen columns cleared left → EncodedRows N columns message output Encoded.Done left
     encoded-whole chosen cleared left fits c clear put =
         answered Encoded.Done left (λ sheet n wiring s.
         let front = put-encoded s message chosen output left c (rw (clear, sized) at put) in
@@ -102,7 +103,7 @@ module _ (N : ℕ) (columns block output : List ℕ) (bytes : ℕ) (sized : byte
       read-output sheet n wiring block output (s .plan) (rw (s .edges) at (s .short)) (rw (s .edges) at passes) codeword
       (rw (sized, stored-bits s) at l))
 
-  pub taken-whole : (cleared left : List ℕ) → bytes ≤ length output → cleared ≡ fronted (replicate bytes 0) output
+  pub taken-whole : (cleared left : List ℕ) → bytes ≤ length output → cleared ≡ written (replicate bytes 0) output
       → left ≡ bitsTaken columns block N cleared → TakenRows N columns block output Taken.Done left
   taken-whole cleared left fits clear taken =
       given Taken.Done left (λ sheet n wiring s passes codeword.

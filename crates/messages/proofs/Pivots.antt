@@ -12,7 +12,7 @@
 -- that is put on it, `dropped-` about rows that are no longer live, `step-` about the state after a check. At the end of a name, `-none`
 -- is the beginning of a loop or a check that no row fails, `-put` and `-kept` a turn that adds a column and one that does not, `-last`
 -- the end of a loop.
-use Prim.Native.Nat.{ℕ, zero, suc, _+_, _*_, _/_, _%_, _^_, _≤_, _<_}
+use Prim.Native.Nat.{ℕ, zero, suc, _+_, _-_, _*_, _/_, _%_, _^_, _≤_, _<_}
 use mathlib.Core.Bool.{Bool, true, false, not, _&&_, true≢false, false≢true}
 use mathlib.Core.List.{List}
 use mathlib.Core.Logic.{⊎-elim, _≢_}
@@ -25,15 +25,17 @@ use lib.Arith.{digits-lt}
 use lib.Bits.{bitXor, xor-self, xor-zero-r}
 use lib.Dec.{leb, eqb}
 use lib.ListN.{getD}
+use lib.Pow.{pow-mono, shr-lt}
 use borrow.Author.Tests.{le-ltb, ltb-false, eqb-true, eq-eqb, ne-eqb, not-true}
 use Rattle.bits.specs.Bit.{digit}
 use Rattle.bits.specs.Sum.{flag}
 use Rattle.bits.proofs.Sums.{flag-true, flag-false, flag-apart}
-use Rattle.bits.proofs.Xor.{digit-lt}
+use Rattle.bits.proofs.Xor.{digit-lt, digit-zero}
+use Rattle.bits.proofs.Windows.{digit-low, digit-shifted}
 use Rattle.wiring.specs.Wiring.{edgeOf}
 use Rattle.wiring.specs.Block.{sideBit}
 use Rattle.wiring.proofs.Permutation.{side-lt}
-use Rattle.wiring.proofs.Searches.{first-le, first-zero, first-one-more, first-at, first-all-each, first-ext}
+use Rattle.wiring.proofs.Searches.{first-le, first-zero, first-one-more, first-at, first-all, first-all-each, first-ext}
 use Rattle.messages.specs.Elimination.{parity, State, start, hit, pivot, stepped, after, mask, graphCheck}
 use Rattle.messages.specs.Columns.{rowBit, noRows, ColumnPut, Masks, Short, Stores, HitSet, lowestRow, Spread}
 use Rattle.messages.proofs.Elimination.{parity-zero, parity-one-more, parity-ext, parity-none, hit-live, hit-product, pivot-hit, stepped-live-is, stepped-row, stepped-missed, Reduced, after-one-more, after-reduced}
@@ -55,6 +57,48 @@ module _ (hits : List ℕ) where
   pub lowest-found : (N p b : ℕ) → p < N → lowestRow hits p ≡ p → b ≡ rowBit hits p 0 → b ≡ 1 → lowestRow hits N ≡ p
   unfolding lowestRow
   lowest-found N p b l e r one = first-at N _ p l (first-all-each p _ e) (ap not (eq-eqb _ 1 (sym r ∙ one)))
+
+  -- m rows in a row of one word are passed over where the word has none of them
+  pub lowest-run : (p m rest : ℕ) → p % 64 + m ≤ 64 → lowestRow hits p ≡ p → rest ≡ getD hits (p / 64) 0 / 2 ^ (p % 64) → rest % 2 ^ m ≡ 0
+      → lowestRow hits (p + m) ≡ p + m
+  unfolding lowestRow rowBit
+  lowest-run p m rest fits e is none = first-all _ _ passed
+    where
+      clear : (j : ℕ) → j < m → rowBit hits (p + j) 0 ≡ 0
+      clear j l =
+          let word : 8 * 0 + (p + j) / 64 ≡ p / 64 = omega arith in
+          let place : (p + j) % 64 ≡ p % 64 + j = omega arith in
+          ap₂ (λ (w k : ℕ). digit (getD hits w 0) k) word place ∙ sym (digit-shifted (getD hits (p / 64) 0) (p % 64) j)
+          ∙ ap (λ (x : ℕ). digit x j) (sym is) ∙ sym (digit-low rest m j l) ∙ ap (λ (x : ℕ). digit x j) none ∙ digit-zero j
+
+      passed : (q : ℕ) → q < p + m → not (eqb (rowBit hits q 0) 1) ≡ true
+      passed q l =
+          elim (decLe p q) [
+            | yes above ↦
+                let back : p + (q - p) ≡ q = omega arith in
+                ap (λ (b : ℕ). not (eqb b 1)) (rw back at (clear (q - p) (omega arith)))
+            | no below ↦ first-all-each p _ e q (omega arith)
+          ]
+
+  -- a byte of a word that has a row above it lies in the word
+  pub lowest-byte : (p rest : ℕ) → getD hits (p / 64) 0 < 2 ^ 64 → rest ≡ getD hits (p / 64) 0 / 2 ^ (p % 64) → rest ≢ 0 → rest % 256 ≡ 0 → p % 64 + 8 ≤ 64
+  lowest-byte p rest wide is some none =
+      elim (decLe (p % 64 + 8) 64) [
+        | yes fits ↦ fits
+        | no late ↦
+            let all : 64 - p % 64 + p % 64 ≡ 64 = omega arith in
+            let short : getD hits (p / 64) 0 / 2 ^ (p % 64) < 2 ^ (64 - p % 64) = shr-lt (64 - p % 64) (p % 64) (rw all wide) in
+            absurd (some (omega (arith, is, short, none, pow-mono {i = 64 - p % 64} {j = 8} (omega arith))))
+      ]
+
+  pub lowest-here : (p rest : ℕ) → rest ≡ getD hits (p / 64) 0 / 2 ^ (p % 64) → rowBit hits p 0 ≡ rest % 2
+  unfolding rowBit digit
+  lowest-here p rest is = let word : 8 * 0 + p / 64 ≡ p / 64 = omega arith in
+      ap (λ (w : ℕ). getD hits w 0 / 2 ^ (p % 64) % 2) word ∙ ap (λ (x : ℕ). x % 2) (sym is)
+
+  pub lowest-past : (N p : ℕ) → N ≤ p → lowestRow hits p ≡ p → lowestRow hits N ≡ N
+  unfolding lowestRow
+  lowest-past N p l e = first-all N _ (λ q b. first-all-each p _ e q (omega arith))
 
 -- ---- the rows that fail the check of a vertex
 

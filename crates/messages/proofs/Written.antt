@@ -1,13 +1,13 @@
--- Bits that are written to the front of an output: those of the encoded block, and those of the message that is read.
---   fronted front l                 the list l with `front` at its beginning (specs Message)
+-- Bits that are wrote to the front of an output: those of the encoded block, and those of the message that is read.
+--   written front l                 the list l with `front` at its beginning (bits specs Bit)
 --   bitsPut x m l                   the byte string l with its bits 0 .. m - 1 made the digits of x (specs Position)
 --   BitsPut N chosen columns l left `left` is l with the bits of the chosen rows put together at its places 0 .. N - 1 (specs Columns)
 --   bitsTaken columns block j l     the byte string l with the block's bits at the rows left below j put at its front (specs Columns)
 --   liveBefore columns j            how many rows below j have a 1 at their own place (specs Columns)
 --   StoredPlan .. N columns         the columns hold the final rows of an accepted plan of N edges (specs Columns)
 -- Laws are named by their subject, then by the fact: `put-` is about the encoded bits, `taken-` about the bits that are read. At the end
--- of a name, `-none` is the beginning of a loop, `-one-more` and `-kept` a turn that writes and one that does not, `-fronted` says that
--- only the front is written, `-encoded` and `-read` what stands there at the end.
+-- of a name, `-none` is the beginning of a loop, `-one-more` and `-kept` a turn that writes and one that does not, `-written` says that
+-- only the front is wrote, `-encoded` and `-read` what stands there at the end.
 use Prim.Native.Nat.{ℕ, zero, suc, _+_, _*_, _%_, _≤_, _<_}
 use mathlib.Core.Bool.{Bool, true, false, cond}
 use mathlib.Core.List.{List, []}
@@ -20,13 +20,13 @@ use native.Mathlib.Omega.{arith}
 use lib.Dec.{eqb}
 use lib.ListN.{length, replicate, length-replicate}
 use borrow.Author.Tests.{eq-eqb, ne-eqb}
-use Rattle.bits.specs.Bit.{digit, bitAt, withBit}
+use Rattle.bits.specs.Bit.{digit, bitAt, withBit, written}
 use Rattle.bits.specs.Sum.{flag}
 use Rattle.bits.proofs.Bytes.{bitAt-lt, length-withBit}
 use Rattle.inner_code.specs.Sheet.{degree}
 use Rattle.wiring.specs.Block.{blockBytes}
 use Rattle.messages.specs.Position.{bitsPut, blockOf, isPosition, positionsBefore, messageBits}
-use Rattle.messages.specs.Message.{encodedNumber, encodedBlock, readBefore, readMessage, fronted}
+use Rattle.messages.specs.Message.{encodedNumber, encodedBlock, readBefore, readMessage}
 use Rattle.messages.specs.Elimination.{finalState}
 use Rattle.messages.specs.Columns.{rowBit, StoredPlan, liveBefore, Chosen, columnParity, BitsPut, bitsTaken}
 use Rattle.messages.proofs.Elimination.{parity-lt}
@@ -34,7 +34,7 @@ use Rattle.messages.proofs.Numbers.{bitsPut-none, bitsPut-one-more, len
 use Rattle.messages.proofs.Positions.{position-live}
 use Rattle.messages.proofs.Encoding.{encoded-block-is}
 use Rattle.messages.proofs.Reading.{read-none, read-position, read-other}
-use Rattle.messages.proofs.Fronts.{fronted-withBit}
+use Rattle.messages.proofs.Fronts.{written-withBit}
 use Rattle.messages.proofs.StoredRows.{rowBit-lt}
 use Rattle.messages.proofs.Pivots.{flag-test}
 use Rattle.messages.proofs.LiveRows.{live-one-more, stored-live, stored-count, stored-bits, stored-digit}
@@ -49,34 +49,34 @@ module _ (chosen columns l : List ℕ) where
   pub put-none : BitsPut 0 chosen columns l l
   put-none = record { is = λ x same. sym (bitsPut-none x l) }
 
-  -- b is the bit that is written
+  -- b is the bit that is wrote
   pub put-one-more : (e b : ℕ) (output next : List ℕ) → BitsPut e chosen columns l output → b ≡ columnParity chosen columns e
       → next ≡ withBit output e (b % 2) → BitsPut (e + 1) chosen columns l next
-  put-one-more e b output next so-far is-b written =
+  put-one-more e b output next so-far is-b wrote =
       record {
         is = λ x same.
             let bit : b % 2 ≡ digit x e = ap (λ (y : ℕ). y % 2) is-b ∙ mod-eq-of-lt (parity-bit chosen columns e) ∙ sym (same e (omega arith)) in
-            written ∙ ap₂ (λ (r : List ℕ) (y : ℕ). withBit r e y) (so-far .is x (λ i k. same i (omega arith))) bit ∙ sym (bitsPut-one-more x e l);
+            wrote ∙ ap₂ (λ (r : List ℕ) (y : ℕ). withBit r e y) (so-far .is x (λ i k. same i (omega arith))) bit ∙ sym (bitsPut-one-more x e l);
       }
 
   pub put-last : (N e : ℕ) (output : List ℕ) → BitsPut e chosen columns l output → e ≡ N → BitsPut N chosen columns l output
   put-last N e output so-far last = rw last at so-far
 
-put-fronted : (x m : ℕ) (front l : List ℕ) → m ≤ length front * 8 → bitsPut x m (fronted front l) ≡ fronted (bitsPut x m front) l
+put-written : (x m : ℕ) (front l : List ℕ) → m ≤ length front * 8 → bitsPut x m (written front l) ≡ written (bitsPut x m front) l
 unfolding bitsPut
-put-fronted x zero front l fits = refl
-put-fronted x (suc m) front l fits =
-    ap (λ (r : List ℕ). withBit r m (digit x m)) (put-fronted x m front l (le-of-lt fits))
-    ∙ fronted-withBit (bitsPut x m front) l m (digit x m) (rw length-bitsPut fits)
+put-written x zero front l fits = refl
+put-written x (suc m) front l fits =
+    ap (λ (r : List ℕ). withBit r m (digit x m)) (put-written x m front l (le-of-lt fits))
+    ∙ written-withBit (bitsPut x m front) l m (digit x m) (rw length-bitsPut fits)
 
 -- the whole encoded block
 pub put-encoded : {sheet : List ℕ} {n : ℕ} {wiring : List ℕ} {N : ℕ} {columns : List ℕ} (s : StoredPlan sheet n wiring N columns)
     (message chosen output left : List ℕ) → Chosen N columns message chosen
-    → BitsPut N chosen columns (fronted (replicate (blockBytes N) 0) output) left → left ≡ fronted (encodedBlock sheet n wiring message) output
+    → BitsPut N chosen columns (written (replicate (blockBytes N) 0) output) left → left ≡ written (encodedBlock sheet n wiring message) output
 put-encoded {sheet} {n} {wiring} {N} {columns} s message chosen output left c put =
     put .is x (stored-digit s message chosen c)
-    ∙ put-fronted x N (replicate (blockBytes N) 0) output (rw length-replicate (bytes-fit N))
-    ∙ ap (λ (front : List ℕ). fronted front output)
+    ∙ put-written x N (replicate (blockBytes N) 0) output (rw length-replicate (bytes-fit N))
+    ∙ ap (λ (front : List ℕ). written front output)
     (sym (blockOf-is N x) ∙ ap (λ (M : ℕ). blockOf M x) (s .edges) ∙ sym (encoded-block-is sheet n wiring message))
   where
     x : ℕ
@@ -105,11 +105,11 @@ module _ (columns block : List ℕ) where
       (is-read : read ≡ rowBit columns p p) where
     pub taken-one-more : (b : ℕ) (next : List ℕ) → read ≡ 1 → b ≡ bitAt block p → next ≡ withBit output rank (b % 2)
         → (rank + 1 ≡ liveBefore columns (p + 1)) × (next ≡ bitsTaken columns block (p + 1) l)
-    taken-one-more b next one is-b written =
+    taken-one-more b next one is-b wrote =
         let bit : b % 2 ≡ bitAt block p = ap (λ (y : ℕ). y % 2) is-b ∙ mod-eq-of-lt (bitAt-lt block p) in (
           live-one-more columns p rank 1 counted (sym one ∙ is-read),
           rw add-one
-              (written
+              (wrote
               ∙ ap (λ (r : List ℕ). withBit r rank (b % 2)) so-far
               ∙ ap₂ (λ (i y : ℕ). withBit (bitsTaken columns block p l) i y) counted bit
               ∙ sym (put-position p l (sym is-read ∙ one))),
@@ -133,20 +133,20 @@ module _ (columns block : List ℕ) where
   live-suc : (j : ℕ) → liveBefore columns (suc j) ≡ liveBefore columns j + rowBit columns j j
   live-suc j = rw (← add-one j) (sym (live-one-more columns j _ _ refl refl))
 
-  taken-fronted : (j : ℕ) (front l : List ℕ) → liveBefore columns j ≤ length front * 8
-      → bitsTaken columns block j (fronted front l) ≡ fronted (bitsTaken columns block j front) l
-  taken-fronted zero front l fits = taken-none (fronted front l) ∙ ap (λ (r : List ℕ). fronted r l) (sym (taken-none front))
-  taken-fronted (suc j) front l fits =
-      go (taken-fronted j front l (omega (arith, live-suc j))) (ℕ-discrete (rowBit columns j j) 1)
+  taken-written : (j : ℕ) (front l : List ℕ) → liveBefore columns j ≤ length front * 8
+      → bitsTaken columns block j (written front l) ≡ written (bitsTaken columns block j front) l
+  taken-written zero front l fits = taken-none (written front l) ∙ ap (λ (r : List ℕ). written r l) (sym (taken-none front))
+  taken-written (suc j) front l fits =
+      go (taken-written j front l (omega (arith, live-suc j))) (ℕ-discrete (rowBit columns j j) 1)
     where
-      go : bitsTaken columns block j (fronted front l) ≡ fronted (bitsTaken columns block j front) l → Dec (rowBit columns j j ≡ 1)
-          → bitsTaken columns block (suc j) (fronted front l) ≡ fronted (bitsTaken columns block (suc j) front) l
+      go : bitsTaken columns block j (written front l) ≡ written (bitsTaken columns block j front) l → Dec (rowBit columns j j ≡ 1)
+          → bitsTaken columns block (suc j) (written front l) ≡ written (bitsTaken columns block (suc j) front) l
       go e (yes one) =
-          put-position j (fronted front l) one
+          put-position j (written front l) one
           ∙ ap (λ (r : List ℕ). withBit r (liveBefore columns j) (bitAt block j)) e
-          ∙ fronted-withBit _ l (liveBefore columns j) (bitAt block j) (omega (arith, live-suc j, length-taken j front))
-          ∙ ap (λ (r : List ℕ). fronted r l) (sym (put-position j front one))
-      go e (no other) = pass-other j (fronted front l) other ∙ e ∙ ap (λ (r : List ℕ). fronted r l) (sym (pass-other j front other))
+          ∙ written-withBit _ l (liveBefore columns j) (bitAt block j) (omega (arith, live-suc j, length-taken j front))
+          ∙ ap (λ (r : List ℕ). written r l) (sym (put-position j front one))
+      go e (no other) = pass-other j (written front l) other ∙ e ∙ ap (λ (r : List ℕ). written r l) (sym (pass-other j front other))
 
 module _ {sheet : List ℕ} {n : ℕ} {wiring : List ℕ} {N : ℕ} {columns : List ℕ} (s : StoredPlan sheet n wiring N columns) (block : List ℕ) where
   position-test : (j : ℕ) → j < N → isPosition sheet n wiring j ≡ eqb (rowBit columns j j) 1
@@ -172,10 +172,10 @@ module _ {sheet : List ℕ} {n : ℕ} {wiring : List ℕ} {N : ℕ} {columns : L
 
   -- the whole message
   pub taken-read : (output left : List ℕ)
-      → left ≡ bitsTaken columns block N (fronted (replicate (blockBytes (messageBits sheet n wiring)) 0) output)
-      → left ≡ fronted (readMessage sheet n wiring block) output
+      → left ≡ bitsTaken columns block N (written (replicate (blockBytes (messageBits sheet n wiring)) 0) output)
+      → left ≡ written (readMessage sheet n wiring block) output
   unfolding readMessage
   taken-read output left taken =
       taken
-      ∙ taken-fronted columns block N _ output (rw (stored-bits s, length-replicate) (bytes-fit (messageBits sheet n wiring)))
-      ∙ ap (λ (front : List ℕ). fronted front output) (taken-before N (omega arith) ∙ ap (readBefore sheet n wiring block) (s .edges))
+      ∙ taken-written columns block N _ output (rw (stored-bits s, length-replicate) (bytes-fit (messageBits sheet n wiring)))
+      ∙ ap (λ (front : List ℕ). written front output) (taken-before N (omega arith) ∙ ap (readBefore sheet n wiring block) (s .edges))

@@ -10,7 +10,7 @@ use mathlib.Core.List.{List, [], _++_}
 use mathlib.Core.Bool.{Bool, true, false, cond, not, _&&_, _||_}
 use lib.ListN.{length, drop, replicate}
 use lib.Dec.{leb, ltb, eqb}
-use Rattle.bits.specs.Bit.{digit, bitAt, withBit}
+use Rattle.bits.specs.Bit.{digit, bitAt, withBit, written}
 use Rattle.inner_code.specs.Reply.{Reply, done, refused, refuseIf, andThen}
 use Rattle.inner_code.specs.Code.{someBelow}
 use Rattle.inner_code.specs.Sheet.{degree, rowCount, rowOf}
@@ -54,13 +54,9 @@ messageCheck K message =
     refuseIf (not (eqb (length message) (blockBytes K))) 20 0
     (refuseIf (someBelow (length message * 8) (λ i. leb K i && eqb (bitAt message i) 1)) 21 0 (done []))
 
--- the list l with `front` at its beginning
-unfoldable pub fronted : List ℕ → List ℕ → List ℕ
-fronted front l = front ++ drop (length front) l
-
 unfoldable pub whenDone : Reply → List ℕ → List ℕ → List ℕ
-unfolding fronted
-whenDone (done values) front l = fronted front l
+unfolding written
+whenDone (done values) front l = written front l
 whenDone (refused number place) front l = l
 
 unfoldable pub encodeAnswer : List ℕ → ℕ → List ℕ → List ℕ → List ℕ → Reply

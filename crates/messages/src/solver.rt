@@ -115,7 +115,7 @@ fn bit_of(right: bool, wiring: &[u8], i: usize) -> usize
     i
 }
 
-// The lowest row in a set, `edges` where none below it is.
+// The lowest row in a set, `edges` where none below it is. Words and bytes with no row in them are passed over whole.
 fn lowest(edges: usize, hits: &[u64]) -> usize
     requires { ⌜ edges ≤ 512 ⌝ }
     requires { ⌜ length (now hits) ≡ 8 ⌝ }
@@ -123,10 +123,19 @@ fn lowest(edges: usize, hits: &[u64]) -> usize
 {
     let mut p: usize = 0;
     while p < edges {
-        if row_bit(hits, p, 0) == 1 {
-            return p;
+        let rest = hits[p / 64] >> (p % 64);
+        if rest == 0 {
+            p = (p / 64 + 1) * 64;
+        } else {
+            if rest % 256 == 0 {
+                p += 8;
+            } else {
+                if rest % 2 == 1 {
+                    return p;
+                }
+                p += 1;
+            }
         }
-        p += 1;
     }
     edges
 }

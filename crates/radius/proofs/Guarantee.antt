@@ -21,6 +21,7 @@ use native.Mathlib.Nat.{le-trans}
 use native.Mathlib.Decide.{decLe}
 use native.Mathlib.Omega.{arith}
 use lib.ListN.{length, getD}
+use Rattle.bits.specs.Bit.{written}
 use Rattle.inner_code.specs.Reply.{Reply, done, refused}
 use Rattle.inner_code.specs.Sheet.{degree, rowCount, rowOf}
 use Rattle.inner_code.proofs.SheetChecks.{Sound}
@@ -29,7 +30,7 @@ use Rattle.inner_code.proofs.NearestWord.{nearest-near}
 use Rattle.wiring.specs.Wiring.{planCheck}
 use Rattle.wiring.specs.Block.{blockBytes, blockCheck}
 use Rattle.wiring.proofs.Blocks.{block-sized, block-clear, block-back}
-use Rattle.decoder.specs.Decode.{sweptBlock, settlesAt, decodeAnswer, decodeOutput, written}
+use Rattle.decoder.specs.Decode.{sweptBlock, settlesAt, decodeAnswer, decodeOutput}
 use Rattle.wiring.proofs.Plans.{plan-sound}
 use Rattle.decoder.proofs.Settling.{isSettled, block-number, map-lt, settles-codeword, settles-first, settles-stays, decode-block, decode-short, decode-limit, decode-settled}
 use Rattle.radius.specs.Answer.{distanceOf, spreadOf, marginOf, marginAnswer}

@@ -12,7 +12,7 @@ use borrow.Author.Tests.{le-leb}
 use lib.Count.{ones, onesIn}
 use lib.Dec.{lit<, eqb, ltb}
 use lib.ListN.{length, getD}
-use Rattle.bits.specs.Bit.{digit, word, bitAt, pairAt}
+use Rattle.bits.specs.Bit.{digit, word, bitAt, pairAt, written}
 use Rattle.bits.specs.Sum.{sum, gap, flag}
 use Rattle.inner_code.specs.Reply.{Reply, done, refused, refuseIf, andThen}
 use Rattle.inner_code.specs.Code.{combination, least, someBelow, isCodeword, onesUnlessZero, fewestOnes, distance}
@@ -23,7 +23,7 @@ use Rattle.wiring.specs.Wiring.{edgeOf, entryCheck, entriesCheck, wiringCheck, 
 use Rattle.wiring.specs.Block.{blockBytes, blockCheck, sideBit, vertexWord, satisfied, firstUnsatisfied, isCodewordBlock}
 use Rattle.wiring.proofs.Blocks.{block-back}
 use Rattle.bits.proofs.Bytes.{bitAt-past}
-use Rattle.decoder.specs.Decode.{settlesAt, decodeAnswer, decodeOutput, written}
+use Rattle.decoder.specs.Decode.{settlesAt, decodeAnswer, decodeOutput}
 use Rattle.decoder.specs.Answer.{decodeReply}
 use Rattle.decoder.specs.declared.decoding.Decoded.{Decoded}
 use Rattle.decoder.proofs.Settling.{decode-settled, decode-unsettled}

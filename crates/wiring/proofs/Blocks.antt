@@ -16,16 +16,17 @@ use native.Mathlib.Decide.{decLe}
 use native.Mathlib.Omega.{arith}
 use lib.Dec.{leb, eqb}
 use lib.ListN.{length, getD}
-use lib.Pow.{pow-pos, field, mod-mod-pow}
+use lib.Pow.{pow-pos}
 use borrow.Author.Tests.{le-leb, lt-leb, eqb-true, eqb-false, eq-eqb, ne-eqb, not-false}
 use Rattle.bits.specs.Bit.{digit, bitAt}
 use Rattle.bits.proofs.Xor.{digit-ext, digit-zero}
+use Rattle.bits.proofs.Windows.{digit-low}
 use Rattle.bits.proofs.Bytes.{bitAt-lt, bitAt-past, bitAt-byte, bitAt-ext}
 use Rattle.inner_code.specs.Reply.{done, refused, refuseIf}
 use Rattle.inner_code.specs.Code.{someBelow}
 use Rattle.inner_code.proofs.Replies.{refuse-taken, refuse-passed, refuse-done}
 use Rattle.wiring.specs.Block.{blockBytes, blockCheck}
-use Rattle.wiring.proofs.Searches.{none-below, none-below-each}
+use Rattle.inner_code.proofs.Least.{none-below, none-below-each}
 
 abbrev pub strayBit : ℕ → List ℕ → Bool
 strayBit N block = someBelow (length block * 8) (λ i. leb N i && eqb (bitAt block i) 1)
@@ -90,13 +91,6 @@ block-ext N a b pass-a pass-b small-a small-b same =
     (λ i l. elim (decLe N i) [ yes h ↦ block-clear N a pass-a i h ∙ sym (block-clear N b pass-b i h) | no h ↦ same i (omega arith) ])
 
 -- ---- the test of 12 on the last byte
-
--- the low digits of a number are those of its remainder
-digit-low : (x k j : ℕ) → j < k → digit (x % 2 ^ k) j ≡ digit x j
-unfolding digit
-digit-low x k j l =
-    let above : k ≡ k - 1 - j + 1 + j = omega arith in
-    ap (λ (m : ℕ). x % 2 ^ m / 2 ^ j % 2) above ∙ ap (λ (y : ℕ). y % 2) (field x (k - 1 - j + 1) j) ∙ mod-mod-pow (x / 2 ^ j) (k - 1 - j) 1
 
 pub stray-none : (N : ℕ) (block : List ℕ) → length block ≡ blockBytes N
     → (N % 8 ≡ 0) ⊎ (getD block (N / 8) 0 % 2 ^ (8 - N % 8) ≡ 0) → strayBit N block ≡ false

@@ -32,7 +32,8 @@ use Rattle.inner_code.proofs.Replies.{refuse-taken, refuse-passed, refuse-done,
 use Rattle.wiring.specs.Search.{firstFailing}
 use Rattle.wiring.specs.Wiring.{edgeOf, entryCheck, entriesCheck, wiringCheck}
 use Rattle.wiring.specs.Block.{sideBit}
-use Rattle.wiring.proofs.Searches.{first-at, none-below, none-below-each}
+use Rattle.inner_code.proofs.Least.{none-below, none-below-each}
+use Rattle.wiring.proofs.Searches.{first-at}
 
 -- ---- the entries' check
 

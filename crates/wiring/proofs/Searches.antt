@@ -1,10 +1,8 @@
--- Searches for the first number that fails a test, and for some number that passes one.
+-- Searches for the first number that fails a test.
 --   firstFailing n test   the first i below n that does not pass; n where all pass (specs Search)
 --   First n test i        i is that number: all before it pass, and it fails unless it is n
---   someBelow n test      some i below n passes (inner_code specs Code)
 -- Laws named `first-` speak of the first number that fails: what it says of the tests (-le, -passed, -failed, -all-each),
--- and which tests make it what it is (-at, -all, -ext, -zero, -one-more). Laws named `none-below` speak of a search that
--- finds no number: from the tests, and back to each test (-each).
+-- and which tests make it what it is (-at, -all, -ext, -zero, -one-more).
 use Prim.Native.Nat.{ℕ, zero, suc, _+_, _≤_, _<_, zero-le}
 use mathlib.Core.Bool.{Bool, true, false, cond, true≢false}
 use mathlib.Core.Logic.{⊎-elim}
@@ -15,8 +13,6 @@ use native.Mathlib.Numerals.{add-one}
 use native.Mathlib.Omega.{arith}
 use lib.Dec.{ltb}
 use borrow.Author.Tests.{ltb-true, ltb-false}
-use Rattle.inner_code.specs.Code.{someBelow}
-use Rattle.inner_code.proofs.Least.{some-below, some-found}
 use Rattle.wiring.specs.Search.{firstFailing}
 
 record First (n : ℕ) (test : ℕ → Bool) (i : ℕ) : Type 0 where
@@ -95,19 +91,3 @@ first-zero test = refl
 
 pub first-one-more : (n : ℕ) (test : ℕ → Bool) → firstFailing n test ≡ n → test n ≡ true → firstFailing (n + 1) test ≡ n + 1
 first-one-more n test e p = first-all (n + 1) test (rw add-one (one-more test n (first-all-each n test e) p))
-
--- ---- no number found
-
-pub none-below : (n : ℕ) (test : ℕ → Bool) → ((i : ℕ) → i < n → test i ≡ false) → someBelow n test ≡ false
-none-below n test none = go (someBelow n test) refl
-  where
-    go : (b : Bool) → someBelow n test ≡ b → someBelow n test ≡ false
-    go true e = let (i, l, q) = some-found n test e in absurd (true≢false (sym q ∙ none i l))
-    go false e = e
-
-pub none-below-each : (n : ℕ) (test : ℕ → Bool) → someBelow n test ≡ false → (i : ℕ) → i < n → test i ≡ false
-none-below-each n test e i l = go (test i) refl
-  where
-    go : (b : Bool) → test i ≡ b → test i ≡ false
-    go true q = absurd (true≢false (sym (some-below n test i l q) ∙ e))
-    go false q = q

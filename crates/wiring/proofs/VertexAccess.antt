@@ -9,16 +9,17 @@
 -- Laws are named by their subject, then by the fact: `inside-` and `outside-` are about the tests, `read-` and `write-` about the
 -- two ways of access, `so-far-` about a word of which some digits are read. At the end of a name, `-inside` is a vertex of an
 -- accepted wiring, `-outside` one that the tests turn away, `-one-more` one more digit, `-last` the end of a loop over all digits.
-use Prim.Native.Nat.{ℕ, _+_, _*_, _≤_, _<_}
+use Prim.Native.Nat.{ℕ, _+_, _*_, _≤_, _<_, min}
 use mathlib.Core.Bool.{Bool, true, false, and-false}
 use mathlib.Core.List.{List}
 use mathlib.Core.Path.{_≡_, refl, sym, ap, ap₂, _∙_}
+use native.Mathlib.Nat.{min-eq-left}
 use native.Mathlib.Omega.{arith}
 use lib.Dec.{ltb, leb}
 use lib.ListN.{length}
 use lib.Pow.{pow-mono}
 use borrow.Author.Tests.{lt-ltb, le-ltb, le-leb, lt-leb}
-use Rattle.bits.specs.Bit.{word, bitAt}
+use Rattle.bits.specs.Bit.{word, bitAt, wordAt}
 use Rattle.bits.proofs.Words.{word-lt, word-one-more}
 use Rattle.bits.proofs.Bytes.{bitAt-lt}
 use Rattle.wiring.specs.Wiring.{edgeOf}
@@ -66,6 +67,12 @@ module _ (bit : ℕ → ℕ) (block : List ℕ) (base : ℕ) where
   unfolding wordSoFar
   so-far-lt j so-far s h =
       omega (arith, pow-mono {j = 16} h, word-lt j (λ i. bitAt block (bit (base + i))) (λ i l. bitAt-lt block (bit (base + i))))
+
+-- a left vertex's bits stand in a row
+pub read-left : (wiring : List ℕ) (d : ℕ) (block : List ℕ) (v : ℕ) → d ≤ 16 → inside d wiring v ≡ true
+    → wordAt block (v * d) (min d 16) ≡ readWord false wiring d block v
+unfolding readWord vertexWord sideBit wordAt
+read-left wiring d block v narrow e = rw (e, min-eq-left narrow)
 
 module _ (right : Bool) (wiring : List ℕ) (d : ℕ) where
   pub read-outside : (block : List ℕ) (v : ℕ) → inside d wiring v ≡ false → readWord right wiring d block v ≡ 0

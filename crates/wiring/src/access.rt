@@ -7,7 +7,7 @@ ghost use Rattle.wiring.specs.Block.{sideBit};
 ghost use Rattle.wiring.specs.Access.{readWord, writtenWord};
 
 // The word that vertex v of the left or right side reads, its first edge of the highest weight; 0 for a vertex whose d entries are
-// not all in the wiring, a v of 2,048 or more or a d above 16.
+// not all in the wiring, a v of 2,048 or more or a d above 16. A left vertex's bits stand in a row and are read at once.
 pub fn read_word(right: bool, wiring: &[u8], d: usize, block: &[u8], v: usize) -> u16
     ensures { λ r. ⌜ r ≡ readWord right (now (wiring .entry)) d (now (block .entry)) v ⌝ }
 {
@@ -20,6 +20,9 @@ pub fn read_word(right: bool, wiring: &[u8], d: usize, block: &[u8], v: usize) -
     let base = v * d;
     if wiring.len() < 2 * (base + d) {
         return 0;
+    }
+    if !right {
+        return bits::word_at(block, base, d);
     }
     let mut word: u64 = 0;
     let mut j = 0;

@@ -69,13 +69,14 @@ fn check_entries(edges: usize, wiring: &[u8]) -> Checked
     let mut i = 0;
     while i < edges {
         let edge = (wiring[2 * i] as usize) * 256 + (wiring[2 * i + 1] as usize);
-        let place = i as u32;
         if edges <= edge {
+            let place = i as u32;
             return Checked::Refused(Refusal { number: 9, place });
         }
         let byte = seen[edge / 8];
         let bit = mask[edge % 8];
         if byte & bit != 0 {
+            let place = i as u32;
             return Checked::Refused(Refusal { number: 10, place });
         }
         seen[edge / 8] = byte ^ bit;

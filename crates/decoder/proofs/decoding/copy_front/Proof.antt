@@ -6,7 +6,7 @@ use Prim.Native.Nat.{ℕ, _-_, _≤_}
 use native.Mathlib.Omega.{arith}
 use denote.Ref.{now}
 use lib.ListN.{length, getD, set, take, length-set}
-use Rattle.decoder.specs.Decode.{written}
+use Rattle.bits.specs.Bit.{written}
 use Rattle.decoder.proofs.Copies.{written-none, written-one-more, written-all}
 use Rattle.decoder.proofs.decoding.copy_front.Statement.{statement}
 use Rattle.decoder.proofs.decoding.copy_front.Tie as tie

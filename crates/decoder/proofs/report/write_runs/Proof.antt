@@ -8,9 +8,10 @@ use Prim.Native.Nat.{ℕ, _+_, _-_, _*_, _≤_, _<_}
 use native.Mathlib.Omega.{arith}
 use denote.Ref.{now}
 use lib.ListN.{length}
+use Rattle.bits.proofs.Fronts.{written-none}
+use Rattle.bits.specs.Bit.{written}
 use Rattle.decoder.proofs.Runs.{start-zero, start-one-more-inside, runCount-zero, runCount-le, runBytes-zero}
-use Rattle.decoder.proofs.Reporting.{inside-count, inside-bytes, stretch-start, stretch-count-ends, stretch-count-none, stretch-bytes-none, written-none, written-length, written-room, written-ends}
-use Rattle.decoder.specs.Decode.{written}
+use Rattle.decoder.proofs.Reporting.{inside-count, inside-bytes, stretch-start, stretch-count-ends, stretch-count-none, stretch-bytes-none, written-length, written-room, written-ends}
 use Rattle.decoder.specs.Report.{differsAt, runStart, runCount, runBytes}
 use Rattle.decoder.proofs.report.write_runs.Statement.{statement}
 use Rattle.decoder.proofs.report.write_runs.Tie as tie

@@ -1,13 +1,17 @@
--- `wiring::read_word` meets its contract: after j turns `word` holds the bits of the first j entries of the vertex.
-use mathlib.Core.Path.{_≡_, sym}
+-- `wiring::read_word` meets its contract: a left vertex's bits are read in a row; of a right vertex's, after j turns `word` holds the bits of the first j entries of the vertex.
+use mathlib.Core.Bool.{Bool}
+use mathlib.Core.Path.{_≡_, sym, ap, _∙_}
 use Prim.Native.Nat.{_*_, _-_, _≤_, _<_}
 use native.Mathlib.Omega.{arith}
 use borrow.Author.Needs.{needs}
+use borrow.Author.Tests.{not-true}
 use Rattle.bits.proofs.Bytes.{bitAt-lt}
+use denote.Ref.{now}
+use Rattle.wiring.specs.Access.{readWord}
 use Rattle.wiring.specs.Wiring.{edgeOf}
 use Rattle.wiring.specs.Block.{sideBit}
 use Rattle.wiring.proofs.Permutation.{edges-le}
-use Rattle.wiring.proofs.VertexAccess.{wordSoFar, so-far-none, so-far-one-more, so-far-lt, inside-all, outside-degree, outside-vertex, outside-entries, read-outside, read-last}
+use Rattle.wiring.proofs.VertexAccess.{wordSoFar, so-far-none, so-far-one-more, so-far-lt, inside-all, outside-degree, outside-vertex, outside-entries, read-outside, read-left, read-last}
 use Rattle.wiring.proofs.access.read_word.Statement.{statement}
 use Rattle.wiring.proofs.access.read_word.Tie as tie
 
@@ -37,6 +41,18 @@ mul-if3 c = omega (arith, base-le c)
 
 returns-3 : tie.Need-returns-3 Inv-loop μ-loop
 returns-3 c = sym (read-outside _ _ _ _ _ (outside-entries _ _ _ (omega arith)))
+
+word-at-requires : tie.Need-word-at-requires Inv-loop μ-loop
+word-at-requires c κs = search needs
+
+returns-4 : tie.Need-returns-4 Inv-loop μ-loop
+returns-4 c =
+    let args = c .before .before .before .before .before .before .before .args in
+    let wiring = now (args .wiring) in
+    let block = now (args .block) in
+    c .word-at .ensures
+    ∙ read-left wiring (args .d) block (args .v) (omega arith) (inside-all (args .d) wiring (args .v) (omega arith) (omega arith) (omega arith))
+    ∙ ap (λ (right : Bool). readWord right wiring (args .d) block (args .v)) (sym (not-true _ (c .before .if4 .taken)))
 
 loop-holds : tie.Need-loop-holds Inv-loop μ-loop
 loop-holds c = (search needs, sym (so-far-none _ _ _))
@@ -72,8 +88,8 @@ loop-again c = (search needs, so-far-one-more _ _ _ _ _ _ _ (c .before .before .
 cast-result : tie.Need-cast-result Inv-loop μ-loop
 cast-result c = omega (arith, word-lt (c .before))
 
-returns-4 : tie.Need-returns-4 Inv-loop μ-loop
-returns-4 c = read-last _ _ _ _ _ _ _ (inside-all _ _ _ (omega arith) (omega arith) (omega arith)) (c .before .loop .inv .1) (omega arith)
+returns-5 : tie.Need-returns-5 Inv-loop μ-loop
+returns-5 c = read-last _ _ _ _ _ _ _ (inside-all _ _ _ (omega arith) (omega arith) (omega arith)) (c .before .loop .inv .1) (omega arith)
 
 pub read-word-spec : {M : Type 1} → statement M
 read-word-spec =
@@ -87,6 +103,8 @@ read-word-spec =
     add-if3
     mul-if3
     returns-3
+    word-at-requires
+    returns-4
     loop-holds
     mul-word
     add-bit-of
@@ -97,4 +115,4 @@ read-word-spec =
     loop-less
     loop-again
     cast-result
-    returns-4)
+    returns-5)

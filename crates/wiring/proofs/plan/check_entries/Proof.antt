@@ -72,6 +72,9 @@ array-read-byte c = search needs
 array-read-bit : tie.Need-array-read-bit Inv-loop μ-loop
 array-read-bit c = search needs
 
+cast-place-2 : tie.Need-cast-place-2 Inv-loop μ-loop
+cast-place-2 c = search needs
+
 returns-2 : tie.Need-returns-2 Inv-loop μ-loop
 unfolding edgeOf pairAt
 returns-2 c =
@@ -128,6 +131,7 @@ check-entries-spec =
     returns
     array-read-byte
     array-read-bit
+    cast-place-2
     returns-2
     array-write-seen
     add-i

@@ -1,0 +1,260 @@
+/* The library beside plain C, on the same inputs in one run: medians of repeated runs, and their ratio (above 1: the library is faster).
+   With the argument `check` every pair of answers is compared and nothing is timed. */
+#define _POSIX_C_SOURCE 200809L /* for clock_gettime */
+
+#include "lembikat.h"
+#include "plain.h"
+
+#include <stdio.h>
+#include <stdlib.h>
+#include <string.h>
+#include <time.h>
+
+#define MAX_EDGES 32768
+#define RUNS 25
+#define LIMIT 20
+
+typedef struct {
+    const char *name;
+    unsigned d, k;
+    size_t n;
+    uint8_t sheet[24];
+    size_t sheet_bytes;
+    uint8_t wiring[2 * MAX_EDGES];
+    uint8_t sent[MAX_EDGES / 8];
+} plan;
+
+static int timing = 1;
+static uint64_t seed = 0x9e3779b97f4a7c15u;
+
+static uint32_t draw(uint32_t below)
+{
+    seed ^= seed << 13;
+    seed ^= seed >> 7;
+    seed ^= seed << 17;
+    return (uint32_t)((seed >> 16) % below);
+}
+
+static void shuffle(uint16_t *list, size_t size)
+{
+    for (size_t i = 0; i + 1 < size; i++) {
+        size_t j = i + draw((uint32_t)(size - i));
+        uint16_t kept = list[i];
+        list[i] = list[j];
+        list[j] = kept;
+    }
+}
+
+static void put_pair(uint8_t *bytes, unsigned value)
+{
+    bytes[0] = (uint8_t)(value >> 8);
+    bytes[1] = (uint8_t)value;
+}
+
+static void flip(uint8_t *block, size_t bit)
+{
+    block[bit / 8] ^= (uint8_t)(128u >> (bit % 8));
+}
+
+/* The Reed-Muller code with the first k rows of a list. The all-ones word stands in the middle of the codewords' list. */
+static void set_sheet(plan *p, unsigned d, unsigned k)
+{
+    static const unsigned rows16[11] = {0x5555, 0x3333, 0x0f0f, 0x00ff, 0xffff, 0x1111, 0x0505, 0x0303, 0x0055, 0x0033, 0x000f};
+    static const unsigned house[4] = {0xff, 0x0f, 0x33, 0x55};
+    p->d = d;
+    p->k = k;
+    p->sheet[0] = (uint8_t)d;
+    p->sheet[1] = (uint8_t)k;
+    for (unsigned i = 0; i < k; i++) put_pair(p->sheet + 2 + 2 * i, d == 16 ? rows16[i] : house[i]);
+    p->sheet_bytes = 2 + 2 * k;
+}
+
+/* n / d square plans side by side, their vertices shuffled over both sides; the codeword sent is a random product word in each. */
+static void set_squares(plan *p, const char *name, unsigned d, unsigned k, size_t n)
+{
+    static uint16_t left[2048], right[2048];
+    p->name = name;
+    p->n = n;
+    set_sheet(p, d, k);
+    memset(p->sent, 0, sizeof p->sent);
+    for (size_t v = 0; v < n; v++) left[v] = right[v] = (uint16_t)v;
+    shuffle(left, n);
+    shuffle(right, n);
+    for (size_t square = 0; square < n; square += d)
+        for (unsigned i = 0; i < d; i++)
+            for (unsigned j = 0; j < d; j++)
+                put_pair(p->wiring + 2 * (right[square + i] * d + j), left[square + j] * d + i);
+    for (size_t square = 0; square < n; square += d) {
+        for (unsigned terms = 0; terms < 2 * k; terms++) {
+            const uint8_t *a = p->sheet + 2 + 2 * draw(k);
+            const uint8_t *b = p->sheet + 2 + 2 * draw(k);
+            unsigned row = a[0] * 256u + a[1];
+            unsigned column = b[0] * 256u + b[1];
+            for (unsigned j = 0; j < d; j++)
+                for (unsigned i = 0; i < d; i++)
+                    if ((row >> (d - 1 - i)) & (column >> (d - 1 - j)) & 1u) flip(p->sent, left[square + j] * d + i);
+        }
+    }
+}
+
+/* The 31 points and the 31 complements of hyperplanes of a projective space: 16 on each, any two share 8. All ones are sent. */
+static void set_design(plan *p, const char *name)
+{
+    unsigned used[32] = {0};
+    size_t entry = 0;
+    p->name = name;
+    p->n = 31;
+    set_sheet(p, 16, 5);
+    for (unsigned v = 1; v < 32; v++)
+        for (unsigned u = 1; u < 32; u++)
+            if (__builtin_parity(u & v)) put_pair(p->wiring + 2 * entry++, (u - 1) * 16 + used[u]++);
+    memset(p->sent, 0xff, 62);
+}
+
+static double seconds(void)
+{
+    struct timespec t;
+    clock_gettime(CLOCK_MONOTONIC, &t);
+    return (double)t.tv_sec + 1e-9 * (double)t.tv_nsec;
+}
+
+static int by_value(const void *a, const void *b)
+{
+    double x = *(const double *)a, y = *(const double *)b;
+    return x < y ? -1 : x > y;
+}
+
+static uint8_t received[MAX_EDGES / 8], mine[MAX_EDGES / 8], theirs[MAX_EDGES / 8];
+static uint8_t message[64];
+static size_t message_bytes;
+
+#define PLAN p->sheet, p->sheet_bytes, p->n, p->wiring, 2 * p->n * p->d
+
+/* A call and its answer as one number: the refusal, and the value. */
+typedef uint64_t (*work)(const plan *p);
+
+static size_t block_bytes(const plan *p)
+{
+    return LEMBIKAT_BLOCK_BYTES(p->n, p->d);
+}
+
+static uint64_t library_decodes(const plan *p)
+{
+    lembikat_answer a = lembikat_decode(PLAN, received, block_bytes(p), mine, block_bytes(p), LIMIT);
+    return a.number * 65536u + a.value;
+}
+
+static uint64_t plain_decodes(const plan *p)
+{
+    size_t sweeps = 0;
+    int number = plain_decode(PLAN, received, block_bytes(p), theirs, block_bytes(p), LIMIT, &sweeps);
+    return (uint64_t)number * 65536u + sweeps;
+}
+
+static uint64_t library_encodes(const plan *p)
+{
+    return lembikat_encode(PLAN, message, message_bytes, mine, block_bytes(p)).number * 65536u;
+}
+
+static uint64_t plain_encodes(const plan *p)
+{
+    return (uint64_t)plain_encode(PLAN, message, message_bytes, theirs, block_bytes(p)) * 65536u;
+}
+
+/* The mean time of one call over enough calls to fill a millisecond. */
+static double timed(work call, const plan *p, unsigned *calls)
+{
+    for (;;) {
+        double began = seconds();
+        for (unsigned i = 0; i < *calls; i++) call(p);
+        double took = seconds() - began;
+        if (took >= 1e-3) return took / *calls;
+        *calls *= 2;
+    }
+}
+
+/* One line of the table. Answers whether the two differ. */
+static int row(const plan *p, const char *damage, work library, work plain)
+{
+    double a[RUNS], b[RUNS];
+    unsigned calls_a = 1, calls_b = 1;
+    uint64_t says = library(p);
+    if (says != plain(p) || memcmp(mine, theirs, block_bytes(p)) != 0) {
+        printf("%s, %s: the library and plain C differ\n", p->name, damage);
+        return 1;
+    }
+    if (!timing) {
+        printf("%s, %s: the same\n", p->name, damage);
+        return 0;
+    }
+    for (int i = 0; i < RUNS; i++) {
+        a[i] = timed(library, p, &calls_a);
+        b[i] = timed(plain, p, &calls_b);
+    }
+    qsort(a, RUNS, sizeof *a, by_value);
+    qsort(b, RUNS, sizeof *b, by_value);
+    char ends[24];
+    if (library == library_encodes)
+        snprintf(ends, sizeof ends, "encoded");
+    else if (says < 65536)
+        snprintf(ends, sizeof ends, "%u sweep%s", (unsigned)says, says == 1 ? "" : "s");
+    else
+        snprintf(ends, sizeof ends, "refused %u", (unsigned)(says / 65536));
+    printf("%-18s %-13s %-11s %12.2f %12.2f %8.2f\n", p->name, damage, ends, 1e6 * b[RUNS / 2], 1e6 * a[RUNS / 2], b[RUNS / 2] / a[RUNS / 2]);
+    fflush(stdout);
+    return 0;
+}
+
+/* The decoder on the codeword sent with no, few and many flips, and on random bits, which do not settle. */
+static int decoder_rows(const plan *p, unsigned few, unsigned many)
+{
+    static uint16_t order[MAX_EDGES];
+    size_t edges = p->n * p->d;
+    unsigned flips[3] = {0, few, many};
+    char damage[24];
+    int failed = 0;
+    for (int f = 0; f < 3; f++) {
+        memcpy(received, p->sent, block_bytes(p));
+        for (size_t i = 0; i < edges; i++) order[i] = (uint16_t)i;
+        shuffle(order, edges);
+        for (unsigned i = 0; i < flips[f]; i++) flip(received, order[i]);
+        snprintf(damage, sizeof damage, "%u flips", flips[f]);
+        failed |= row(p, damage, library_decodes, plain_decodes);
+    }
+    memset(received, 0, block_bytes(p));
+    for (size_t i = 0; i < edges; i++)
+        if (draw(2)) flip(received, i);
+    return failed | row(p, "random bits", library_decodes, plain_decodes);
+}
+
+/* The encoder, on a message of the right length with its first bits set. */
+static int encoder_row(const plan *p)
+{
+    memset(message, 0, sizeof message);
+    message_bytes = 0;
+    while (lembikat_encode(PLAN, message, message_bytes, mine, block_bytes(p)).number == 20) message_bytes++;
+    if (message_bytes > 1) message[0] = 0xa5;
+    return row(p, "a message", library_encodes, plain_encodes);
+}
+
+int main(int count, char **words)
+{
+    static plan p;
+    int failed = 0;
+    timing = !(count > 1 && strcmp(words[1], "check") == 0);
+    if (timing) printf("%-18s %-13s %-11s %12s %12s %8s\n", "plan", "input", "ends", "plain C, us", "library, us", "ratio");
+    set_squares(&p, "house, n 64", 8, 4, 64);
+    failed |= decoder_rows(&p, 2, 12);
+    failed |= encoder_row(&p);
+    set_squares(&p, "house, n 2048", 8, 4, 2048);
+    failed |= decoder_rows(&p, 3, 160);
+    set_design(&p, "d 16 k 5, n 31");
+    failed |= decoder_rows(&p, 3, 20);
+    set_squares(&p, "d 16 k 5, n 2048", 16, 5, 2048);
+    failed |= decoder_rows(&p, 3, 640);
+    set_squares(&p, "d 16 k 11, n 2048", 16, 11, 2048);
+    failed |= decoder_rows(&p, 3, 160);
+    set_squares(&p, "d 16 k 11, n 32", 16, 11, 32);
+    failed |= encoder_row(&p);
+    return failed;
+}

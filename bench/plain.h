@@ -1,0 +1,16 @@
+/* The plain C that the library is measured against. Each function answers the number of the refusal, 0 where it is done. */
+#ifndef PLAIN_H
+#define PLAIN_H
+
+#include <stddef.h>
+#include <stdint.h>
+
+/* The straightforward port of the paper: nearest word by search over the codewords, both sides tested before each sweep. */
+int plain_decode(const uint8_t *sheet, size_t sheet_bytes, size_t n, const uint8_t *wiring, size_t wiring_bytes,
+                 const uint8_t *received, size_t received_bytes, uint8_t *output, size_t output_bytes, size_t limit, size_t *sweeps);
+
+/* The library's elimination, written in C: a set of rows for each bit, as eight words of 64. */
+int plain_encode(const uint8_t *sheet, size_t sheet_bytes, size_t n, const uint8_t *wiring, size_t wiring_bytes,
+                 const uint8_t *message, size_t message_bytes, uint8_t *output, size_t output_bytes);
+
+#endif

@@ -1,0 +1,211 @@
+/* caption_link: carries a line of caption text over a simulated link, block by block.
+ *
+ * It shows the calls in the order in which a host needs them: learn what a plan carries and covers, encode, decode, report,
+ * read; then what a refusal looks like. Nothing is kept between calls, so there is nothing to open or to close.
+ */
+#include "lembikat.h"
+
+#include <stdio.h>
+#include <stdlib.h>
+#include <string.h>
+
+/* The plan. 256 bits in a square of 16 by 16: the left vertices are its lines, the right ones its columns, and each reads a
+ * word of an inner code of 16 bits, 7 rows and distance 6. Two vertices of a side always meet equally often, so that no wiring
+ * of this size covers more flips. */
+#define D 16
+#define N_VERTICES 16
+#define EDGES (N_VERTICES * D)
+#define BLOCK_BYTES LEMBIKAT_BLOCK_BYTES(N_VERTICES, D)
+
+static const uint8_t sheet[] = {D, 7, 0x03, 0xa3, 0x07, 0x45, 0x0e, 0x89, 0x1d, 0x11, 0x3a, 0x21, 0x74, 0x41, 0xe8, 0x81};
+static uint8_t wiring[2 * EDGES];
+
+static void lay_wiring(void)
+{
+    for (unsigned column = 0; column < N_VERTICES; column++)
+        for (unsigned line = 0; line < D; line++) {
+            unsigned entry = column * D + line, edge = line * D + column;
+            wiring[2 * entry] = (uint8_t)(edge >> 8);
+            wiring[2 * entry + 1] = (uint8_t)edge;
+        }
+}
+
+/* Every call takes the plan; these are its five parameters. */
+#define PLAN sheet, sizeof sheet, N_VERTICES, wiring, sizeof wiring
+
+/* What a technician should be told. The numbers are those of the table in lembikat.h. */
+static const char *in_words(uint32_t number)
+{
+    static const char *const words[] = {
+        "done",
+        "the sheet has fewer than 2 bytes",
+        "the sheet's d is not 2 to 16",
+        "the sheet's k is not 1 to 11, or is above d",
+        "the sheet's length does not fit its k",
+        "this row of the sheet has more than d bits",
+        "this row of the sheet is made of earlier rows",
+        "the number of vertices is not 1 to 2,048",
+        "the wiring's length does not fit the plan",
+        "this entry of the wiring names an edge that is not there",
+        "this entry of the wiring names an edge that stood before",
+        "the block's length does not fit the plan",
+        "a bit after the block's last is set",
+        "the output buffer is too short",
+        "the limit is above 4,096 sweeps",
+        "the block is unsettled after the sweeps allowed",
+        "the list is too short for the runs",
+        "more flips than the block has bits",
+        "so many flips are not covered",
+        "the plan is too large for messages",
+        "the message's length does not fit the plan",
+        "a bit after the message's last is set",
+        "the block is no codeword",
+    };
+    return number < sizeof words / sizeof words[0] ? words[number] : "unknown";
+}
+
+/* For calls that cannot be refused unless this program is wrong. */
+static uint64_t must(const char *what, lembikat_answer answer)
+{
+    if (answer.number != 0) {
+        printf("%s: refused %u at %u: %s\n", what, answer.number, answer.place, in_words(answer.number));
+        exit(1);
+    }
+    return answer.value;
+}
+
+/* Bits are counted alike in blocks, in messages and in the text: bit 0 has weight 128 in byte 0. */
+static unsigned get_bit(const uint8_t *bytes, size_t bit)
+{
+    return bytes[bit / 8] >> (7 - bit % 8) & 1;
+}
+
+static void flip_bit(uint8_t *bytes, size_t bit)
+{
+    bytes[bit / 8] ^= (uint8_t)(128u >> bit % 8);
+}
+
+/* How many bits a block carries. No call answers it, since a host knows its plan; the refusals tell it to one that does not:
+ * only the right length of a message is not refused with 20, and a bit behind the last is refused with 21. */
+static size_t message_bits(void)
+{
+    uint8_t message[LEMBIKAT_MAX_MESSAGE_BYTES] = {0}, block[BLOCK_BYTES];
+    size_t size = 0, bits = 0;
+    while (lembikat_encode(PLAN, message, size, block, sizeof block).number == 20)
+        size++;
+    for (size_t bit = 0; bit < 8 * size; bit++) {
+        flip_bit(message, bit);
+        if (lembikat_encode(PLAN, message, size, block, sizeof block).number == 0)
+            bits = bit + 1;
+        flip_bit(message, bit);
+    }
+    return bits;
+}
+
+/* The link. It flips so many different bits of the block; the same ones in every run, so that runs can be compared. */
+static uint32_t noise = 20240229;
+
+static uint32_t next_noise(void)
+{
+    noise ^= noise << 13;
+    noise ^= noise >> 17;
+    noise ^= noise << 5;
+    return noise;
+}
+
+static void send_over_link(const uint8_t *sent, uint8_t *received, size_t flips)
+{
+    memcpy(received, sent, BLOCK_BYTES);
+    while (flips > 0) {
+        size_t bit = next_noise() % EDGES;
+        if (get_bit(received, bit) != get_bit(sent, bit))
+            continue; /* was flipped already */
+        flip_bit(received, bit);
+        flips--;
+    }
+}
+
+int main(void)
+{
+    static const char text[] = "Good evening. The ferry leaves at nine.";
+    char shown[sizeof text] = {0};
+    uint8_t message[LEMBIKAT_MAX_MESSAGE_BYTES], sent[BLOCK_BYTES], received[BLOCK_BYTES], settled[BLOCK_BYTES];
+    uint8_t list[4 * ((EDGES + 1) / 2)]; /* room for the most runs that there can be */
+
+    /* The plan's numbers. What is covered is asked for upwards, until it is refused. */
+    lay_wiring();
+    uint64_t spread = must("spread", lembikat_spread(PLAN));
+    size_t bits = message_bits(), bytes = (bits + 7) / 8;
+    size_t flips = 0;
+    uint64_t sweeps = must("margin", lembikat_margin(PLAN, 0));
+    for (;;) {
+        lembikat_answer more = lembikat_margin(PLAN, flips + 1);
+        if (more.number != 0)
+            break;
+        flips++;
+        sweeps = more.value;
+    }
+    printf("plan: %d vertices a side with %d bits each, spread %llu\n", N_VERTICES, D, (unsigned long long)spread);
+    printf("a block has %d bits and carries %zu of the text\n", EDGES, bits);
+    printf("up to %zu flipped bits in a block are mended, within %llu sweeps\n", flips, (unsigned long long)sweeps);
+
+    /* The text as one string of bits, cut into messages. The last message is filled up with zeros. */
+    size_t text_bits = 8 * strlen(text), blocks = (text_bits + bits - 1) / bits;
+    printf("sent:     %s\n", text);
+    for (size_t b = 0; b < blocks; b++) {
+        memset(message, 0, sizeof message);
+        for (size_t i = 0; i < bits && b * bits + i < text_bits; i++)
+            if (get_bit((const uint8_t *)text, b * bits + i))
+                flip_bit(message, i);
+        must("encode", lembikat_encode(PLAN, message, bytes, sent, sizeof sent));
+
+        send_over_link(sent, received, flips);
+
+        /* On the far side. No more flips than the margin covers: the sweeps that it names are enough. */
+        uint64_t taken = must("decode", lembikat_decode(PLAN, received, sizeof received, settled, sizeof settled, sweeps));
+        uint64_t runs =
+            must("report", lembikat_report(PLAN, received, sizeof received, settled, sizeof settled, list, sizeof list));
+        printf("block %zu: settled after %llu sweep%s, mended bits", b + 1, (unsigned long long)taken, taken == 1 ? "" : "s");
+        for (uint64_t r = 0; r < runs; r++) {
+            unsigned offset = list[4 * r] * 256u + list[4 * r + 1], length = list[4 * r + 2] * 256u + list[4 * r + 3];
+            if (length == 1)
+                printf(" %u", offset);
+            else
+                printf(" %u-%u", offset, offset + length - 1);
+        }
+        printf("\n");
+        must("read", lembikat_read(PLAN, settled, sizeof settled, message, sizeof message));
+        for (size_t i = 0; i < bits && b * bits + i < text_bits; i++)
+            if (get_bit(message, i))
+                flip_bit((uint8_t *)shown, b * bits + i);
+    }
+    printf("received: %s\n", shown);
+    if (strcmp(shown, text) != 0) {
+        printf("this is not the text that was sent\n");
+        return 1;
+    }
+
+    /* A block that is noise: after refusal 15 the output holds it as it came, for a host that shows or keeps it anyway. */
+    for (size_t i = 0; i < sizeof received; i++)
+        received[i] = (uint8_t)(next_noise() >> 16);
+    memset(settled, 0, sizeof settled);
+    lembikat_answer answer = lembikat_decode(PLAN, received, sizeof received, settled, sizeof settled, sweeps);
+    printf("noise: refused %u: %s\n", answer.number, in_words(answer.number));
+    if (answer.number != 15 || memcmp(settled, received, sizeof settled) != 0)
+        return 1;
+    printf("  the output holds the received block\n");
+    answer = lembikat_locate(PLAN, received, sizeof received);
+    printf("  first vertex that reads no codeword: %s %llu\n", answer.place == LEMBIKAT_LEFT ? "left" : "right",
+           (unsigned long long)answer.value);
+
+    /* A damaged plan is refused by every call, with the place of the fault, and nothing is written. */
+    memcpy(wiring + 2 * 37, wiring + 2 * 5, 2);
+    memset(settled, 0xee, sizeof settled);
+    answer = lembikat_decode(PLAN, sent, sizeof sent, settled, sizeof settled, sweeps);
+    printf("damaged wiring: refused %u at %u: %s\n", answer.number, answer.place, in_words(answer.number));
+    for (size_t i = 0; i < sizeof settled; i++)
+        if (settled[i] != 0xee)
+            return 1;
+    printf("  the output is as it was\n");
+    return answer.number == 10 && answer.place == 37 ? 0 : 1;
+}

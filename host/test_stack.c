@@ -1,0 +1,188 @@
+/* test_stack: how much stack each call takes, on the largest plan that it accepts.
+ *
+ * Each call runs in a thread of its own, on a stack that was painted beforehand. What is no longer painted afterwards, down to
+ * the lowest byte that was touched, less what a thread that does nothing touches, is the call's. Prints one line a call,
+ * `NAME BYTES`; the exit status is 1 where a call takes more than the table allows, or did not end as it should.
+ */
+#define _POSIX_C_SOURCE 200809L
+
+#include "lembikat.h"
+
+#include <pthread.h>
+#include <stdio.h>
+#include <stdlib.h>
+#include <string.h>
+
+static void nearest_word(void), locate(void), decode(void), report(void);
+static void spread(void), margin(void), encode(void), read_block(void);
+
+/* The bytes that each call may take, as the header says, and the number that it must answer here. The decoder's block is one that does not settle,
+ * so that it runs its sweeps and writes the received block back. */
+static const struct {
+    const char *name;
+    size_t allowed;
+    uint32_t number;
+    void (*run)(void);
+} calls[] = {
+    {"lembikat_nearest_word", 5 * 1024, 0, nearest_word},
+    {"lembikat_locate", 5 * 1024, 0, locate},
+    {"lembikat_decode", 12 * 1024, 15, decode},
+    {"lembikat_report", 5 * 1024, 0, report},
+    {"lembikat_spread", 138 * 1024, 0, spread},
+    {"lembikat_margin", 142 * 1024, 0, margin},
+    {"lembikat_encode", 38 * 1024, 0, encode},
+    {"lembikat_read", 38 * 1024, 0, read_block},
+};
+#define CALLS (sizeof calls / sizeof calls[0])
+
+#define STACK_BYTES (1024 * 1024)
+#define D 16
+#define SWEEPS 3
+
+/* Two plans: the largest of all, and the largest that has messages. The inner code has 11 rows and distance 4. */
+static const uint8_t sheet[LEMBIKAT_MAX_SHEET_BYTES] = {D,    11,   0xff, 0xff, 0x00, 0xff, 0x0f, 0x0f, 0x33, 0x33, 0x55, 0x55,
+                                                        0x00, 0x0f, 0x00, 0x33, 0x00, 0x55, 0x03, 0x03, 0x05, 0x05, 0x11, 0x11};
+#define LARGE LEMBIKAT_MAX_VERTICES
+#define SMALL (LEMBIKAT_MAX_MESSAGE_EDGES / D)
+static uint8_t large[2 * LARGE * D], small[2 * SMALL * D];
+#define LARGE_PLAN sheet, sizeof sheet, LARGE, large, sizeof large
+#define SMALL_PLAN sheet, sizeof sheet, SMALL, small, sizeof small
+
+static uint8_t zeros[LEMBIKAT_MAX_BLOCK_BYTES], noise[LEMBIKAT_MAX_BLOCK_BYTES], output[LEMBIKAT_MAX_BLOCK_BYTES];
+static uint8_t list[LEMBIKAT_MAX_LIST_BYTES];
+static uint8_t message[LEMBIKAT_MAX_MESSAGE_BYTES], block[LEMBIKAT_MAX_MESSAGE_BYTES];
+static size_t message_bytes;
+static lembikat_answer answer;
+
+static void nearest_word(void)
+{
+    answer = lembikat_nearest_word(sheet, sizeof sheet, 0xbeef);
+}
+
+static void locate(void)
+{
+    answer = lembikat_locate(LARGE_PLAN, zeros, sizeof zeros); /* a codeword, so that both sides are looked at */
+}
+
+static void decode(void)
+{
+    answer = lembikat_decode(LARGE_PLAN, noise, sizeof noise, output, sizeof output, SWEEPS);
+}
+
+static void report(void)
+{
+    answer = lembikat_report(LARGE_PLAN, zeros, sizeof zeros, noise, sizeof noise, list, sizeof list);
+}
+
+static void spread(void)
+{
+    answer = lembikat_spread(LARGE_PLAN);
+}
+
+static void margin(void)
+{
+    answer = lembikat_margin(LARGE_PLAN, 1);
+}
+
+static void encode(void)
+{
+    answer = lembikat_encode(SMALL_PLAN, message, message_bytes, block, sizeof block);
+}
+
+static void read_block(void)
+{
+    answer = lembikat_read(SMALL_PLAN, block, sizeof block, message, sizeof message);
+}
+
+static void nothing(void)
+{
+}
+
+static uint32_t draw(uint32_t below)
+{
+    static uint32_t state = 2463534242u;
+    state ^= state << 13;
+    state ^= state >> 17;
+    state ^= state << 5;
+    return state % below;
+}
+
+/* All edges in a random order. */
+static void shuffle(uint8_t *wiring, uint32_t edges)
+{
+    for (uint32_t i = 0; i < edges; i++) {
+        uint32_t j = draw(i + 1);
+        memcpy(wiring + 2 * i, wiring + 2 * j, 2);
+        wiring[2 * j] = (uint8_t)(i >> 8);
+        wiring[2 * j + 1] = (uint8_t)i;
+    }
+}
+
+static void *thread_body(void *run)
+{
+    (*(void (**)(void))run)();
+    return NULL;
+}
+
+/* The bytes from the top of the stack to the lowest that was touched, for one colour of the paint. */
+static size_t touched(uint8_t *stack, int paint, void (*run)(void))
+{
+    pthread_attr_t attributes;
+    pthread_t thread;
+    memset(stack, paint, STACK_BYTES);
+    if (pthread_attr_init(&attributes) != 0 || pthread_attr_setstack(&attributes, stack, STACK_BYTES) != 0 ||
+        pthread_create(&thread, &attributes, thread_body, &run) != 0 || pthread_join(thread, NULL) != 0) {
+        fprintf(stderr, "test_stack: no thread\n");
+        exit(1);
+    }
+    pthread_attr_destroy(&attributes);
+    size_t lowest = 0;
+    while (lowest < STACK_BYTES && stack[lowest] == paint)
+        lowest++;
+    return STACK_BYTES - lowest;
+}
+
+/* A byte that was written with the colour of the paint would be missed; with two colours one of them shows it. */
+static size_t stack_of(uint8_t *stack, void (*run)(void))
+{
+    size_t one = touched(stack, 0xa5, run), other = touched(stack, 0x5a, run);
+    return one > other ? one : other;
+}
+
+int main(void)
+{
+    int bad = 0;
+    uint8_t *stack = aligned_alloc(4096, STACK_BYTES);
+    if (stack == NULL) {
+        fprintf(stderr, "test_stack: no memory\n");
+        return 1;
+    }
+    shuffle(large, LARGE * D);
+    shuffle(small, SMALL * D);
+    for (size_t i = 0; i < sizeof noise; i++)
+        noise[i] = (uint8_t)draw(256);
+    /* The only length of a message that is not refused with 20 is the plan's. */
+    while (lembikat_encode(SMALL_PLAN, message, message_bytes, block, sizeof block).number == 20)
+        message_bytes++;
+    message[0] = 0xb7;
+
+    /* Each call once beforehand: what the first call of a function outside takes to find it is not the library's. */
+    for (size_t i = 0; i < CALLS; i++)
+        calls[i].run();
+    size_t empty = stack_of(stack, nothing);
+    for (size_t i = 0; i < CALLS; i++) {
+        size_t used = stack_of(stack, calls[i].run);
+        used = used > empty ? used - empty : 0;
+        printf("%s %zu\n", calls[i].name, used);
+        if (used > calls[i].allowed) {
+            printf("FAILED: %s is allowed %zu\n", calls[i].name, calls[i].allowed);
+            bad = 1;
+        }
+        if (answer.number != calls[i].number) {
+            printf("FAILED: %s answered %u instead of %u\n", calls[i].name, answer.number, calls[i].number);
+            bad = 1;
+        }
+    }
+    free(stack);
+    return bad;
+}

@@ -1,0 +1,149 @@
+/* lembikat.h: blocks of Zemor's graph code, checked, decoded, explained and guaranteed.
+ *
+ * A plan is a sheet (the inner code) and a wiring (the bipartite graph). Every call takes the plan anew and keeps nothing.
+ * Link with -llembikat; no other library is needed. The calls are proved: for whatever bytes and numbers they are given they
+ * answer what this header says, end, and write no byte but those named here.
+ *
+ * THE PLAN
+ *   sheet    byte 0 is d, the bits a vertex reads (2 to 16); byte 1 is k, the number of rows (1 to 11, at most d); then k
+ *            rows of two bytes, high byte first. The inner codewords are all exclusive-ors of rows.
+ *   n        the number of vertices on each side, 1 to 2,048. N = n * d is the number of edges, one bit each.
+ *   wiring   N entries of two bytes, high byte first. Entries v * d to v * d + d - 1 are the edges of right vertex v in order.
+ *            Left vertex u has the edges u * d to u * d + d - 1. Every edge stands exactly once.
+ *
+ * BLOCKS AND MESSAGES
+ *   A block is N / 8 bytes, rounded up. Bit 0 has weight 128 in byte 0; the bits after bit N - 1 are zero. It is a codeword if
+ *   every vertex, left and right, reads an inner codeword, its first edge having the highest weight.
+ *   A message is K / 8 bytes, rounded up, with the same order of bits and zero bits after bit K - 1; K depends on the plan
+ *   alone and is at most N.
+ *
+ * REFUSALS
+ *   A call checks from the top of this list down, as far as the numbers concern it, and stops at the first that applies. A
+ *   refused call has written nothing, with one exception: after 15 the front of the output holds the received block.
+ *
+ *   number  place   condition
+ *        1      0   sheet: fewer than 2 bytes
+ *        2      0   sheet: d is not 2 to 16
+ *        3      0   sheet: k is not 1 to 11, or is above d
+ *        4      0   sheet: its length is not 2 + 2k
+ *        5    row   sheet: the first faulty row is at or above 2^d
+ *        6    row   sheet: the first faulty row is an exclusive-or of earlier rows (a zero row is)
+ *        7      0   wiring: n is not 1 to 2,048
+ *        8      0   wiring: its length is not 2N
+ *        9  entry   wiring: the first faulty entry is at or above N
+ *       10  entry   wiring: the first faulty entry stood before
+ *       19      0   encode, read: N is above 512
+ *       11      0   block: its length is not N / 8 rounded up
+ *       12      0   block: a bit after N - 1 is set; nearest word: the word is at or above 2^d
+ *       22      0   read: the block is no codeword
+ *       20      0   encode: the message's length is not K / 8 rounded up
+ *       21      0   encode: a bit after K - 1 is set
+ *       13      0   output: shorter than the block or message to be written
+ *       14      0   decode: limit is above 4,096
+ *       15      0   decode: unsettled after `limit` sweeps
+ *       16      0   report: the list is shorter than 4 bytes a pair
+ *       17      0   margin: flips is above N
+ *       18      0   margin: so many flips are not covered
+ *   Rows and entries are counted from 0.
+ *
+ * THREADS AND BUFFERS
+ *   There is no state: any number of threads may call at once, as long as no thread writes to a buffer that another call uses.
+ *   The buffer that a call writes (output, list) must not overlap any that it reads; those that it only reads may overlap.
+ *   A buffer of no bytes may be NULL. A buffer may be longer than needed where it is written: bytes beyond stay untouched.
+ *   No call takes memory from the heap. Stack use is given with each call.
+ */
+#ifndef LEMBIKAT_H
+#define LEMBIKAT_H
+
+#include <stddef.h>
+#include <stdint.h>
+
+#ifdef __cplusplus
+extern "C" {
+#endif
+
+/* The largest sizes, in bytes, over all plans. */
+#define LEMBIKAT_MAX_VERTICES 2048
+#define LEMBIKAT_MAX_EDGES 32768
+#define LEMBIKAT_MAX_SHEET_BYTES 24
+#define LEMBIKAT_MAX_WIRING_BYTES 65536
+#define LEMBIKAT_MAX_BLOCK_BYTES 4096
+#define LEMBIKAT_MAX_LIST_BYTES 65536
+#define LEMBIKAT_MAX_MESSAGE_EDGES 512
+#define LEMBIKAT_MAX_MESSAGE_BYTES 64
+#define LEMBIKAT_MAX_LIMIT 4096
+
+/* The bytes of a block of a plan with n vertices of degree d. */
+#define LEMBIKAT_BLOCK_BYTES(n, d) (((size_t)(n) * (size_t)(d) + 7) / 8)
+
+/* What every call answers.
+ *   number   0 where the call is done, else the number of the refusal
+ *   place    the row or entry at fault for 5, 6, 9 and 10; 0 with every other refusal. Of a call that is done: 0, but for
+ *            lembikat_locate
+ *   value    what the call found; 0 with a refusal
+ */
+typedef struct {
+    uint32_t number;
+    uint32_t place;
+    uint64_t value;
+} lembikat_answer;
+
+/* The sides, as lembikat_locate tells them in `place`. */
+#define LEMBIKAT_NONE 0
+#define LEMBIKAT_LEFT 1
+#define LEMBIKAT_RIGHT 2
+
+/* The nearest inner codeword of a word of d bits: of all error patterns that turn the word into a codeword the one with
+ * fewest ones, of those the smallest as a number, is put on the word.
+ *   value: the codeword.  Refusals: 1 to 6, 12.  Stack: at most 5 KiB. */
+lembikat_answer lembikat_nearest_word(const uint8_t *sheet, size_t sheet_bytes, uint64_t word);
+
+/* The first vertex that reads no inner codeword, the left side before the right, the lowest number first.
+ *   place: LEMBIKAT_NONE where the block is a codeword, else LEMBIKAT_LEFT or LEMBIKAT_RIGHT; value: the vertex.
+ *   Refusals: 1 to 12.  Stack: at most 5 KiB. */
+lembikat_answer lembikat_locate(const uint8_t *sheet, size_t sheet_bytes, size_t n, const uint8_t *wiring, size_t wiring_bytes,
+                                const uint8_t *block, size_t block_bytes);
+
+/* Decodes a received block. Sweep 1 puts the nearest word at every left vertex, sweep 2 at every right vertex, and so on; the
+ * block settles at the first count from 0 to `limit` after which it is a codeword. A block that differs from a codeword in no
+ * more bits than lembikat_margin covers settles at that codeword within the sweeps that it names.
+ *   output: the settled block at the front; with 15 the received block; else untouched.  value: the sweeps.
+ *   Refusals: 1 to 12, 13, 14, 15.  Stack: at most 12 KiB. */
+lembikat_answer lembikat_decode(const uint8_t *sheet, size_t sheet_bytes, size_t n, const uint8_t *wiring, size_t wiring_bytes,
+                                const uint8_t *received, size_t received_bytes, uint8_t *output, size_t output_bytes,
+                                size_t limit);
+
+/* Lists the maximal runs of bits at which a received and a settled block differ, in rising order. A run takes four bytes of
+ * the list: its bit offset and its length, two bytes each, high byte first. Neither block need be a codeword.
+ *   list: the runs at the front.  value: their number, at most (N + 1) / 2.
+ *   Refusals: 1 to 10, then 11 and 12 for the received block, 11 and 12 for the settled one, 16.  Stack: at most 5 KiB. */
+lembikat_answer lembikat_report(const uint8_t *sheet, size_t sheet_bytes, size_t n, const uint8_t *wiring, size_t wiring_bytes,
+                                const uint8_t *received, size_t received_bytes, const uint8_t *settled, size_t settled_bytes,
+                                uint8_t *list, size_t list_bytes);
+
+/* The spread of a plan's wiring: the smaller, the more evenly its left vertices meet.
+ *   value: the spread.  Refusals: 1 to 10.  Stack: at most 138 KiB. */
+lembikat_answer lembikat_spread(const uint8_t *sheet, size_t sheet_bytes, size_t n, const uint8_t *wiring, size_t wiring_bytes);
+
+/* The sweeps within which so many flipped bits are mended, whichever they are.
+ *   value: the sweeps, at least 1.  Refusals: 1 to 10, 17, 18.  Stack: at most 142 KiB. */
+lembikat_answer lembikat_margin(const uint8_t *sheet, size_t sheet_bytes, size_t n, const uint8_t *wiring, size_t wiring_bytes,
+                                uint64_t flips);
+
+/* Writes the codeword that carries a message.
+ *   output: the block at the front.  value: 0.
+ *   Refusals: 1 to 10, 19, 20, 21, 13.  Stack: at most 38 KiB. */
+lembikat_answer lembikat_encode(const uint8_t *sheet, size_t sheet_bytes, size_t n, const uint8_t *wiring, size_t wiring_bytes,
+                                const uint8_t *message, size_t message_bytes, uint8_t *output, size_t output_bytes);
+
+/* Writes the message that a codeword block carries: it undoes lembikat_encode.
+ *   output: the message at the front.  value: 0.
+ *   Refusals: 1 to 10, 19, 11, 12, 22, 13.  Stack: at most 38 KiB. */
+lembikat_answer lembikat_read(const uint8_t *sheet, size_t sheet_bytes, size_t n, const uint8_t *wiring, size_t wiring_bytes,
+                              const uint8_t *block, size_t block_bytes, uint8_t *output, size_t output_bytes);
+
+#ifdef __cplusplus
+}
+#endif
+
+#endif
