@@ -17,7 +17,7 @@ use mathlib.Core.Bool.{Bool, true, false, not, _&&_, true≢false, false≢true}
 use mathlib.Core.List.{List}
 use mathlib.Core.Logic.{⊎-elim, _≢_}
 use mathlib.Core.Path.{_≡_, refl, sym, ap, ap₂, _∙_}
-use native.Mathlib.Nat.{mul-zero, mul-one, zero-mul, one-mul, not-suc-le-zero, eq-or-lt-of-le, le-of-suc-le-suc, lt-of-lt-of-le, le-antisymm, mod-lt, mul-le-mul-right}
+use native.Mathlib.Nat.{le-refl, mul-zero, mul-one, zero-mul, one-mul, not-suc-le-zero, eq-or-lt-of-le, le-of-suc-le-suc, lt-of-lt-of-le, le-antisymm, mod-lt, mul-le-mul-right}
 use native.Mathlib.Decide.{decLe}
 use native.Mathlib.Numerals.{add-one}
 use native.Mathlib.Omega.{arith}
@@ -37,7 +37,7 @@ use Rattle.wiring.specs.Block.{sideBit}
 use Rattle.wiring.proofs.Permutation.{side-lt}
 use Rattle.wiring.proofs.Searches.{first-le, first-zero, first-one-more, first-at, first-all, first-all-each, first-ext}
 use Rattle.messages.specs.Elimination.{parity, State, start, hit, pivot, stepped, after, mask, graphCheck}
-use Rattle.messages.specs.Columns.{rowBit, noRows, ColumnPut, Masks, Short, Stores, HitSet, lowestRow, Spread}
+use Rattle.messages.specs.Columns.{rowBit, noRows, ColumnPut, Masks, Uses, Short, Stores, HitSet, lowestRow, Spread}
 use Rattle.messages.proofs.Elimination.{parity-zero, parity-one-more, parity-ext, parity-none, hit-live, hit-product, pivot-hit, stepped-live-is, stepped-row, stepped-missed, Reduced, after-one-more, after-reduced}
 use Rattle.messages.proofs.Checks.{vertex-parity}
 use Rattle.messages.proofs.StoredRows.{rowBit-lt, rows-empty}
@@ -99,6 +99,10 @@ module _ (hits : List ℕ) where
   pub lowest-past : (N p : ℕ) → N ≤ p → lowestRow hits p ≡ p → lowestRow hits N ≡ N
   unfolding lowestRow
   lowest-past N p l e = first-all N _ (λ q b. first-all-each p _ e q (omega arith))
+
+pub lowest-empty : lowestRow noRows 512 ≡ 512
+unfolding lowestRow
+lowest-empty = first-all 512 _ (λ q l. ap (λ (b : ℕ). not (eqb b 1)) (rows-empty q))
 
 -- ---- the rows that fail the check of a vertex
 
@@ -175,6 +179,17 @@ hits-last {d} {n} {wiring} s residues m columns hits i so-far last =
 
     masked : (row : ℕ → ℕ) (k : ℕ) → Masks row k d residues → (y : ℕ) → y < d → digit (getD residues y 0) (m % d) ≡ mask row k d (m % d) y
     masked row k masks y b = ap (λ (x : ℕ). digit x (m % d)) (masks .each y b)
+
+-- none, where no residue has the digit of the check
+pub hits-unused : {d n : ℕ} {wiring : List ℕ} (s : Short d n wiring) (residues : List ℕ) (m : ℕ) (columns : List ℕ) (used : ℕ) → Uses d residues used
+    → digit used (m % d) ≡ 0 → HitSet d n wiring residues m columns noRows
+hits-unused {d} {n} {wiring} s residues m columns used uses unused = hits-last s residues m columns noRows d (go d (le-refl d)) refl
+  where
+    go : (i : ℕ) → i ≤ d → HitsSoFar residues (m % d) columns (sideBit (leb n (m / d)) (edgeOf wiring)) (m / d % n * d) i noRows
+    go zero h = hits-none residues (m % d) columns _ _
+    go (suc i) h =
+        let next = hits-kept residues (m % d) columns _ _ i noRows (go i (omega arith)) (λ one. absurd (omega (arith, one, uses .none i (m % d) h unused))) in
+        rw add-one at next
 
 -- ---- a row put on the rows of a set
 

@@ -6,19 +6,23 @@
 --   Solved basis k .. columns        the columns hold the rows after all checks (specs Columns)
 --   StoredPlan .. N columns          the columns hold the final rows of an accepted plan of N edges (specs Columns)
 --   PlanAccepted ..                  what a caller learns from a plan's check that accepts (wiring Plans)
--- Laws are named by their subject, then by the fact: `residues-` is about the masks, `eliminated-` about the checks in turn, `plan-` about
+-- Laws are named by their subject, then by the fact: `residues-` is about the masks, `uses-` about the digits in use, `eliminated-` about the checks in turn, `plan-` about
 -- an accepted plan, `stored-` about the columns of its final rows.
 use Prim.Native.Nat.{ℕ, zero, suc, _+_, _-_, _*_, _/_, _%_, _^_, _≤_, _<_, min}
 use mathlib.Core.Bool.{Bool, true, false}
 use mathlib.Core.List.{List, []}
+use mathlib.Core.Logic.{_≢_}
 use mathlib.Core.Path.{_≡_, refl, sym, ap, ap₂, _∙_}
-use native.Mathlib.Nat.{min-eq-left, ne-of-lt}
+use native.Mathlib.Nat.{min-eq-left, ne-of-lt, le-refl}
+use native.Mathlib.Decide.{ℕ-discrete}
 use native.Mathlib.Omega.{arith}
+use lib.Bits.{bitOr, or-add-and, and-le-l, and-le-r, or-shr, or-mod}
 use lib.Dec.{eqb}
 use lib.ListN.{length, getD, set, replicate}
 use lib.Seq.{getD-set-same, getD-set-other}
 use borrow.Author.Count.{below-more}
-use Rattle.bits.specs.Bit.{at}
+use Rattle.bits.specs.Bit.{at, digit}
+use Rattle.bits.proofs.Xor.{digit-lt}
 use Rattle.inner_code.specs.Reduction.{reduced, reducedBy, withEchelon}
 use Rattle.inner_code.specs.Sheet.{degree, rowCount, rowOf}
 use Rattle.inner_code.specs.declared.sheet.CheckedSheet.{CheckedSheet}
@@ -26,9 +30,9 @@ use Rattle.inner_code.proofs.EchelonForm.{reducedBy-stored}
 use Rattle.wiring.specs.Wiring.{edgeOf}
 use Rattle.wiring.proofs.Plans.{PlanAccepted}
 use Rattle.messages.specs.Elimination.{after, start, graphCheck, planChecks, finalState}
-use Rattle.messages.specs.Columns.{UnitResidues, Masks, Short, Stores, HitSet, lowestRow, Spread, Eliminated, Solved, StoredPlan}
+use Rattle.messages.specs.Columns.{noRows, UnitResidues, Masks, Uses, Short, Stores, HitSet, lowestRow, Spread, Eliminated, Solved, StoredPlan}
 use Rattle.messages.proofs.Elimination.{after-zero}
-use Rattle.messages.proofs.Pivots.{step-spread, step-none}
+use Rattle.messages.proofs.Pivots.{lowest-empty, lowest-past, hits-unused, step-spread, step-none}
 
 -- ---- the masks
 
@@ -57,6 +61,29 @@ residues-masks row basis k d residues units stored few =
           ∙ reducedBy-stored row k (replicate 11 0) (2 ^ (d - 1 - i)) few;
     }
 
+-- ---- the digits in use
+
+or-none : (a b : ℕ) → bitOr a b ≡ 0 → (a ≡ 0) × (b ≡ 0)
+or-none a b e = (omega (arith, or-add-and a b, and-le-r a b), omega (arith, or-add-and a b, and-le-l a b))
+
+or-digit : (a b j : ℕ) → digit (bitOr a b) j ≡ bitOr (digit a j) (digit b j)
+unfolding digit
+or-digit a b j = ap (λ (x : ℕ). x % 2) (or-shr a b j) ∙ or-mod (a / 2 ^ j) (b / 2 ^ j) 1
+
+pub uses-zero : (residues : List ℕ) → Uses 0 residues 0
+uses-zero residues = record { none = λ i j l e. absurd (omega arith) }
+
+pub uses-one-more : (i : ℕ) (residues : List ℕ) (used : ℕ) → Uses i residues used → Uses (i + 1) residues (bitOr used (getD residues i 0))
+uses-one-more i residues used so-far = record { none = go }
+  where
+    go : (q j : ℕ) → q < i + 1 → digit (bitOr used (getD residues i 0)) j ≡ 0 → digit (getD residues q 0) j ≡ 0
+    go q j l e =
+        let (before, here) = or-none (digit used j) (digit (getD residues i 0) j) (sym (or-digit used (getD residues i 0) j) ∙ e) in
+        elim (ℕ-discrete q i) [
+          | yes at-i ↦ rw at-i here
+          | no earlier ↦ so-far .none q j (omega arith) before
+        ]
+
 -- ---- the checks in turn
 
 module _ {d n : ℕ} {wiring : List ℕ} (s : Short d n wiring) (residues : List ℕ) where
@@ -80,6 +107,14 @@ module _ {d n : ℕ} {wiring : List ℕ} (s : Short d n wiring) (residues : List
               step-none (n * d) (s .short) (graphCheck row k d n (edgeOf wiring)) m columns hits (earlier .rows row k masks) (fails .rows row k masks)
               (rw low at none);
         }
+
+  -- no row fails a check whose digit is in no residue
+  pub eliminated-unused : (m : ℕ) (columns : List ℕ) (used : ℕ) → Uses d residues used → (used / 2 ^ (m % d)) % 2 ≢ 1
+      → Eliminated d n wiring residues m columns → Eliminated d n wiring residues (m + 1) columns
+  unfolding digit
+  eliminated-unused m columns used uses apart earlier =
+      eliminated-none m columns noRows earlier (hits-unused s residues m columns used uses (omega (arith, digit-lt used (m % d)))) (n * d)
+      (sym (lowest-past noRows (n * d) 512 (s .short) lowest-empty)) (le-refl (n * d))
 
   pub eliminated-all : (basis : List ℕ) (k : ℕ) (columns : List ℕ) → UnitResidues basis k d residues
       → Eliminated d n wiring residues (2 * (n * d)) columns → Solved basis k d n wiring columns

@@ -5,6 +5,7 @@
 --   ColumnPut from a to b left      `left` is `to` with column a of `from` put on its column b
 --   UnitResidues basis k d residues entry i is what the first k rows of the basis leave of the word whose one digit is at edge i
 --   Masks row k d residues          the same by the rows of a sheet: digit j of entry i is `mask row k d j i`
+--   Uses d residues used            a digit that `used` does not have is in none of the first d residues
 --   Short d n wiring                an accepted wiring of at most 512 edges
 --   Stores N s columns              the columns hold the rows of the state s
 --   HitSet .. m columns hits        column 0 of `hits` is the set of the rows that fail check m
@@ -55,6 +56,9 @@ pub record UnitResidues (basis : List ℕ) (k d : ℕ) (residues : List ℕ) : T
 
 pub record Masks (row : ℕ → ℕ) (k d : ℕ) (residues : List ℕ) : Type 0 where
   pub each : (i : ℕ) → i < d → getD residues i 0 ≡ reduced row k (2 ^ (d - 1 - i))
+
+pub record Uses (d : ℕ) (residues : List ℕ) (used : ℕ) : Type 0 where
+  pub none : (i j : ℕ) → i < d → digit used j ≡ 0 → digit (getD residues i 0) j ≡ 0
 
 pub record Short (d n : ℕ) (wiring : List ℕ) : Type 0 where
   pub wired : Wired d n wiring

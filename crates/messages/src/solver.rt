@@ -7,7 +7,7 @@ ghost use Prim.Native.Nat.{_+_, _*_, _<_, _≤_};
 ghost use lib.ListN.{length};
 ghost use Rattle.wiring.specs.Wiring.{edgeOf};
 ghost use Rattle.wiring.specs.Block.{sideBit};
-ghost use Rattle.messages.specs.Columns.{noColumns, noRows, UnitResidues, Short, HitSet, lowestRow, Spread, Eliminated, Solved};
+ghost use Rattle.messages.specs.Columns.{noColumns, noRows, UnitResidues, Uses, Short, HitSet, lowestRow, Spread, Eliminated, Solved};
 
 // Finds the rows of an accepted plan of at most 512 edges: a row is left for each message position, and the others are 0.
 pub(crate) fn solve(
@@ -41,7 +41,7 @@ fn unit_residues(basis: &[u16; 11], k: usize, d: usize, residues: &mut [u16])
     }
 }
 
-// All checks in order.
+// All checks in order. Where no residue has the check's digit, no row can fail it.
 fn eliminate(residues: &[u16], d: usize, n: usize, wiring: &[u8], columns: &mut [u64])
     requires { ⌜ Short d n (now wiring) ⌝ }
     requires { ⌜ length (now residues) ≡ 16 ⌝ }
@@ -49,12 +49,30 @@ fn eliminate(residues: &[u16], d: usize, n: usize, wiring: &[u8], columns: &mut 
     requires { ⌜ Eliminated d n (now wiring) (now residues) 0 (now columns) ⌝ }
     ensures { λ _. ⌜ Eliminated d n (now (wiring .entry)) (now (residues .entry)) (2 * (n * d)) (now (columns .exit)) ⌝ }
 {
+    let used = used_digits(residues, d);
     let checks = 2 * (n * d);
     let mut m: usize = 0;
     while m < checks {
-        put_check(m, residues, d, n, wiring, columns);
+        if (used >> (m % d)) % 2 == 1 {
+            put_check(m, residues, d, n, wiring, columns);
+        }
         m += 1;
     }
+}
+
+// The digits that some residue of an edge has.
+fn used_digits(residues: &[u16], d: usize) -> u16
+    requires { ⌜ d ≤ 16 ⌝ }
+    requires { ⌜ length (now residues) ≡ 16 ⌝ }
+    ensures { λ r. ⌜ Uses d (now (residues .entry)) r ⌝ }
+{
+    let mut used: u16 = 0;
+    let mut i: usize = 0;
+    while i < d {
+        used = used | residues[i];
+        i += 1;
+    }
+    used
 }
 
 // One check: its pivot, the lowest row that fails it, is put on every row that fails, and so is 0 from then on.
