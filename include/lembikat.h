@@ -1,8 +1,8 @@
 /* lembikat.h: blocks of Zemor's graph code, checked, decoded, explained and guaranteed.
  *
  * A plan is a sheet (the inner code) and a wiring (the bipartite graph). Every call takes the plan anew and keeps nothing.
- * Link with -llembikat; no other library is needed. The calls are proved: for whatever bytes and numbers they are given they
- * answer what this header says, end, and write no byte but those named here.
+ * Link with -llembikat; of the host it needs nothing but memset. The calls are proved: for whatever bytes and numbers they are
+ * given they answer what this header says, end, and write no byte but those named here.
  *
  * THE PLAN
  *   sheet    byte 0 is d, the bits a vertex reads (2 to 16); byte 1 is k, the number of rows (1 to 11, at most d); then k
