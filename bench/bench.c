@@ -1,5 +1,5 @@
-/* The library beside plain C, on the same inputs in one run: medians of repeated runs, and their ratio (above 1: the library is faster).
-   With the argument `check` every pair of answers is compared and nothing is timed. */
+/* The library beside plain C, on the same inputs in one run: medians of repeated runs, and their ratio (above 1: the library
+   is faster). With the argument `check` every pair of answers is compared and nothing is timed. */
 #define _POSIX_C_SOURCE 200809L /* for clock_gettime */
 
 #include "lembikat.h"
@@ -56,7 +56,8 @@ static void flip(uint8_t *block, size_t bit)
     block[bit / 8] ^= (uint8_t)(128u >> (bit % 8));
 }
 
-/* The Reed-Muller code with the first k rows of a list. The all-ones word stands in the middle of the codewords' list. */
+/* The house code, or the Reed-Muller code of length 16 with the first k rows of a list. With 5 rows the all-ones word stands in
+   the middle of the list of codewords. */
 static void set_sheet(plan *p, unsigned d, unsigned k)
 {
     static const unsigned rows16[11] = {0x5555, 0x3333, 0x0f0f, 0x00ff, 0xffff, 0x1111, 0x0505, 0x0303, 0x0055, 0x0033, 0x000f};
@@ -65,11 +66,12 @@ static void set_sheet(plan *p, unsigned d, unsigned k)
     p->k = k;
     p->sheet[0] = (uint8_t)d;
     p->sheet[1] = (uint8_t)k;
-    for (unsigned i = 0; i < k; i++) put_pair(p->sheet + 2 + 2 * i, d == 16 ? rows16[i] : house[i]);
+    for (unsigned i = 0; i < k; i++)
+        put_pair(p->sheet + 2 + 2 * i, d == 16 ? rows16[i] : house[i]);
     p->sheet_bytes = 2 + 2 * k;
 }
 
-/* n / d square plans side by side, their vertices shuffled over both sides; the codeword sent is a random product word in each. */
+/* n / d square plans side by side, their vertices shuffled over both sides. A random product word is sent in each. */
 static void set_squares(plan *p, const char *name, unsigned d, unsigned k, size_t n)
 {
     static uint16_t left[2048], right[2048];
@@ -77,7 +79,8 @@ static void set_squares(plan *p, const char *name, unsigned d, unsigned k, size_
     p->n = n;
     set_sheet(p, d, k);
     memset(p->sent, 0, sizeof p->sent);
-    for (size_t v = 0; v < n; v++) left[v] = right[v] = (uint16_t)v;
+    for (size_t v = 0; v < n; v++)
+        left[v] = right[v] = (uint16_t)v;
     shuffle(left, n);
     shuffle(right, n);
     for (size_t square = 0; square < n; square += d)
@@ -92,7 +95,8 @@ static void set_squares(plan *p, const char *name, unsigned d, unsigned k, size_
             unsigned column = b[0] * 256u + b[1];
             for (unsigned j = 0; j < d; j++)
                 for (unsigned i = 0; i < d; i++)
-                    if ((row >> (d - 1 - i)) & (column >> (d - 1 - j)) & 1u) flip(p->sent, left[square + j] * d + i);
+                    if ((row >> (d - 1 - i)) & (column >> (d - 1 - j)) & 1u)
+                        flip(p->sent, left[square + j] * d + i);
         }
     }
 }
@@ -107,7 +111,8 @@ static void set_design(plan *p, const char *name)
     set_sheet(p, 16, 5);
     for (unsigned v = 1; v < 32; v++)
         for (unsigned u = 1; u < 32; u++)
-            if (__builtin_parity(u & v)) put_pair(p->wiring + 2 * entry++, (u - 1) * 16 + used[u]++);
+            if (__builtin_parity(u & v))
+                put_pair(p->wiring + 2 * entry++, (u - 1) * 16 + used[u]++);
     memset(p->sent, 0xff, 62);
 }
 
@@ -166,9 +171,11 @@ static double timed(work call, const plan *p, unsigned *calls)
 {
     for (;;) {
         double began = seconds();
-        for (unsigned i = 0; i < *calls; i++) call(p);
+        for (unsigned i = 0; i < *calls; i++)
+            call(p);
         double took = seconds() - began;
-        if (took >= 1e-3) return took / *calls;
+        if (took >= 1e-3)
+            return took / *calls;
         *calls *= 2;
     }
 }
@@ -200,7 +207,8 @@ static int row(const plan *p, const char *damage, work library, work plain)
         snprintf(ends, sizeof ends, "%u sweep%s", (unsigned)says, says == 1 ? "" : "s");
     else
         snprintf(ends, sizeof ends, "refused %u", (unsigned)(says / 65536));
-    printf("%-18s %-13s %-11s %12.2f %12.2f %8.2f\n", p->name, damage, ends, 1e6 * b[RUNS / 2], 1e6 * a[RUNS / 2], b[RUNS / 2] / a[RUNS / 2]);
+    printf("%-18s %-13s %-11s %12.2f %12.2f %8.2f\n", p->name, damage, ends, 1e6 * b[RUNS / 2], 1e6 * a[RUNS / 2],
+           b[RUNS / 2] / a[RUNS / 2]);
     fflush(stdout);
     return 0;
 }
@@ -215,15 +223,18 @@ static int decoder_rows(const plan *p, unsigned few, unsigned many)
     int failed = 0;
     for (int f = 0; f < 3; f++) {
         memcpy(received, p->sent, block_bytes(p));
-        for (size_t i = 0; i < edges; i++) order[i] = (uint16_t)i;
+        for (size_t i = 0; i < edges; i++)
+            order[i] = (uint16_t)i;
         shuffle(order, edges);
-        for (unsigned i = 0; i < flips[f]; i++) flip(received, order[i]);
+        for (unsigned i = 0; i < flips[f]; i++)
+            flip(received, order[i]);
         snprintf(damage, sizeof damage, "%u flips", flips[f]);
         failed |= row(p, damage, library_decodes, plain_decodes);
     }
     memset(received, 0, block_bytes(p));
     for (size_t i = 0; i < edges; i++)
-        if (draw(2)) flip(received, i);
+        if (draw(2))
+            flip(received, i);
     return failed | row(p, "random bits", library_decodes, plain_decodes);
 }
 
@@ -232,8 +243,10 @@ static int encoder_row(const plan *p)
 {
     memset(message, 0, sizeof message);
     message_bytes = 0;
-    while (lembikat_encode(PLAN, message, message_bytes, mine, block_bytes(p)).number == 20) message_bytes++;
-    if (message_bytes > 1) message[0] = 0xa5;
+    while (lembikat_encode(PLAN, message, message_bytes, mine, block_bytes(p)).number == 20)
+        message_bytes++;
+    if (message_bytes > 1)
+        message[0] = 0xa5;
     return row(p, "a message", library_encodes, plain_encodes);
 }
 
@@ -242,7 +255,8 @@ int main(int count, char **words)
     static plan p;
     int failed = 0;
     timing = !(count > 1 && strcmp(words[1], "check") == 0);
-    if (timing) printf("%-18s %-13s %-11s %12s %12s %8s\n", "plan", "input", "ends", "plain C, us", "library, us", "ratio");
+    if (timing)
+        printf("%-18s %-13s %-11s %12s %12s %8s\n", "plan", "input", "ends", "plain C, us", "library, us", "ratio");
     set_squares(&p, "house, n 64", 8, 4, 64);
     failed |= decoder_rows(&p, 2, 12);
     failed |= encoder_row(&p);

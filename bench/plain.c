@@ -11,19 +11,25 @@ typedef struct {
 
 static int check_sheet(const uint8_t *sheet, size_t bytes, code *c)
 {
-    if (bytes < 2) return 1;
+    if (bytes < 2)
+        return 1;
     c->d = sheet[0];
     c->k = sheet[1];
-    if (c->d < 2 || c->d > 16) return 2;
-    if (c->k < 1 || c->k > 11 || c->k > c->d) return 3;
-    if (bytes != 2 + 2 * (size_t)c->k) return 4;
+    if (c->d < 2 || c->d > 16)
+        return 2;
+    if (c->k < 1 || c->k > 11 || c->k > c->d)
+        return 3;
+    if (bytes != 2 + 2 * (size_t)c->k)
+        return 4;
     c->words[0] = 0;
     c->count = 1;
     for (int i = 0; i < c->k; i++) {
         unsigned row = sheet[2 + 2 * i] * 256u + sheet[3 + 2 * i];
-        if (row >> c->d) return 5;
+        if (row >> c->d)
+            return 5;
         for (size_t m = 0; m < c->count; m++)
-            if (c->words[m] == row) return 6;
+            if (c->words[m] == row)
+                return 6;
         for (size_t m = 0; m < c->count; m++)
             c->words[c->count + m] = c->words[m] ^ (uint16_t)row;
         c->count *= 2;
@@ -39,14 +45,18 @@ static unsigned edge_of(const uint8_t *wiring, size_t i)
 static int check_wiring(const code *c, size_t n, const uint8_t *wiring, size_t bytes)
 {
     uint8_t seen[32768];
-    if (n < 1 || n > 2048) return 7;
+    if (n < 1 || n > 2048)
+        return 7;
     size_t edges = n * (size_t)c->d;
-    if (bytes != 2 * edges) return 8;
+    if (bytes != 2 * edges)
+        return 8;
     memset(seen, 0, edges);
     for (size_t i = 0; i < edges; i++) {
         unsigned edge = edge_of(wiring, i);
-        if (edge >= edges) return 9;
-        if (seen[edge]) return 10;
+        if (edge >= edges)
+            return 9;
+        if (seen[edge])
+            return 10;
         seen[edge] = 1;
     }
     return 0;
@@ -82,7 +92,8 @@ static void write_word(const code *c, int right, const uint8_t *wiring, uint8_t 
 static int is_word(const code *c, unsigned word)
 {
     for (size_t m = 0; m < c->count; m++)
-        if (c->words[m] == word) return 1;
+        if (c->words[m] == word)
+            return 1;
     return 0;
 }
 
@@ -104,7 +115,8 @@ static int is_codeword(const code *c, size_t n, const uint8_t *wiring, const uin
 {
     for (int right = 0; right < 2; right++)
         for (size_t v = 0; v < n; v++)
-            if (!is_word(c, read_word(c, right, wiring, block, v))) return 0;
+            if (!is_word(c, read_word(c, right, wiring, block, v)))
+                return 0;
     return 1;
 }
 
@@ -115,24 +127,32 @@ static void sweep(const code *c, int right, size_t n, const uint8_t *wiring, uin
 }
 
 int plain_decode(const uint8_t *sheet, size_t sheet_bytes, size_t n, const uint8_t *wiring, size_t wiring_bytes,
-                 const uint8_t *received, size_t received_bytes, uint8_t *output, size_t output_bytes, size_t limit, size_t *sweeps)
+                 const uint8_t *received, size_t received_bytes, uint8_t *output, size_t output_bytes, size_t limit,
+                 size_t *sweeps)
 {
     code c;
     int fault = check_sheet(sheet, sheet_bytes, &c);
-    if (!fault) fault = check_wiring(&c, n, wiring, wiring_bytes);
-    if (fault) return fault;
+    if (!fault)
+        fault = check_wiring(&c, n, wiring, wiring_bytes);
+    if (fault)
+        return fault;
     size_t edges = n * (size_t)c.d;
-    if (received_bytes != (edges + 7) / 8) return 11;
-    if (edges % 8 && received[edges / 8] & (0xffu >> (edges % 8))) return 12;
-    if (output_bytes < received_bytes) return 13;
-    if (limit > 4096) return 14;
+    if (received_bytes != (edges + 7) / 8)
+        return 11;
+    if (edges % 8 && received[edges / 8] & (0xffu >> (edges % 8)))
+        return 12;
+    if (output_bytes < received_bytes)
+        return 13;
+    if (limit > 4096)
+        return 14;
     memcpy(output, received, received_bytes);
     for (size_t count = 0;; count++) {
         if (is_codeword(&c, n, wiring, output)) {
             *sweeps = count;
             return 0;
         }
-        if (count == limit) break;
+        if (count == limit)
+            break;
         sweep(&c, count % 2, n, wiring, output);
     }
     memcpy(output, received, received_bytes);
@@ -152,14 +172,17 @@ static int has_row(const row_set *set, size_t row)
 
 static void put_on(const row_set *from, row_set *to)
 {
-    for (int w = 0; w < 8; w++) to->word[w] ^= from->word[w];
+    for (int w = 0; w < 8; w++)
+        to->word[w] ^= from->word[w];
 }
 
-/* What an echelon form of the rows leaves of a word: 0 for a codeword, and of an exclusive-or the exclusive-or of what it leaves. */
+/* What an echelon form of the rows leaves of a word: 0 for a codeword, and of an exclusive-or the exclusive-or of what it
+ * leaves. */
 static unsigned left_of(const uint16_t *basis, int k, unsigned word)
 {
     for (int i = 0; i < k; i++)
-        if ((word ^ basis[i]) < word) word ^= basis[i];
+        if ((word ^ basis[i]) < word)
+            word ^= basis[i];
     return word;
 }
 
@@ -167,29 +190,37 @@ static unsigned left_of(const uint16_t *basis, int k, unsigned word)
 static size_t lowest_row(const row_set *set, size_t edges)
 {
     for (int w = 0; w < 8; w++)
-        if (set->word[w]) return 64 * (size_t)w + (size_t)__builtin_ctzll(set->word[w]);
+        if (set->word[w])
+            return 64 * (size_t)w + (size_t)__builtin_ctzll(set->word[w]);
     return edges;
 }
 
-/* Drops a pivot for every check of the plan. The rows that are left, those with a 1 at their own place, are the message positions. */
+/* Drops a pivot for every check of the plan. The rows that are left, those with a 1 at their own place, are the message
+ * positions. */
 static void eliminate(const code *c, const uint8_t *sheet, size_t n, const uint8_t *wiring, row_set *column)
 {
     uint16_t basis[11], left[16];
     size_t edges = n * (size_t)c->d;
-    for (int i = 0; i < c->k; i++) basis[i] = (uint16_t)left_of(basis, i, sheet[2 + 2 * i] * 256u + sheet[3 + 2 * i]);
-    for (int i = 0; i < c->d; i++) left[i] = (uint16_t)left_of(basis, c->k, 1u << (c->d - 1 - i));
+    for (int i = 0; i < c->k; i++)
+        basis[i] = (uint16_t)left_of(basis, i, sheet[2 + 2 * i] * 256u + sheet[3 + 2 * i]);
+    for (int i = 0; i < c->d; i++)
+        left[i] = (uint16_t)left_of(basis, c->k, 1u << (c->d - 1 - i));
     memset(column, 0, 512 * sizeof *column);
-    for (size_t p = 0; p < edges; p++) column[p].word[p / 64] = (uint64_t)1 << (p % 64);
+    for (size_t p = 0; p < edges; p++)
+        column[p].word[p / 64] = (uint64_t)1 << (p % 64);
     for (int right = 0; right < 2; right++)
         for (size_t v = 0; v < n; v++)
             for (int digit = 0; digit < c->d; digit++) {
                 row_set hits = {{0}};
                 for (int i = 0; i < c->d; i++)
-                    if ((left[i] >> digit) & 1) put_on(&column[place_of(right, wiring, v * (size_t)c->d + (size_t)i)], &hits);
+                    if ((left[i] >> digit) & 1)
+                        put_on(&column[place_of(right, wiring, v * (size_t)c->d + (size_t)i)], &hits);
                 size_t pivot = lowest_row(&hits, edges);
-                if (pivot == edges) continue;
+                if (pivot == edges)
+                    continue;
                 for (size_t e = 0; e < edges; e++)
-                    if (has_row(&column[e], pivot)) put_on(&hits, &column[e]);
+                    if (has_row(&column[e], pivot))
+                        put_on(&hits, &column[e]);
             }
 }
 
@@ -199,15 +230,22 @@ int plain_encode(const uint8_t *sheet, size_t sheet_bytes, size_t n, const uint8
     code c;
     row_set column[512], chosen = {{0}};
     int fault = check_sheet(sheet, sheet_bytes, &c);
-    if (!fault) fault = check_wiring(&c, n, wiring, wiring_bytes);
-    if (fault) return fault;
+    if (!fault)
+        fault = check_wiring(&c, n, wiring, wiring_bytes);
+    if (fault)
+        return fault;
     size_t edges = n * (size_t)c.d, bits = 0, rank = 0;
-    if (edges > 512) return 19;
+    if (edges > 512)
+        return 19;
     eliminate(&c, sheet, n, wiring, column);
-    for (size_t p = 0; p < edges; p++) bits += (size_t)has_row(&column[p], p);
-    if (message_bytes != (bits + 7) / 8) return 20;
-    if (bits % 8 && message[bits / 8] & (0xffu >> (bits % 8))) return 21;
-    if (output_bytes < (edges + 7) / 8) return 13;
+    for (size_t p = 0; p < edges; p++)
+        bits += (size_t)has_row(&column[p], p);
+    if (message_bytes != (bits + 7) / 8)
+        return 20;
+    if (bits % 8 && message[bits / 8] & (0xffu >> (bits % 8)))
+        return 21;
+    if (output_bytes < (edges + 7) / 8)
+        return 13;
     for (size_t p = 0; p < edges; p++)
         if (has_row(&column[p], p)) {
             chosen.word[p / 64] |= (uint64_t)((message[rank / 8] >> (7 - rank % 8)) & 1) << (p % 64);
@@ -216,8 +254,10 @@ int plain_encode(const uint8_t *sheet, size_t sheet_bytes, size_t n, const uint8
     memset(output, 0, (edges + 7) / 8);
     for (size_t e = 0; e < edges; e++) {
         int ones = 0;
-        for (int w = 0; w < 8; w++) ones += __builtin_popcountll(chosen.word[w] & column[e].word[w]);
-        if (ones % 2) output[e / 8] |= (uint8_t)(128u >> (e % 8));
+        for (int w = 0; w < 8; w++)
+            ones += __builtin_popcountll(chosen.word[w] & column[e].word[w]);
+        if (ones % 2)
+            output[e / 8] |= (uint8_t)(128u >> (e % 8));
     }
     return 0;
 }

@@ -7,7 +7,8 @@
 
 /* The straightforward port of the paper: nearest word by search over the codewords, both sides tested before each sweep. */
 int plain_decode(const uint8_t *sheet, size_t sheet_bytes, size_t n, const uint8_t *wiring, size_t wiring_bytes,
-                 const uint8_t *received, size_t received_bytes, uint8_t *output, size_t output_bytes, size_t limit, size_t *sweeps);
+                 const uint8_t *received, size_t received_bytes, uint8_t *output, size_t output_bytes, size_t limit,
+                 size_t *sweeps);
 
 /* The library's elimination, written in C: a set of rows for each bit, as eight words of 64. */
 int plain_encode(const uint8_t *sheet, size_t sheet_bytes, size_t n, const uint8_t *wiring, size_t wiring_bytes,

@@ -16,8 +16,8 @@
 static void nearest_word(void), locate(void), decode(void), report(void);
 static void spread(void), margin(void), encode(void), read_block(void);
 
-/* The bytes that each call may take, as the header says, and the number that it must answer here. The decoder's block is one that does not settle,
- * so that it runs its sweeps and writes the received block back. */
+/* The bytes that each call may take, as the header says, and the number that it must answer here. The decoder's block is one
+ * that does not settle, so that it runs its sweeps and writes the received block back. */
 static const struct {
     const char *name;
     size_t allowed;
