@@ -3,6 +3,9 @@
 # make bench     the decoder and the encoder beside plain C
 # make install   the library, its header and pkg-config file, the program margin and its man page, below PREFIX
 # make uninstall takes them away again
+SHELL = /bin/bash
+.SHELLFLAGS = -o pipefail -c
+
 PREFIX = /usr/local
 DESTDIR =
 CC = gcc
@@ -14,6 +17,7 @@ LIBRARY = $(BUILD)/liblembikat.a
 SOURCES = crates.txt $(shell find crates -name '*.rt' -o -name '*.antt')
 AT = $(DESTDIR)$(PREFIX)
 
+.NOTPARALLEL:
 .PHONY: run test bench host install uninstall clean
 
 run: target/bin/margin $(BUILD)/caption_link
@@ -32,14 +36,16 @@ host: $(BUILD)/caption_link $(BUILD)/test_vectors $(BUILD)/test_stack $(BUILD)/b
 bench: $(BUILD)/bench
 	$(BUILD)/bench
 
-# Every crate is proved before anything is built from it.
+# Every crate is proved before anything is built from it. Of what the prover says, a line a crate is shown, and all of it where it fails.
 target/bin/margin: $(SOURCES)
-	rt check
+	@mkdir -p target
+	@echo "proving and building every crate, which takes some minutes; all that the prover says is in target/prove.log"
+	@rt check 2>&1 | tee target/prove.log | grep --line-buffered '^rt:' || { cat target/prove.log; exit 1; }
 	@touch $@
 
 $(LIBRARY): $(SOURCES)
-	rt staticlib c_api
-	mkdir -p $(BUILD)
+	@mkdir -p $(BUILD)
+	@rt staticlib c_api 2>&1 | tee $(BUILD)/prove.log | grep --line-buffered '^rt:' || { cat $(BUILD)/prove.log; exit 1; }
 	cp target/staticlib/libc_api.a $@
 
 $(BUILD)/caption_link: host/caption_link.c include/lembikat.h $(LIBRARY)
@@ -53,7 +59,7 @@ $(BUILD)/test_stack: host/test_stack.c include/lembikat.h $(LIBRARY)
 
 # The baseline is compiled apart from its callers, as the library is.
 $(BUILD)/plain.o: bench/plain.c bench/plain.h
-	mkdir -p $(BUILD)
+	@mkdir -p $(BUILD)
 	$(CC) -std=c11 -Wall -Wextra -Werror -O3 -c bench/plain.c -o $@
 
 $(BUILD)/bench: bench/bench.c bench/plain.h include/lembikat.h $(BUILD)/plain.o $(LIBRARY)
