@@ -8,7 +8,7 @@ ghost use Rattle.inner_code.specs.House.{houseSheet};
 ghost use Rattle.decoder.specs.Mending.{mendedBy, LeadersKept};
 
 // Whether a sheet is the house code's.
-pub fn is_house(sheet: &[u8]) -> bool
+pub(crate) fn is_house(sheet: &[u8]) -> bool
     ensures { λ r. ⌜ (r ≡ true → now (sheet .entry) ≡ houseSheet) ⌝ }
     ensures { λ r. ⌜ (r ≡ false → now (sheet .entry) ≡ houseSheet → ⊥) ⌝ }
 {
@@ -27,7 +27,7 @@ pub fn is_house(sheet: &[u8]) -> bool
 }
 
 // Whether a word is seen at once to be its own nearest word, from the table of 256 nearest words where one is lent, and else from the basis.
-pub fn stays(near: &[u8], basis: &[u16; 11], k: usize, word: u16) -> bool
+pub(crate) fn stays(near: &[u8], basis: &[u16; 11], k: usize, word: u16) -> bool
     ensures { λ r. ⌜ (r ≡ true → (words : List ℕ) → mendedBy (now (near .entry)) (now (basis .entry)) k words word ≡ word) ⌝ }
 {
     if near.len() == 256 {
@@ -40,7 +40,7 @@ pub fn stays(near: &[u8], basis: &[u16; 11], k: usize, word: u16) -> bool
 // rows of the basis leave nothing is its own nearest word, at no search, and any other is searched for among the listed codewords. What is
 // left of a word names its coset: the leader found for a coset, its nearest pattern, is kept beside that name, so that most cosets are
 // searched once in a call.
-pub fn mended_word(
+pub(crate) fn mended_word(
     near: &[u8],
     basis: &[u16; 11],
     k: usize,

@@ -9,7 +9,7 @@ ghost use Rattle.decoder.specs.Mending.{Prepared};
 
 // Sweeps a block until it settles and answers after how many sweeps it did, `limit` + 1 where it did not within `limit`. No pass is made
 // for the test alone: a sweep that changes no vertex says that its side was satisfied, and the side swept before it always is.
-pub fn settle(
+pub(crate) fn settle(
     sheet: &[u8],
     n: usize,
     wiring: &[u8],

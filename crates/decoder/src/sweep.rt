@@ -10,7 +10,7 @@ ghost use Rattle.decoder.specs.Sweep.{sweep};
 ghost use Rattle.decoder.specs.Mending.{mendedBy, changedBy, LeadersKept, PassedOver};
 
 // Puts the nearest word at every vertex of a side and answers at how many vertices that was another word.
-pub fn sweep_side(
+pub(crate) fn sweep_side(
     right: bool,
     wiring: &[u8],
     d: usize,

@@ -1,4 +1,4 @@
--- The margin's numbers where they are those of a plan.
+-- The margin's numbers where they are those of a plan: none of this is needed to believe a contract of a service.
 --   InRange n d D R          n up to 2,048, d and D up to 16, D not 0, R up to 1,048,576: every accepted plan is in range
 --   planRange n d D R        the test of it
 --   namedInRange n d D R F   the sweeps named for F flips; 0 where F is not covered or the numbers are no plan's

@@ -9,7 +9,7 @@ ghost use Rattle.radius.specs.Spread.{spread};
 ghost use Rattle.radius.specs.Walk.{Wires, Noted, Ends, arrivals, Countable, Counted, Fresh, Walked, Summable, unevenBy, largestWalked};
 
 // The spread R of an accepted wiring.
-pub fn measured_spread(wiring: &[u8], n: usize, d: usize) -> u64
+pub(crate) fn measured_spread(wiring: &[u8], n: usize, d: usize) -> u64
     requires { ⌜ Wires d n (now wiring) ⌝ }
     ensures { λ r. ⌜ r ≡ spread (edgeOf (now (wiring .entry))) n d ⌝ }
 {
