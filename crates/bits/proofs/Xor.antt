@@ -10,11 +10,11 @@
 use mathlib.Core.Path.{_≡_, refl, sym, ap, ap₂, _∙_}
 use mathlib.Core.Logic.{_≢_, _⊎_, inl, inr}
 use Prim.Native.Nat.{ℕ, zero, suc, _+_, _-_, _*_, _/_, _%_, _^_, _≤_, _<_}
-use native.Mathlib.Nat.{add-zero, eq-zero-or-pos, pow-suc, div-one, div-eq-of-lt, div-eq-of-lt-le, mod-eq-of-lt, one-mul, lt-of-lt-of-le}
+use native.Mathlib.Nat.{add-comm, add-zero, eq-zero-or-pos, pow-suc, div-one, div-eq-of-lt, div-eq-of-lt-le, mod-eq-of-lt, one-mul, lt-of-lt-of-le}
 use native.Mathlib.Numerals.{one-add}
 use native.Mathlib.Omega.{arith}
 use lib.Arith.{bin-ind}
-use lib.Bits.{bitXor, differ, xor-add-and, xor-comm, xor-self, xor-zero-r, xor-lt, xor-block, xor-shr, xor-mod, shifted-half, shifted-even}
+use lib.Bits.{bitXor, differ, xor-add-and, xor-comm, xor-self, xor-zero-l, xor-zero-r, xor-lt, xor-block, xor-shr, xor-mod, shifted-half, shifted-even}
 use lib.Count.{ones, ones-step}
 use lib.Pow.{pow-pos, pow-mono, shl-shr, shr-shr}
 use Rattle.bits.specs.Bit.{digit}
@@ -152,6 +152,29 @@ pub ones-xor-le : (a b : ℕ) → ones (bitXor a b) ≤ ones a + ones b
 ones-xor-le =
     bin-ind (λ (a : ℕ). (b : ℕ) → ones (bitXor a b) ≤ ones a + ones b) (λ b. omega arith)
     (λ a ih b. omega (arith, ones-step (bitXor a b), ap ones (xor-half a b), xor-parity a b, ih (b / 2), ones-step a, ones-step b))
+
+-- a sum's parity, where a part is known by its own
+pub parity-part : (x y r : ℕ) → x % 2 ≡ y % 2 → (x + r) % 2 ≡ (y + r) % 2
+parity-part x y r e = omega arith
+
+parity-digits : (a b p q : ℕ) → (a + b + (p + q) % 2) % 2 ≡ (p % 2 + a + (q % 2 + b)) % 2
+parity-digits a b p q = parity-digit a b (p + q) ∙ parity-two a b p q
+  where
+    parity-digit : (a b x : ℕ) → (a + b + x % 2) % 2 ≡ (a + b + x) % 2
+    parity-digit a b x = omega arith
+
+    parity-two : (a b p q : ℕ) → (a + b + (p + q)) % 2 ≡ (p % 2 + a + (q % 2 + b)) % 2
+    parity-two a b p q = omega arith
+
+pub ones-xor-parity : (a b : ℕ) → ones (bitXor a b) % 2 ≡ (ones a + ones b) % 2
+ones-xor-parity =
+    bin-ind (λ (a : ℕ). (b : ℕ) → ones (bitXor a b) % 2 ≡ (ones a + ones b) % 2)
+    (λ b. ap (λ (x : ℕ). ones x % 2) (xor-zero-l b) ∙ omega (arith, ones-zero))
+    (λ a ih b.
+    ap (λ (x : ℕ). x % 2) (ones-step (bitXor a b) ∙ add-comm (bitXor a b % 2) (ones (bitXor a b / 2)))
+    ∙ parity-part (ones (bitXor a b / 2)) (ones (a / 2) + ones (b / 2)) (bitXor a b % 2) (ap (λ (x : ℕ). ones x % 2) (xor-half a b) ∙ ih (b / 2))
+    ∙ ap (λ (x : ℕ). (ones (a / 2) + ones (b / 2) + x) % 2) (xor-parity a b) ∙ parity-digits (ones (a / 2)) (ones (b / 2)) a b
+    ∙ sym (ap₂ (λ (x y : ℕ). (x + y) % 2) (ones-step a) (ones-step b)))
 
 pub ones-triangle : (a b c : ℕ) → ones (bitXor a c) ≤ ones (bitXor a b) + ones (bitXor b c)
 ones-triangle a b c = omega (arith, ap ones (xor-cancel-middle a b c), ones-xor-le (bitXor a b) (bitXor b c))

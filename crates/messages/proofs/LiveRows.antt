@@ -19,7 +19,7 @@ use native.Mathlib.Decide.{ℕ-discrete}
 use native.Mathlib.Numerals.{add-one}
 use native.Mathlib.Omega.{arith}
 use lib.Bits.{bitXor, bitAnd, and-le-l, and-shr, and-mod, xor-zero-l, xor-zero-r}
-use lib.Count.{ones, ones-le}
+use lib.Count.{ones}
 use lib.ListN.{length, getD, set}
 use lib.Pow.{pow-mono, shl-lt}
 use lib.Seq.{getD-set-same, getD-set-other}
@@ -140,13 +140,6 @@ module _ (chosen columns : List ℕ) (e : ℕ) where
 
   both-lt : (v : ℕ) → getD chosen v 0 < 2 ^ 64 → bitAnd (getD chosen v 0) (getD columns (8 * e + v) 0) < 2 ^ 64
   both-lt v fits = lt-of-le-of-lt (and-le-l _ _) fits
-
-  pub ones-both-word : (v : ℕ) → getD chosen v 0 < 2 ^ 64 → ones (bitAnd (getD chosen v 0) (getD columns (8 * e + v) 0)) ≤ 64
-  ones-both-word v fits = ones-le 64 _ (both-lt v fits)
-
-  pub ones-both-le : (w : ℕ) → ((v : ℕ) → v < w → getD chosen v 0 < 2 ^ 64) → onesBoth chosen columns e w ≤ w * 64
-  unfolding onesBoth
-  ones-both-le w words = omega (arith, sum-const w 64, sum-mono w _ (λ v. 64) (λ v l. ones-both-word v (words v l)))
 
   -- one word: the rows 64·v .. 64·v + 63
   ones-both-rows : (v : ℕ) → getD chosen v 0 < 2 ^ 64

@@ -126,17 +126,18 @@ fn put_bits(edges: usize, columns: &[u64], chosen: &[u64], output: &mut [u8])
     }
 }
 
-// Bit e of the chosen rows put together: 1 where an odd number of them has a 1 there.
+// Bit e of the chosen rows put together: 1 where an odd number of them has a 1 there. Words are put together before their ones are
+// counted, which keeps the parity.
 fn parity_of(columns: &[u64], chosen: &[u64], e: usize) -> u64
     requires { ⌜ 8 * e + 8 ≤ length (now columns) ⌝ }
     requires { ⌜ length (now chosen) ≡ 8 ⌝ }
     ensures { λ r. ⌜ r ≡ columnParity (now (chosen .entry)) (now (columns .entry)) e ⌝ }
 {
-    let mut ones: u64 = 0;
+    let mut common: u64 = 0;
     let mut w: usize = 0;
     while w < 8 {
-        ones += u64::count_ones(chosen[w] & columns[8 * e + w]) as u64;
+        common = common ^ (chosen[w] & columns[8 * e + w]);
         w += 1;
     }
-    ones % 2
+    (u64::count_ones(common) % 2) as u64
 }
