@@ -213,7 +213,8 @@ static int row(const plan *p, const char *damage, work library, work plain)
     return 0;
 }
 
-/* The decoder on the codeword sent with no, few and many flips, and on random bits, which do not settle. */
+/* The decoder on the codeword sent with no, few and many flips, and on random bits, which do not settle. The zero block stands
+   apart: it is plain C's best case, since its search for a codeword ends at the first word of the list at every vertex. */
 static int decoder_rows(const plan *p, unsigned few, unsigned many)
 {
     static uint16_t order[MAX_EDGES];
@@ -232,6 +233,7 @@ static int decoder_rows(const plan *p, unsigned few, unsigned many)
         failed |= row(p, damage, library_decodes, plain_decodes);
     }
     memset(received, 0, block_bytes(p));
+    failed |= row(p, "zero block", library_decodes, plain_decodes);
     for (size_t i = 0; i < edges; i++)
         if (draw(2))
             flip(received, i);
