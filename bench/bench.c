@@ -245,7 +245,7 @@ static int encoder_row(const plan *p)
 {
     memset(message, 0, sizeof message);
     message_bytes = 0;
-    while (lembikat_encode(PLAN, message, message_bytes, mine, block_bytes(p)).number == 20)
+    while (lembikat_encode(PLAN, message, message_bytes, mine, block_bytes(p)).number == LEMBIKAT_MESSAGE_LENGTH_WRONG)
         message_bytes++;
     if (message_bytes > 1)
         message[0] = 0xa5;

@@ -33,33 +33,33 @@ static void lay_wiring(void)
 /* Every call takes the plan; these are its five parameters. */
 #define PLAN sheet, sizeof sheet, N_VERTICES, wiring, sizeof wiring
 
-/* What a technician should be told. The numbers are those of the table in lembikat.h. */
+/* What a technician should be told. */
 static const char *in_words(uint32_t number)
 {
     static const char *const words[] = {
-        "done",
-        "the sheet has fewer than 2 bytes",
-        "the sheet's d is not 2 to 16",
-        "the sheet's k is not 1 to 11, or is above d",
-        "the sheet's length does not fit its k",
-        "this row of the sheet has more than d bits",
-        "this row of the sheet is made of earlier rows",
-        "the number of vertices is not 1 to 2,048",
-        "the wiring's length does not fit the plan",
-        "this entry of the wiring names an edge that is not there",
-        "this entry of the wiring names an edge that stood before",
-        "the block's length does not fit the plan",
-        "a bit after the block's last is set",
-        "the output buffer is too short",
-        "the limit is above 4,096 sweeps",
-        "the block is unsettled after the sweeps allowed",
-        "the list is too short for the runs",
-        "more flips than the block has bits",
-        "so many flips are not covered",
-        "the plan is too large for messages",
-        "the message's length does not fit the plan",
-        "a bit after the message's last is set",
-        "the block is no codeword",
+        [LEMBIKAT_DONE] = "done",
+        [LEMBIKAT_SHEET_SHORT] = "the sheet has fewer than 2 bytes",
+        [LEMBIKAT_DEGREE_OUT_OF_RANGE] = "the sheet's d is not 2 to 16",
+        [LEMBIKAT_ROWS_OUT_OF_RANGE] = "the sheet's k is not 1 to 11, or is above d",
+        [LEMBIKAT_SHEET_LENGTH_WRONG] = "the sheet's length does not fit its k",
+        [LEMBIKAT_ROW_TOO_LARGE] = "this row of the sheet has more than d bits",
+        [LEMBIKAT_ROW_DEPENDENT] = "this row of the sheet is made of earlier rows",
+        [LEMBIKAT_VERTICES_OUT_OF_RANGE] = "the number of vertices is not 1 to 2,048",
+        [LEMBIKAT_WIRING_LENGTH_WRONG] = "the wiring's length does not fit the plan",
+        [LEMBIKAT_ENTRY_TOO_LARGE] = "this entry of the wiring names an edge that is not there",
+        [LEMBIKAT_ENTRY_REPEATED] = "this entry of the wiring names an edge that stood before",
+        [LEMBIKAT_BLOCK_LENGTH_WRONG] = "the block's length does not fit the plan",
+        [LEMBIKAT_STRAY_BIT] = "a bit after the block's last is set",
+        [LEMBIKAT_OUTPUT_SHORT] = "the output buffer is too short",
+        [LEMBIKAT_LIMIT_TOO_LARGE] = "the limit is above 4,096 sweeps",
+        [LEMBIKAT_UNSETTLED] = "the block is unsettled after the sweeps allowed",
+        [LEMBIKAT_LIST_SHORT] = "the list is too short for the runs",
+        [LEMBIKAT_FLIPS_TOO_MANY] = "more flips than the block has bits",
+        [LEMBIKAT_FLIPS_NOT_COVERED] = "so many flips are not covered",
+        [LEMBIKAT_PLAN_TOO_LARGE] = "the plan is too large for messages",
+        [LEMBIKAT_MESSAGE_LENGTH_WRONG] = "the message's length does not fit the plan",
+        [LEMBIKAT_MESSAGE_STRAY_BIT] = "a bit after the message's last is set",
+        [LEMBIKAT_NO_CODEWORD] = "the block is no codeword",
     };
     return number < sizeof words / sizeof words[0] ? words[number] : "unknown";
 }
@@ -67,7 +67,7 @@ static const char *in_words(uint32_t number)
 /* For calls that cannot be refused unless this program is wrong. */
 static uint64_t must(const char *what, lembikat_answer answer)
 {
-    if (answer.number != 0) {
+    if (answer.number != LEMBIKAT_DONE) {
         printf("%s: refused %u at %u: %s\n", what, answer.number, answer.place, in_words(answer.number));
         exit(1);
     }
@@ -86,16 +86,17 @@ static void flip_bit(uint8_t *bytes, size_t bit)
 }
 
 /* How many bits a block carries. No call answers it, since a host knows its plan; the refusals tell it to one that does not:
- * only the right length of a message is not refused with 20, and a bit behind the last is refused with 21. */
+ * every length of a message but the right one is LEMBIKAT_MESSAGE_LENGTH_WRONG, and a bit behind the last is
+ * LEMBIKAT_MESSAGE_STRAY_BIT. */
 static size_t message_bits(void)
 {
     uint8_t message[LEMBIKAT_MAX_MESSAGE_BYTES] = {0}, block[BLOCK_BYTES];
     size_t size = 0, bits = 0;
-    while (lembikat_encode(PLAN, message, size, block, sizeof block).number == 20)
+    while (lembikat_encode(PLAN, message, size, block, sizeof block).number == LEMBIKAT_MESSAGE_LENGTH_WRONG)
         size++;
     for (size_t bit = 0; bit < 8 * size; bit++) {
         flip_bit(message, bit);
-        if (lembikat_encode(PLAN, message, size, block, sizeof block).number == 0)
+        if (lembikat_encode(PLAN, message, size, block, sizeof block).number == LEMBIKAT_DONE)
             bits = bit + 1;
         flip_bit(message, bit);
     }
@@ -140,7 +141,7 @@ int main(void)
     uint64_t sweeps = must("margin", lembikat_margin(PLAN, 0));
     for (;;) {
         lembikat_answer more = lembikat_margin(PLAN, flips + 1);
-        if (more.number != 0)
+        if (more.number != LEMBIKAT_DONE)
             break;
         flips++;
         sweeps = more.value;
@@ -185,13 +186,13 @@ int main(void)
         return 1;
     }
 
-    /* A block that is noise: after refusal 15 the output holds it as it came, for a host that shows or keeps it anyway. */
+    /* A block that is noise: where it is unsettled the output holds it as it came, for a host that shows or keeps it anyway. */
     for (size_t i = 0; i < sizeof received; i++)
         received[i] = (uint8_t)(next_noise() >> 16);
     memset(settled, 0, sizeof settled);
     lembikat_answer answer = lembikat_decode(PLAN, received, sizeof received, settled, sizeof settled, sweeps);
     printf("noise: refused %u: %s\n", answer.number, in_words(answer.number));
-    if (answer.number != 15 || memcmp(settled, received, sizeof settled) != 0)
+    if (answer.number != LEMBIKAT_UNSETTLED || memcmp(settled, received, sizeof settled) != 0)
         return 1;
     printf("  the output holds the received block\n");
     answer = lembikat_locate(PLAN, received, sizeof received);
@@ -207,5 +208,5 @@ int main(void)
         if (settled[i] != 0xee)
             return 1;
     printf("  the output is as it was\n");
-    return answer.number == 10 && answer.place == 37 ? 0 : 1;
+    return answer.number == LEMBIKAT_ENTRY_REPEATED && answer.place == 37 ? 0 : 1;
 }

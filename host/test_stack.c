@@ -24,14 +24,14 @@ static const struct {
     uint32_t number;
     void (*run)(void);
 } calls[] = {
-    {"lembikat_nearest_word", 5 * 1024, 0, nearest_word},
-    {"lembikat_locate", 5 * 1024, 0, locate},
-    {"lembikat_decode", 12 * 1024, 15, decode},
-    {"lembikat_report", 5 * 1024, 0, report},
-    {"lembikat_spread", 138 * 1024, 0, spread},
-    {"lembikat_margin", 142 * 1024, 0, margin},
-    {"lembikat_encode", 38 * 1024, 0, encode},
-    {"lembikat_read", 38 * 1024, 0, read_block},
+    {"lembikat_nearest_word", 5 * 1024, LEMBIKAT_DONE, nearest_word},
+    {"lembikat_locate", 5 * 1024, LEMBIKAT_DONE, locate},
+    {"lembikat_decode", 12 * 1024, LEMBIKAT_UNSETTLED, decode},
+    {"lembikat_report", 5 * 1024, LEMBIKAT_DONE, report},
+    {"lembikat_spread", 138 * 1024, LEMBIKAT_DONE, spread},
+    {"lembikat_margin", 142 * 1024, LEMBIKAT_DONE, margin},
+    {"lembikat_encode", 38 * 1024, LEMBIKAT_DONE, encode},
+    {"lembikat_read", 38 * 1024, LEMBIKAT_DONE, read_block},
 };
 #define CALLS (sizeof calls / sizeof calls[0])
 
@@ -161,8 +161,8 @@ int main(void)
     shuffle(small, SMALL * D);
     for (size_t i = 0; i < sizeof noise; i++)
         noise[i] = (uint8_t)draw(256);
-    /* The only length of a message that is not refused with 20 is the plan's. */
-    while (lembikat_encode(SMALL_PLAN, message, message_bytes, block, sizeof block).number == 20)
+    /* The only length of a message that is not refused is the plan's. */
+    while (lembikat_encode(SMALL_PLAN, message, message_bytes, block, sizeof block).number == LEMBIKAT_MESSAGE_LENGTH_WRONG)
         message_bytes++;
     message[0] = 0xb7;
 

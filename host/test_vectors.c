@@ -23,7 +23,7 @@ _Static_assert(sizeof(size_t) == 8, "numbers of the stream have 64 bits and are 
 
 #define RANDOM_CALLS 20000
 #define SHOWN_FAILURES 10
-#define LAST_REFUSAL 22
+#define LAST_REFUSAL LEMBIKAT_NO_CODEWORD
 #define LAST_SERVICE 9
 #define PIECE 2 /* the service that the C host does not call */
 
@@ -308,7 +308,7 @@ static const char *line_of(const call *c, const outcome *o)
     static char line[2 * ROOM + 100];
     char *end = line;
     lembikat_answer a = o->answer;
-    if (a.number != 0)
+    if (a.number != LEMBIKAT_DONE)
         end += sprintf(end, "refused %u %u", a.number, a.place);
     else if (c->service >= 8)
         end += sprintf(end, "ok");
@@ -903,7 +903,7 @@ static void border_calls(void)
     for (size_t flips = 0; flips < 8; flips++) {
         call c = {.service = 7, .field = {[SHEET] = {sheet, 4}, [WIRING] = {wiring, 64}}, .n = 4, .number = flips};
         compare("border", flips, &c);
-        if (failed(by_library.answer.number != (flips < 4 ? 0 : 18)))
+        if (failed(by_library.answer.number != (flips < 4 ? LEMBIKAT_DONE : LEMBIKAT_FLIPS_NOT_COVERED)))
             printf("FAILED: border call %zu ended in %u\n", flips, by_library.answer.number);
     }
 }
@@ -926,9 +926,9 @@ static void part_two(void)
     for (int s = 0; s < 8; s++)
         printf(" %8s", service_names[called[s]]);
     printf("      all\n");
-    for (unsigned number = 0; number <= LAST_REFUSAL; number++) {
+    for (unsigned number = LEMBIKAT_DONE; number <= LAST_REFUSAL; number++) {
         size_t all = 0;
-        if (number == 0)
+        if (number == LEMBIKAT_DONE)
             printf("    done");
         else
             printf("%8u", number);

@@ -1,8 +1,8 @@
 /* lembikat.h: blocks of Zemor's graph code, checked, decoded, explained and guaranteed.
  *
  * A plan is a sheet (the inner code) and a wiring (the bipartite graph). Every call takes the plan anew and keeps nothing.
- * Link with -llembikat; of the host it needs nothing but memset. The calls are proved: for whatever bytes and numbers they are
- * given they answer what this header says, end, and write no byte but those named here.
+ * Link with -llembikat; of the host it needs nothing but memset and memcpy, which every C host has. The calls are proved: for
+ * whatever bytes and numbers they are given they answer what this header says, end, and write no byte but those named here.
  *
  * THE PLAN
  *   sheet    byte 0 is d, the bits a vertex reads (2 to 16); byte 1 is k, the number of rows (1 to 11, at most d); then k
@@ -19,31 +19,32 @@
  *
  * REFUSALS
  *   A call checks from the top of this list down, as far as the numbers concern it, and stops at the first that applies. A
- *   refused call has written nothing, with one exception: after 15 the front of the output holds the received block.
+ *   refused call has written nothing, with one exception: after LEMBIKAT_UNSETTLED the front of the output holds the received
+ *   block.
  *
- *   number  place   condition
- *        1      0   sheet: fewer than 2 bytes
- *        2      0   sheet: d is not 2 to 16
- *        3      0   sheet: k is not 1 to 11, or is above d
- *        4      0   sheet: its length is not 2 + 2k
- *        5    row   sheet: the first faulty row is at or above 2^d
- *        6    row   sheet: the first faulty row is an exclusive-or of earlier rows (a zero row is)
- *        7      0   wiring: n is not 1 to 2,048
- *        8      0   wiring: its length is not 2N
- *        9  entry   wiring: the first faulty entry is at or above N
- *       10  entry   wiring: the first faulty entry stood before
- *       19      0   encode, read: N is above 512
- *       11      0   block: its length is not N / 8 rounded up
- *       12      0   block: a bit after N - 1 is set; nearest word: the word is at or above 2^d
- *       22      0   read: the block is no codeword
- *       20      0   encode: the message's length is not K / 8 rounded up
- *       21      0   encode: a bit after K - 1 is set
- *       13      0   output: shorter than the block or message to be written
- *       14      0   decode: limit is above 4,096
- *       15      0   decode: unsettled after `limit` sweeps
- *       16      0   report: the list is shorter than 4 bytes a pair
- *       17      0   margin: flips is above N
- *       18      0   margin: so many flips are not covered
+ *   number  name                            place  condition
+ *        1  LEMBIKAT_SHEET_SHORT                0  sheet: fewer than 2 bytes
+ *        2  LEMBIKAT_DEGREE_OUT_OF_RANGE        0  sheet: d is not 2 to 16
+ *        3  LEMBIKAT_ROWS_OUT_OF_RANGE          0  sheet: k is not 1 to 11, or is above d
+ *        4  LEMBIKAT_SHEET_LENGTH_WRONG         0  sheet: its length is not 2 + 2k
+ *        5  LEMBIKAT_ROW_TOO_LARGE            row  sheet: the first faulty row is at or above 2^d
+ *        6  LEMBIKAT_ROW_DEPENDENT            row  sheet: the first faulty row is an exclusive-or of earlier rows (zero is)
+ *        7  LEMBIKAT_VERTICES_OUT_OF_RANGE      0  wiring: n is not 1 to 2,048
+ *        8  LEMBIKAT_WIRING_LENGTH_WRONG        0  wiring: its length is not 2N
+ *        9  LEMBIKAT_ENTRY_TOO_LARGE        entry  wiring: the first faulty entry is at or above N
+ *       10  LEMBIKAT_ENTRY_REPEATED         entry  wiring: the first faulty entry stood before
+ *       19  LEMBIKAT_PLAN_TOO_LARGE             0  encode, read: N is above 512
+ *       11  LEMBIKAT_BLOCK_LENGTH_WRONG         0  block: its length is not N / 8 rounded up
+ *       12  LEMBIKAT_STRAY_BIT                  0  block: a bit after N - 1 is set; nearest word: the word is at or above 2^d
+ *       22  LEMBIKAT_NO_CODEWORD                0  read: the block is no codeword
+ *       20  LEMBIKAT_MESSAGE_LENGTH_WRONG       0  encode: the message's length is not K / 8 rounded up
+ *       21  LEMBIKAT_MESSAGE_STRAY_BIT          0  encode: a bit after K - 1 is set
+ *       13  LEMBIKAT_OUTPUT_SHORT               0  output: shorter than the block or message to be written
+ *       14  LEMBIKAT_LIMIT_TOO_LARGE            0  decode: limit is above 4,096
+ *       15  LEMBIKAT_UNSETTLED                  0  decode: unsettled after `limit` sweeps
+ *       16  LEMBIKAT_LIST_SHORT                 0  report: the list is shorter than 4 bytes a pair
+ *       17  LEMBIKAT_FLIPS_TOO_MANY             0  margin: flips is above N
+ *       18  LEMBIKAT_FLIPS_NOT_COVERED          0  margin: so many flips are not covered
  *   Rows and entries are counted from 0.
  *
  * THREADS AND BUFFERS
@@ -62,22 +63,62 @@
 extern "C" {
 #endif
 
-/* The largest sizes, in bytes, over all plans. */
-#define LEMBIKAT_MAX_VERTICES 2048
-#define LEMBIKAT_MAX_EDGES 32768
-#define LEMBIKAT_MAX_SHEET_BYTES 24
-#define LEMBIKAT_MAX_WIRING_BYTES 65536
-#define LEMBIKAT_MAX_BLOCK_BYTES 4096
-#define LEMBIKAT_MAX_LIST_BYTES 65536
-#define LEMBIKAT_MAX_MESSAGE_EDGES 512
-#define LEMBIKAT_MAX_MESSAGE_BYTES 64
-#define LEMBIKAT_MAX_LIMIT 4096
+/* The version, as text (pkg-config tells the same) and as numbers; the last two are below 1,000 each. LEMBIKAT_VERSION_NUMBER
+ * rises with every version. A host asks for a version or a later one so:
+ *   #if LEMBIKAT_VERSION_AT_LEAST(1, 0, 0) */
+#define LEMBIKAT_VERSION "1.0"
+#define LEMBIKAT_VERSION_MAJOR 1
+#define LEMBIKAT_VERSION_MINOR 0
+#define LEMBIKAT_VERSION_PATCH 0
+#define LEMBIKAT_VERSION_AS_NUMBER(major, minor, patch) (1000000L * (major) + 1000L * (minor) + (patch))
+#define LEMBIKAT_VERSION_NUMBER                                                                                                \
+    LEMBIKAT_VERSION_AS_NUMBER(LEMBIKAT_VERSION_MAJOR, LEMBIKAT_VERSION_MINOR, LEMBIKAT_VERSION_PATCH)
+#define LEMBIKAT_VERSION_AT_LEAST(major, minor, patch)                                                                         \
+    (LEMBIKAT_VERSION_NUMBER >= LEMBIKAT_VERSION_AS_NUMBER(major, minor, patch))
+
+/* The largest values over all plans. Names that end in BYTES count bytes. */
+#define LEMBIKAT_MAX_VERTICES 2048      /* n, the vertices of a side */
+#define LEMBIKAT_MAX_EDGES 32768        /* N, the edges of a plan and the bits of a block */
+#define LEMBIKAT_MAX_SHEET_BYTES 24     /* a sheet of 11 rows */
+#define LEMBIKAT_MAX_WIRING_BYTES 65536 /* two bytes an edge */
+#define LEMBIKAT_MAX_BLOCK_BYTES 4096   /* a bit an edge */
+#define LEMBIKAT_MAX_LIST_BYTES 65536   /* a report of (N + 1) / 2 runs, four bytes each */
+#define LEMBIKAT_MAX_MESSAGE_EDGES 512  /* N, for encode and read */
+#define LEMBIKAT_MAX_MESSAGE_BYTES 64   /* a message, or a block that carries one */
+#define LEMBIKAT_MAX_LIMIT 4096         /* the decoder's limit, in sweeps */
 
 /* The bytes of a block of a plan with n vertices of degree d. */
 #define LEMBIKAT_BLOCK_BYTES(n, d) (((size_t)(n) * (size_t)(d) + 7) / 8)
 
+/* How a call ended: the names of the table above, with their numbers. */
+enum lembikat_outcome {
+    LEMBIKAT_DONE = 0,
+    LEMBIKAT_SHEET_SHORT = 1,
+    LEMBIKAT_DEGREE_OUT_OF_RANGE = 2,
+    LEMBIKAT_ROWS_OUT_OF_RANGE = 3,
+    LEMBIKAT_SHEET_LENGTH_WRONG = 4,
+    LEMBIKAT_ROW_TOO_LARGE = 5,
+    LEMBIKAT_ROW_DEPENDENT = 6,
+    LEMBIKAT_VERTICES_OUT_OF_RANGE = 7,
+    LEMBIKAT_WIRING_LENGTH_WRONG = 8,
+    LEMBIKAT_ENTRY_TOO_LARGE = 9,
+    LEMBIKAT_ENTRY_REPEATED = 10,
+    LEMBIKAT_BLOCK_LENGTH_WRONG = 11,
+    LEMBIKAT_STRAY_BIT = 12,
+    LEMBIKAT_OUTPUT_SHORT = 13,
+    LEMBIKAT_LIMIT_TOO_LARGE = 14,
+    LEMBIKAT_UNSETTLED = 15,
+    LEMBIKAT_LIST_SHORT = 16,
+    LEMBIKAT_FLIPS_TOO_MANY = 17,
+    LEMBIKAT_FLIPS_NOT_COVERED = 18,
+    LEMBIKAT_PLAN_TOO_LARGE = 19,
+    LEMBIKAT_MESSAGE_LENGTH_WRONG = 20,
+    LEMBIKAT_MESSAGE_STRAY_BIT = 21,
+    LEMBIKAT_NO_CODEWORD = 22,
+};
+
 /* What every call answers.
- *   number   0 where the call is done, else the number of the refusal
+ *   number   LEMBIKAT_DONE, else the number of the refusal. It is 32 bits wide whatever a compiler makes of an enum
  *   place    the row or entry at fault for 5, 6, 9 and 10; 0 with every other refusal. Of a call that is done: 0, but for
  *            lembikat_locate
  *   value    what the call found; 0 with a refusal
@@ -107,7 +148,7 @@ lembikat_answer lembikat_locate(const uint8_t *sheet, size_t sheet_bytes, size_t
 /* Decodes a received block. Sweep 1 puts the nearest word at every left vertex, sweep 2 at every right vertex, and so on; the
  * block settles at the first count from 0 to `limit` after which it is a codeword. A block that differs from a codeword in no
  * more bits than lembikat_margin covers settles at that codeword within the sweeps that it names.
- *   output: the settled block at the front; with 15 the received block; else untouched.  value: the sweeps.
+ *   output: the settled block at the front; with LEMBIKAT_UNSETTLED the received block; else untouched.  value: the sweeps.
  *   Refusals: 1 to 12, 13, 14, 15.  Stack: at most 12 KiB. */
 lembikat_answer lembikat_decode(const uint8_t *sheet, size_t sheet_bytes, size_t n, const uint8_t *wiring, size_t wiring_bytes,
                                 const uint8_t *received, size_t received_bytes, uint8_t *output, size_t output_bytes,

@@ -1,0 +1,70 @@
+/* What a host can ask of lembikat.h without a call, in C and in C++: tests/header.sh compiles this file in both languages and
+ * compares what it prints, the version and then every number with its name. */
+#include "lembikat.h"
+
+#include <stdio.h>
+
+#define MAJOR LEMBIKAT_VERSION_MAJOR
+#define MINOR LEMBIKAT_VERSION_MINOR
+#define PATCH LEMBIKAT_VERSION_PATCH
+
+#if !LEMBIKAT_VERSION_AT_LEAST(MAJOR, MINOR, PATCH) || !LEMBIKAT_VERSION_AT_LEAST(MAJOR - 1, 999, 999)
+#error "the version is not at least itself, or an earlier one"
+#endif
+#if LEMBIKAT_VERSION_AT_LEAST(MAJOR, MINOR, PATCH + 1) || LEMBIKAT_VERSION_AT_LEAST(MAJOR, MINOR + 1, 0) ||                    \
+    LEMBIKAT_VERSION_AT_LEAST(MAJOR + 1, 0, 0)
+#error "the version is at least a later one"
+#endif
+
+/* The sizes follow from the largest d, 16, the most rows, 11, and one another. */
+#if LEMBIKAT_MAX_EDGES != LEMBIKAT_MAX_VERTICES * 16 || LEMBIKAT_MAX_SHEET_BYTES != 2 + 2 * 11 ||                              \
+    LEMBIKAT_MAX_WIRING_BYTES != 2 * LEMBIKAT_MAX_EDGES || LEMBIKAT_MAX_BLOCK_BYTES != LEMBIKAT_MAX_EDGES / 8 ||               \
+    LEMBIKAT_MAX_LIST_BYTES != (LEMBIKAT_MAX_EDGES + 1) / 2 * 4 ||                                                             \
+    LEMBIKAT_MAX_MESSAGE_BYTES != LEMBIKAT_MAX_MESSAGE_EDGES / 8
+#error "the largest sizes do not fit one another"
+#endif
+
+/* Without a default: the compiler complains where a name of the enum is missing here. */
+static const char *name_of(enum lembikat_outcome outcome)
+{
+#define NAMED(name)                                                                                                            \
+    case name:                                                                                                                 \
+        return #name
+    switch (outcome) {
+        NAMED(LEMBIKAT_DONE);
+        NAMED(LEMBIKAT_SHEET_SHORT);
+        NAMED(LEMBIKAT_DEGREE_OUT_OF_RANGE);
+        NAMED(LEMBIKAT_ROWS_OUT_OF_RANGE);
+        NAMED(LEMBIKAT_SHEET_LENGTH_WRONG);
+        NAMED(LEMBIKAT_ROW_TOO_LARGE);
+        NAMED(LEMBIKAT_ROW_DEPENDENT);
+        NAMED(LEMBIKAT_VERTICES_OUT_OF_RANGE);
+        NAMED(LEMBIKAT_WIRING_LENGTH_WRONG);
+        NAMED(LEMBIKAT_ENTRY_TOO_LARGE);
+        NAMED(LEMBIKAT_ENTRY_REPEATED);
+        NAMED(LEMBIKAT_BLOCK_LENGTH_WRONG);
+        NAMED(LEMBIKAT_STRAY_BIT);
+        NAMED(LEMBIKAT_OUTPUT_SHORT);
+        NAMED(LEMBIKAT_LIMIT_TOO_LARGE);
+        NAMED(LEMBIKAT_UNSETTLED);
+        NAMED(LEMBIKAT_LIST_SHORT);
+        NAMED(LEMBIKAT_FLIPS_TOO_MANY);
+        NAMED(LEMBIKAT_FLIPS_NOT_COVERED);
+        NAMED(LEMBIKAT_PLAN_TOO_LARGE);
+        NAMED(LEMBIKAT_MESSAGE_LENGTH_WRONG);
+        NAMED(LEMBIKAT_MESSAGE_STRAY_BIT);
+        NAMED(LEMBIKAT_NO_CODEWORD);
+    }
+    return "no name";
+}
+
+int main(void)
+{
+    lembikat_answer answer = {LEMBIKAT_DONE, LEMBIKAT_NONE, 0};
+    if (sizeof answer.number != sizeof(uint32_t))
+        return 1;
+    printf("version %s, numbers %d %d %d\n", LEMBIKAT_VERSION, MAJOR, MINOR, PATCH);
+    for (; answer.number <= LEMBIKAT_NO_CODEWORD; answer.number++)
+        printf("%d %s\n", (int)answer.number, name_of((enum lembikat_outcome)answer.number));
+    return 0;
+}
