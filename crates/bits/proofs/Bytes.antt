@@ -23,7 +23,8 @@ use lib.ListN.{length, getD, set, length-set, List·getD-eq-default}
 use lib.Pow.{pow-mono, shl-lt}
 use lib.Seq.{ext-getD, set-getD, set-out, getD-set-same, getD-set-other}
 use Rattle.bits.specs.Bit.{digit, bitAt, putDigit, withBit, pairAt}
-use Rattle.bits.proofs.Xor.{digit-lt, digit-zero, digit-ext, digit-pow-same, digit-pow-other, xor-digit, xor-assoc, xor-cancel, xor-cancel-middle, xor-right-comm, xor-pow, xor-bits-lt}
+use Rattle.bits.proofs.Xor.{digit-lt, digit-zero, digit-ext, digit-pow-same, digit-pow-other, xor-digit, xor-assoc}
+use Rattle.bits.proofs.Xor.{xor-cancel, xor-cancel-middle, xor-right-comm, xor-pow, xor-bits-lt}
 
 -- ---- one digit of a number
 

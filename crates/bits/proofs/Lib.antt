@@ -1,3 +1,5 @@
+pub mod Tests
+pub mod Searches
 pub mod Sums
 pub mod Xor
 pub mod Words

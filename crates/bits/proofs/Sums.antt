@@ -19,7 +19,8 @@ use Prim.Native.Nat.{ℕ, zero, suc, _+_, _-_, _*_, _≤_, _<_, zero-le}
 use mathlib.Core.Bool.{Bool, true, false}
 use mathlib.Core.Logic.{_⊎_, inl, inr}
 use mathlib.Core.Path.{_≡_, refl, sym, ap, ap₂, _∙_}
-use native.Mathlib.Nat.{add-le-add, add-sub-of-le, add-suc, add-zero, eq-or-lt-of-le, eq-zero-or-pos, le-of-eq, le-of-suc-le-suc, le-refl, le-step, mul-le-mul-left, mul-one, mul-zero, not-suc-le-zero, suc-mul, zero-mul}
+use native.Mathlib.Nat.{add-le-add, add-sub-of-le, add-suc, add-zero, eq-or-lt-of-le, eq-zero-or-pos, le-of-eq, le-of-suc-le-suc}
+use native.Mathlib.Nat.{le-refl, le-step, mul-le-mul-left, mul-one, mul-zero, not-suc-le-zero, suc-mul, zero-mul}
 use native.Mathlib.Decide.{decLe, ℕ-discrete}
 use native.Mathlib.Numerals.{add-one}
 use native.Mathlib.Omega.{arith}
@@ -199,9 +200,12 @@ sum-at (suc n) a f l =
     ]
 
 -- p renumbers the terms and q is its inverse: f (p i) is the sum over j of flag (j = p i) * f j, and that flag is the one of i = q j
-pub sum-reindex : (n : ℕ) (p q : ℕ → ℕ) → ((i : ℕ) → i < n → p i < n) → ((i : ℕ) → i < n → q i < n) → ((i : ℕ) → i < n → q (p i) ≡ i) → ((i : ℕ) → i < n → p (q i) ≡ i) → (f : ℕ → ℕ) → sum n (λ i. f (p i)) ≡ sum n f
+pub sum-reindex : (n : ℕ) (p q : ℕ → ℕ) → ((i : ℕ) → i < n → p i < n) → ((i : ℕ) → i < n → q i < n)
+    → ((i : ℕ) → i < n → q (p i) ≡ i) → ((i : ℕ) → i < n → p (q i) ≡ i) → (f : ℕ → ℕ)
+    → sum n (λ i. f (p i)) ≡ sum n f
 sum-reindex n p q p-below q-below q-p p-q f =
-    let same : (i j : ℕ) → i < n → j < n → flag (eqb j (p i)) ≡ flag (eqb i (q j)) = λ i j k l. flag-same j (p i) i (q j) (λ e. sym (ap q e ∙ q-p i k)) (λ e. sym (ap p e ∙ p-q j l)) in
+    let same : (i j : ℕ) → i < n → j < n → flag (eqb j (p i)) ≡ flag (eqb i (q j)) =
+    λ i j k l. flag-same j (p i) i (q j) (λ e. sym (ap q e ∙ q-p i k)) (λ e. sym (ap p e ∙ p-q j l)) in
     sum-ext n _ _ (λ i l. sym (sum-at n (p i) f (p-below i l)))
     ∙ sum-swap n n (λ i j. flag (eqb j (p i)) * f j)
     ∙ sum-ext n _ _ (λ j l. sum-ext n _ _ (λ i k. ap (λ (x : ℕ). x * f j) (same i j k l)) ∙ sum-at n (q j) (λ i. f j) (q-below j l))
@@ -226,14 +230,17 @@ count-unique n t h =
       | inl e ↦ omega arith
       | inr some ↦
           let (a, l, k) = sum-some n (λ i. flag (t i)) some in
-          omega (arith, count-at n a l, sum-mono n _ (λ i. flag (eqb i a)) (λ i b. flag-mono (t i) (eqb i a) (λ e. eq-eqb i a (h i a b l e (flag-pos (t a) k)))))
+          let only : (i : ℕ) → i < n → t i ≡ true → eqb i a ≡ true = λ i b e. eq-eqb i a (h i a b l e (flag-pos (t a) k)) in
+          omega (arith, count-at n a l, sum-mono n _ (λ i. flag (eqb i a)) (λ i b. flag-mono (t i) (eqb i a) (only i b)))
     ]
 
 -- the n values of p fall on n numbers, at most one on each, so one falls on every number below n
-pub injective-onto : (n : ℕ) (p : ℕ → ℕ) → ((i : ℕ) → i < n → p i < n) → ((i j : ℕ) → i < n → j < n → p i ≡ p j → i ≡ j) → (a : ℕ) → a < n → (i : ℕ) × (i < n) × (p i ≡ a)
+pub injective-onto : (n : ℕ) (p : ℕ → ℕ) → ((i : ℕ) → i < n → p i < n) → ((i j : ℕ) → i < n → j < n → p i ≡ p j → i ≡ j)
+    → (a : ℕ) → a < n → (i : ℕ) × (i < n) × (p i ≡ a)
 injective-onto n p below injective a l =
     let hits : ℕ → ℕ = λ b. sum n (λ i. flag (eqb b (p i))) in
-    let most : (b : ℕ) → b < n → hits b ≤ 1 = λ b k. count-unique n _ (λ i j r s d e. injective i j r s (sym (eqb-true b (p i) d) ∙ eqb-true b (p j) e)) in
+    let most : (b : ℕ) → b < n → hits b ≤ 1 =
+    λ b k. count-unique n _ (λ i j r s d e. injective i j r s (sym (eqb-true b (p i) d) ∙ eqb-true b (p j) e)) in
     let total : sum n (λ b. 1) ≡ sum n hits = sum-ext n _ _ (λ i k. sym (count-at n (p i) (below i k))) ∙ sum-swap n n _ in
     let (i, k, h) = sum-some n (λ i. flag (eqb a (p i))) (omega (arith, sum-tight n hits (λ b. 1) most (le-of-eq total) a l)) in
     (i, k, sym (eqb-true a (p i) (flag-pos _ h)))

@@ -1,6 +1,7 @@
 -- Windows: a few bits in a row, read out of the three bytes that hold them.
---   wordAt bytes i d   the number that the d bits from bit i on make, bit i of the highest weight (specs Bit)
--- Laws are named by their subject, then by the fact: `digit-` is about one binary digit of a number that is cut or put together.
+--   wordAt bytes i d   the number that the d bits from bit i on make, bit i of the highest weight (specs Window)
+-- Laws are named by their subject, then by the fact: `digit-` is about one binary digit of a number that is cut or put together,
+-- `power-` about a power of two in a number of 32 bits.
 use mathlib.Core.Path.{_≡_, sym, ap, ap₂, _∙_}
 use Prim.Native.Nat.{ℕ, _+_, _-_, _*_, _/_, _%_, _^_, _≤_, _<_}
 use mathlib.Core.List.{List}
@@ -8,8 +9,9 @@ use native.Mathlib.Nat.{mod-lt}
 use native.Mathlib.Decide.{decLe}
 use native.Mathlib.Omega.{arith}
 use lib.ListN.{getD}
-use lib.Pow.{pow-pos, field, mod-mod-pow, shr-shr, high, low}
-use Rattle.bits.specs.Bit.{digit, word, bitAt, wordAt}
+use lib.Pow.{pow-pos, shl-exact, field, mod-mod-pow, shr-shr, high, low}
+use Rattle.bits.specs.Window.{wordAt}
+use Rattle.bits.specs.Bit.{digit, bitAt}
 use Rattle.bits.proofs.Words.{word-ext, word-digits}
 
 -- ---- digits of a number that is cut or put together
@@ -30,6 +32,11 @@ digit-above a b k j h = sym (digit-shifted (a * 2 ^ k + b) k j) ∙ ap (λ (y : 
 
 digit-below : (a b k j : ℕ) → b < 2 ^ k → j < k → digit (a * 2 ^ k + b) j ≡ digit b j
 digit-below a b k j h l = sym (digit-low (a * 2 ^ k + b) k j l) ∙ ap (λ (y : ℕ). digit y j) (low a k h)
+
+-- ---- a power of two, as the code makes it in 32 bits
+
+pub power-held : (d : ℕ) → d ≤ 16 → (1 * 2 ^ d) % 4294967296 ≡ 2 ^ d
+power-held d h = shl-exact {a = 1} 1 d 32 (omega arith) (omega arith) ∙ omega arith
 
 -- ---- three bytes
 

@@ -10,11 +10,12 @@
 use mathlib.Core.Path.{_≡_, refl, sym, ap, ap₂, _∙_}
 use mathlib.Core.Logic.{_≢_, _⊎_, inl, inr}
 use Prim.Native.Nat.{ℕ, zero, suc, _+_, _-_, _*_, _/_, _%_, _^_, _≤_, _<_}
-use native.Mathlib.Nat.{add-comm, add-zero, eq-zero-or-pos, pow-suc, div-one, div-eq-of-lt, div-eq-of-lt-le, mod-eq-of-lt, one-mul, lt-of-lt-of-le}
+use native.Mathlib.Nat.{add-comm, add-zero, eq-zero-or-pos, pow-suc, div-one, div-eq-of-lt, mod-eq-of-lt, one-mul, lt-of-lt-of-le}
 use native.Mathlib.Numerals.{one-add}
 use native.Mathlib.Omega.{arith}
 use lib.Arith.{bin-ind}
-use lib.Bits.{bitXor, differ, xor-add-and, xor-comm, xor-self, xor-zero-l, xor-zero-r, xor-lt, xor-block, xor-shr, xor-mod, shifted-half, shifted-even}
+use lib.Bits.{bitXor, differ, xor-add-and, xor-comm, xor-self, xor-zero-l, xor-zero-r}
+use lib.Bits.{xor-lt, xor-block, xor-shr, xor-mod, shifted-half, shifted-even}
 use lib.Count.{ones, ones-step}
 use lib.Pow.{pow-pos, pow-mono, shl-shr, shr-shr}
 use Rattle.bits.specs.Bit.{digit}

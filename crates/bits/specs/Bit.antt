@@ -1,20 +1,15 @@
 -- Bits of numbers and of byte strings.
---   at l i            element i of a list, 0 past its end
 --   digit x j         the binary digit of weight 2^j of the number x
 --   word d f          the number whose d binary digits are f 0 .. f (d - 1), f 0 of the highest weight
 --   bitAt bytes i     bit i of a byte string: bit 0 has weight 128 in byte 0
 --   putDigit x j b    the number x with its digit of weight 2^j made b
 --   withBit bytes i b the byte string with its bit i made b; past the end nothing changes
---   wordAt bytes i d  the number that the d bits from bit i on make, bit i of the highest weight; past the end bits are 0
 --   written front l   the list l with `front` at its beginning
 --   pairAt bytes at   the two-byte number at the index `at`, high byte first; a missing byte is 0
 use Prim.Native.Nat.{ℕ, zero, suc, _+_, _-_, _*_, _/_, _%_, _^_}
 use mathlib.Core.List.{List, _++_}
 use lib.ListN.{length, getD, set, drop}
 use lib.Bits.{bitXor}
-
-unfoldable pub at : List ℕ → ℕ → ℕ
-at l i = getD l i 0
 
 unfoldable pub digit : ℕ → ℕ → ℕ
 digit x j = x / 2 ^ j % 2
@@ -37,10 +32,6 @@ withBit bytes i b = set bytes (i / 8) (putDigit (getD bytes (i / 8) 0) (7 - i % 
 
 unfoldable pub pairAt : List ℕ → ℕ → ℕ
 pairAt bytes at = getD bytes at 0 * 256 + getD bytes (at + 1) 0
-
-unfoldable pub wordAt : List ℕ → ℕ → ℕ → ℕ
-unfolding word bitAt
-wordAt bytes i d = word d (λ j. bitAt bytes (i + j))
 
 unfoldable pub written : List ℕ → List ℕ → List ℕ
 written front l = front ++ drop (length front) l

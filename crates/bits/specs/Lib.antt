@@ -1,2 +1,4 @@
 pub mod Bit
 pub mod Sum
+pub mod Search
+pub mod Window

@@ -1,7 +1,8 @@
 // Bits of byte strings and two-byte numbers, with the laws that every other crate cites.
 ghost use mathlib.Core.Path.{_≡_};
 ghost use Prim.Native.Nat.{_%_, _<_, _≤_, min};
-ghost use Rattle.bits.specs.Bit.{at, bitAt, withBit, pairAt, wordAt};
+ghost use Rattle.bits.specs.Window.{at, wordAt};
+ghost use Rattle.bits.specs.Bit.{bitAt, withBit, pairAt};
 
 // Bit i of a byte string, 0 past its end. Bit 0 has weight 128 in byte 0.
 pub fn bit(bytes: &[u8], i: usize) -> u64

@@ -3,7 +3,7 @@
 --   telling-place   the same of the locator
 use mathlib.Core.Path.{_≡_, sym, ap, _∙_}
 use Rattle.inner_code.specs.Reply.{Reply}
-use Rattle.c_api.specs.Answers.{told, toldPlace}
+use Rattle.c_api.specs.Answer.{told, toldPlace}
 use Rattle.c_api.specs.declared.Answer.{Answer}
 
 module _ {E : Type 0} (of : E → Reply) {answer case : E} {reply : Reply} {a : Answer} (is : answer ≡ case) (said : of answer ≡ reply) where

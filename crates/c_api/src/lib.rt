@@ -9,14 +9,17 @@ use messages::Taken;
 use radius::Margin;
 use radius::Spread;
 use wiring::Located;
+use wiring::SideName;
+ghost use mathlib.Core.List.{[], _∷_};
 ghost use mathlib.Core.Path.{_≡_};
-ghost use Rattle.inner_code.specs.Sheet.{nearestAnswer};
-ghost use Rattle.wiring.specs.Answer.{locateAnswer};
-ghost use Rattle.decoder.specs.Decode.{decodeAnswer, decodeOutput};
-ghost use Rattle.decoder.specs.Report.{reportAnswer, reportList};
+ghost use Rattle.inner_code.specs.Reply.{done, refused};
+ghost use Rattle.inner_code.specs.Answer.{nearestAnswer};
+ghost use Rattle.wiring.specs.Plan.{planOf};
+ghost use Rattle.wiring.specs.Answer.{locateAnswer, sideNumber};
+ghost use Rattle.decoder.specs.Answer.{decodeAnswer, decodeOutput, reportAnswer, reportList};
 ghost use Rattle.radius.specs.Answer.{spreadAnswer, marginAnswer};
-ghost use Rattle.messages.specs.Message.{encodeAnswer, encodeOutput, readAnswer, readOutput};
-ghost use Rattle.c_api.specs.Answers.{doneWith, refusedWith, told, toldPlace};
+ghost use Rattle.messages.specs.Answer.{encodeAnswer, encodeOutput, readAnswer, readOutput};
+ghost use Rattle.c_api.specs.Answer.{told, toldPlace};
 
 // What every call answers. Number 0: the call is done, and `value` is its value. Any other number is the paper's refusal, and `place` the
 // row or entry at fault. The locator alone uses both fields of a call that is done: `place` is 0 for none, 1 for left and 2 for right, and
@@ -42,24 +45,11 @@ pub extern "C" fn lembikat_nearest_word(sheet: &[u8], word: u64) -> Answer
 // The first unsatisfied vertex of a block, the left side before the right, the lowest number first. Refusals 1 to 12.
 #[no_mangle]
 pub extern "C" fn lembikat_locate(sheet: &[u8], n: usize, wiring: &[u8], block: &[u8]) -> Answer
-    ensures { λ r. ⌜ r ≡ toldPlace (locateAnswer (now (sheet .entry)) n (now (wiring .entry)) (now (block .entry))) ⌝ }
+    ensures { λ r. ⌜ r ≡ toldPlace (locateAnswer (planOf (now (sheet .entry)) n (now (wiring .entry))) (now (block .entry))) ⌝ }
 {
     match wiring::locate(sheet, n, wiring, block) {
         Located::Nowhere => done(0),
-        Located::At { right, vertex } => {
-            if right {
-                return Answer {
-                    number: 0,
-                    place: 2,
-                    value: vertex as u64,
-                };
-            }
-            Answer {
-                number: 0,
-                place: 1,
-                value: vertex as u64,
-            }
-        }
+        Located::At { side, vertex } => found(side, vertex as u64),
         Located::Refused(r) => refused(r),
     }
 }
@@ -75,8 +65,8 @@ pub extern "C" fn lembikat_decode(
     output: &mut [u8],
     limit: usize,
 ) -> Answer
-    ensures { λ r. ⌜ r ≡ told (decodeAnswer (now (sheet .entry)) n (now (wiring .entry)) (now (received .entry)) (now (output .entry)) limit) ⌝ }
-    ensures { λ _. ⌜ now (output .exit) ≡ decodeOutput (now (sheet .entry)) n (now (wiring .entry)) (now (received .entry)) (now (output .entry)) limit ⌝ }
+    ensures { λ r. ⌜ r ≡ told (decodeAnswer (planOf (now (sheet .entry)) n (now (wiring .entry))) (now (received .entry)) (now (output .entry)) limit) ⌝ }
+    ensures { λ _. ⌜ now (output .exit) ≡ decodeOutput (planOf (now (sheet .entry)) n (now (wiring .entry))) (now (received .entry)) (now (output .entry)) limit ⌝ }
 {
     match decoder::decode(sheet, n, wiring, received, output, limit) {
         Decoded::Settled(sweeps) => done(sweeps as u64),
@@ -95,8 +85,8 @@ pub extern "C" fn lembikat_report(
     settled: &[u8],
     list: &mut [u8],
 ) -> Answer
-    ensures { λ r. ⌜ r ≡ told (reportAnswer (now (sheet .entry)) n (now (wiring .entry)) (now (received .entry)) (now (settled .entry)) (now (list .entry))) ⌝ }
-    ensures { λ _. ⌜ now (list .exit) ≡ reportList (now (sheet .entry)) n (now (wiring .entry)) (now (received .entry)) (now (settled .entry)) (now (list .entry)) ⌝ }
+    ensures { λ r. ⌜ r ≡ told (reportAnswer (planOf (now (sheet .entry)) n (now (wiring .entry))) (now (received .entry)) (now (settled .entry)) (now (list .entry))) ⌝ }
+    ensures { λ _. ⌜ now (list .exit) ≡ reportList (planOf (now (sheet .entry)) n (now (wiring .entry))) (now (received .entry)) (now (settled .entry)) (now (list .entry)) ⌝ }
 {
     match decoder::report_runs(sheet, n, wiring, received, settled, list) {
         Reported::Pairs(pairs) => done(pairs as u64),
@@ -107,7 +97,7 @@ pub extern "C" fn lembikat_report(
 // The spread of a plan. Refusals 1 to 10.
 #[no_mangle]
 pub extern "C" fn lembikat_spread(sheet: &[u8], n: usize, wiring: &[u8]) -> Answer
-    ensures { λ r. ⌜ r ≡ told (spreadAnswer (now (sheet .entry)) n (now (wiring .entry))) ⌝ }
+    ensures { λ r. ⌜ r ≡ told (spreadAnswer (planOf (now (sheet .entry)) n (now (wiring .entry)))) ⌝ }
 {
     match radius::plan_spread(sheet, n, wiring) {
         Spread::Value(spread) => done(spread),
@@ -118,7 +108,7 @@ pub extern "C" fn lembikat_spread(sheet: &[u8], n: usize, wiring: &[u8]) -> Answ
 // The sweeps within which so many flipped bits are mended, whichever they are. Refusals 1 to 10, 17 and 18.
 #[no_mangle]
 pub extern "C" fn lembikat_margin(sheet: &[u8], n: usize, wiring: &[u8], flips: u64) -> Answer
-    ensures { λ r. ⌜ r ≡ told (marginAnswer (now (sheet .entry)) n (now (wiring .entry)) flips) ⌝ }
+    ensures { λ r. ⌜ r ≡ told (marginAnswer (planOf (now (sheet .entry)) n (now (wiring .entry))) flips) ⌝ }
 {
     match radius::margin_sweeps(sheet, n, wiring, flips) {
         Margin::Sweeps(sweeps) => done(sweeps),
@@ -135,8 +125,8 @@ pub extern "C" fn lembikat_encode(
     message: &[u8],
     output: &mut [u8],
 ) -> Answer
-    ensures { λ r. ⌜ r ≡ told (encodeAnswer (now (sheet .entry)) n (now (wiring .entry)) (now (message .entry)) (now (output .entry))) ⌝ }
-    ensures { λ _. ⌜ now (output .exit) ≡ encodeOutput (now (sheet .entry)) n (now (wiring .entry)) (now (message .entry)) (now (output .entry)) ⌝ }
+    ensures { λ r. ⌜ r ≡ told (encodeAnswer (planOf (now (sheet .entry)) n (now (wiring .entry))) (now (message .entry)) (now (output .entry))) ⌝ }
+    ensures { λ _. ⌜ now (output .exit) ≡ encodeOutput (planOf (now (sheet .entry)) n (now (wiring .entry))) (now (message .entry)) (now (output .entry)) ⌝ }
 {
     match messages::encode(sheet, n, wiring, message, output) {
         Encoded::Done => done(0),
@@ -154,8 +144,8 @@ pub extern "C" fn lembikat_read(
     block: &[u8],
     output: &mut [u8],
 ) -> Answer
-    ensures { λ r. ⌜ r ≡ told (readAnswer (now (sheet .entry)) n (now (wiring .entry)) (now (block .entry)) (now (output .entry))) ⌝ }
-    ensures { λ _. ⌜ now (output .exit) ≡ readOutput (now (sheet .entry)) n (now (wiring .entry)) (now (block .entry)) (now (output .entry)) ⌝ }
+    ensures { λ r. ⌜ r ≡ told (readAnswer (planOf (now (sheet .entry)) n (now (wiring .entry))) (now (block .entry)) (now (output .entry))) ⌝ }
+    ensures { λ _. ⌜ now (output .exit) ≡ readOutput (planOf (now (sheet .entry)) n (now (wiring .entry))) (now (block .entry)) (now (output .entry)) ⌝ }
 {
     match messages::read_block(sheet, n, wiring, block, output) {
         Taken::Done => done(0),
@@ -163,9 +153,27 @@ pub extern "C" fn lembikat_read(
     }
 }
 
+// The locator's answer where it has found a vertex.
+fn found(side: SideName, vertex: u64) -> Answer
+    ensures { λ r. ⌜ r ≡ toldPlace (done (sideNumber side ∷ vertex ∷ [])) ⌝ }
+{
+    match side {
+        SideName::Left => Answer {
+            number: 0,
+            place: 1,
+            value: vertex,
+        },
+        SideName::Right => Answer {
+            number: 0,
+            place: 2,
+            value: vertex,
+        },
+    }
+}
+
 // The answer of a call that is done.
 fn done(value: u64) -> Answer
-    ensures { λ r. ⌜ r ≡ doneWith value ⌝ }
+    ensures { λ r. ⌜ r ≡ told (done (value ∷ [])) ⌝ }
 {
     Answer {
         number: 0,
@@ -176,7 +184,7 @@ fn done(value: u64) -> Answer
 
 // The answer of a call that is turned back.
 fn refused(r: Refusal) -> Answer
-    ensures { λ a. ⌜ a ≡ refusedWith (r .number) (r .place) ⌝ }
+    ensures { λ a. ⌜ a ≡ told (refused (r .number) (r .place)) ⌝ }
 {
     Answer {
         number: r.number,

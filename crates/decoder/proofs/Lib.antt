@@ -1,6 +1,5 @@
 pub mod Sweeping
 pub mod Settling
-pub mod Mending
 pub mod Visiting
 pub mod Passes
 pub mod Copies

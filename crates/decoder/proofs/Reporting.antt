@@ -4,7 +4,7 @@
 --   Agreeing a b N i m   the m bits from bit i on agree, and where m is 0 bit i differs; they end before N + 1 (specs Agreement)
 --   differsAt a b i      bit i of the two blocks differs (specs Report)
 --   runStart, endsAt, runCount, runBytes, pairBytes   where runs begin and end, their number and their bytes (specs Report)
---   written front l      the list l with `front` at its beginning (specs Decode)
+--   written front l      the list l with `front` at its beginning (bits specs Bit)
 --   sets l i vs          the list l with `vs` stored from index i on (lib.Seq)
 --   Outcome .. reply left   `reply` is what the service answers and `left` is the list that it leaves
 -- A stretch is m bits from bit i on, at least one, that all fail the test: a run may end before it, and none begins in it.
@@ -19,29 +19,29 @@ use mathlib.Core.Path.{_≡_, refl, sym, ap, _∙_}
 use native.Mathlib.Nat.{add-zero, add-suc, lt-suc-self, le-step, not-suc-le-zero}
 use native.Mathlib.Numerals.{add-one}
 use native.Mathlib.Omega.{arith}
-use lib.ListN.{length, getD, set, length-append}
-use lib.Seq.{sets, sets-eq, take-append-seam, drop-append-add, drop-drop}
-use borrow.Author.Tests.{eq-eqb, ne-eqb}
+use lib.ListN.{length, getD, set}
+use lib.Seq.{sets}
+use borrow.Author.Tests.{ne-eqb}
 use Rattle.bits.specs.Bit.{bitAt, written}
 use Rattle.inner_code.specs.Reply.{Reply, done, refused}
-use Rattle.inner_code.specs.Sheet.{degree}
 use Rattle.inner_code.specs.declared.sheet.CheckedSheet.{CheckedSheet}
 use Rattle.wiring.specs.Wiring.{planCheck}
 use Rattle.wiring.specs.Block.{blockBytes, blockCheck}
 use Rattle.wiring.proofs.Permutation.{edges-le}
 use Rattle.wiring.proofs.Plans.{PlanAccepted}
 use Rattle.wiring.proofs.Blocks.{block-sized}
-use Rattle.decoder.specs.Report.{differsAt, runStart, endsAt, runCount, pairBytes, runBytes, reportAnswer, reportList}
+use Rattle.decoder.specs.Report.{differsAt, runStart, endsAt, runCount, pairBytes, runBytes}
+use Rattle.decoder.specs.Answer.{reportAnswer, reportList}
+use Rattle.wiring.specs.Plan.{Plan, edgeCount}
 use Rattle.decoder.specs.Agreement.{Held, Agreeing}
-use Rattle.bits.proofs.Fronts.{length-written}
-use Rattle.decoder.proofs.Runs.{start-one-more-outside, ends-back, ends-inside, ends-empty, runCount-one-more-ends, runCount-one-more-none, runBytes-one-more-ends, runBytes-one-more-none, runCount-mono, length-runBytes, differs-bits, Reported, report-plan, report-received, report-settled-block, report-short, report-done}
+use Rattle.bits.proofs.Fronts.{length-written, written-more}
+use Rattle.decoder.proofs.Runs.{start-one-more-outside, ends-back, ends-inside, ends-empty, differs-bits, differs-agree, runCount-mono, length-runBytes}
+use Rattle.decoder.proofs.Runs.{runCount-one-more-ends, runCount-one-more-none, runBytes-one-more-ends, runBytes-one-more-none}
+use Rattle.decoder.proofs.Runs.{Reported, report-plan, report-received, report-settled-block, report-short, report-done}
 
 -- ---- what two blocks say of a stretch
 
 module _ (a b : List ℕ) where
-  bits-agree : (i : ℕ) → bitAt a i ≡ bitAt b i → differsAt a b i ≡ false
-  bits-agree i e = differs-bits a b i ∙ ap not (eq-eqb _ _ e)
-
   bits-differ : (i : ℕ) → (bitAt a i ≡ bitAt b i → ⊥) → differsAt a b i ≡ true
   bits-differ i e = differs-bits a b i ∙ ap not (ne-eqb _ _ e)
 
@@ -56,7 +56,7 @@ module _ (a b : List ℕ) where
         record {
           within = omega arith;
           none = λ z. absurd (omega arith);
-          each = λ j l. bits-agree (i + j) (byte-agrees i j border e l);
+          each = λ j l. differs-agree a b (i + j) (byte-agrees i j border e l);
         }
 
     module _ (x y : ℕ) (read-a : x ≡ bitAt a i) (read-b : y ≡ bitAt b i) (inside : i ≤ N) where
@@ -65,7 +65,7 @@ module _ (a b : List ℕ) where
           record {
             within = omega arith;
             none = λ z. absurd (omega arith);
-            each = λ j l. let same : i + j ≡ i = omega arith in rw same (bits-agree i (sym read-a ∙ e ∙ read-b));
+            each = λ j l. let same : i + j ≡ i = omega arith in rw same (differs-agree a b i (sym read-a ∙ e ∙ read-b));
           }
 
       pub agreeing-none : (x ≡ y → ⊥) → Agreeing a b N i 0
@@ -135,14 +135,6 @@ stored-pair l at a b =
     let fourth : at + 3 ≡ suc (suc (suc at)) = omega arith in
     rw (second, third, fourth)
 
--- what is stored behind the front joins it
-pub written-more : (front piece l : List ℕ) → length front + length piece ≤ length l
-    → sets (written front l) (length front) piece ≡ written (front ++ piece) l
-unfolding written
-written-more front piece l room =
-    sets-eq piece (written front l) (length front) (omega (arith, length-written front l (omega arith)))
-    ∙ rw (take-append-seam, drop-append-add, drop-drop, length-append)
-
 length-pair : (a b : ℕ) → length (pairBytes a b) ≡ 4
 unfolding pairBytes
 length-pair a b = refl
@@ -175,41 +167,42 @@ unfolding blockBytes
 blocks-held N received settled few pass-r pass-s =
     record { few = few; first = omega (arith, block-sized N received pass-r); second = omega (arith, block-sized N settled pass-s) }
 
-pub edges-few : {sheet : List ℕ} {n : ℕ} {wiring : List ℕ} {r : CheckedSheet} {d k : ℕ} → PlanAccepted sheet n wiring r d k → n * d ≤ 32768
-edges-few {n = n} {d = d} p = edges-le n d (p .plan-wired .n-high) (omega (arith, p .d-is, p .sheet-sound .degree-high))
+pub edges-few : {plan : Plan} {r : CheckedSheet} {d k : ℕ} → PlanAccepted plan r d k → plan .n * d ≤ 32768
+edges-few {plan} {d = d} p = edges-le (plan .n) d (p .plan-wired .n-high) (omega (arith, p .d-is, p .sheet-sound .degree-high))
 
-module _ (sheet : List ℕ) (n : ℕ) (wiring received settled list : List ℕ) where
+module _ (plan : Plan) (received settled list : List ℕ) where
   abbrev Outcome : Reply → List ℕ → Type 0
-  Outcome reply left = (reply ≡ reportAnswer sheet n wiring received settled list) × (left ≡ reportList sheet n wiring received settled list)
+  Outcome reply left = (reply ≡ reportAnswer plan received settled list) × (left ≡ reportList plan received settled list)
 
-  outcome : {reply : Reply} {left : List ℕ} → Reported sheet n wiring received settled list reply left → Outcome reply left
+  outcome : {reply : Reply} {left : List ℕ} → Reported plan received settled list reply left → Outcome reply left
   outcome r = (sym (r .answer), sym (r .leaves))
 
-  pub outcome-plan : (number place : ℕ) → planCheck sheet n wiring ≡ refused number place → Outcome (refused number place) list
-  outcome-plan number place e = outcome (report-plan sheet n wiring received settled list number place e)
+  pub outcome-plan : (number place : ℕ) → planCheck plan ≡ refused number place → Outcome (refused number place) list
+  outcome-plan number place e = outcome (report-plan plan received settled list number place e)
 
-  module _ {r : CheckedSheet} {d k : ℕ} (p : PlanAccepted sheet n wiring r d k) where
-    edges-are : n * d ≡ n * degree sheet
-    edges-are = ap (λ (x : ℕ). n * x) (p .d-is)
+  module _ {r : CheckedSheet} {d k : ℕ} (p : PlanAccepted plan r d k) where
+    edges-are : plan .n * d ≡ edgeCount plan
+    edges-are = ap (λ (x : ℕ). plan .n * x) (p .d-is)
 
-    pub outcome-received : (number place : ℕ) → blockCheck (n * d) received ≡ refused number place → Outcome (refused number place) list
+    pub outcome-received : (number place : ℕ) → blockCheck (plan .n * d) received ≡ refused number place → Outcome (refused number place) list
     outcome-received number place e =
-        outcome (report-received sheet n wiring received settled list (p .plan-done) number place (rw edges-are at e))
+        outcome (report-received plan received settled list (p .plan-done) number place (rw edges-are at e))
 
-    module _ (pass-r : blockCheck (n * d) received ≡ done []) where
-      pub outcome-settled : (number place : ℕ) → blockCheck (n * d) settled ≡ refused number place → Outcome (refused number place) list
+    module _ (pass-r : blockCheck (plan .n * d) received ≡ done []) where
+      pub outcome-settled : (number place : ℕ) → blockCheck (plan .n * d) settled ≡ refused number place → Outcome (refused number place) list
       outcome-settled number place e =
-          outcome (report-settled-block sheet n wiring received settled list (p .plan-done) (rw edges-are at pass-r) number place (rw edges-are at e))
+          outcome (report-settled-block plan received settled list (p .plan-done) (rw edges-are at pass-r) number place (rw edges-are at e))
 
-      module _ (pass-s : blockCheck (n * d) settled ≡ done []) (count : ℕ) (counted : count ≡ runCount (differsAt received settled) (n * d + 1)) where
+      module _ (pass-s : blockCheck (plan .n * d) settled ≡ done []) (count : ℕ)
+          (counted : count ≡ runCount (differsAt received settled) (plan .n * d + 1)) where
         pub outcome-short : length list < 4 * count → Outcome (refused 16 0) list
         outcome-short short =
-            outcome (report-short sheet n wiring received settled list (p .plan-done) (rw edges-are at pass-r) (rw edges-are at pass-s)
+            outcome (report-short plan received settled list (p .plan-done) (rw edges-are at pass-r) (rw edges-are at pass-s)
             (rw (counted, edges-are) at short))
 
-        pub outcome-done : (left : List ℕ) → 4 * count ≤ length list → left ≡ written (runBytes (differsAt received settled) (n * d + 1)) list
+        pub outcome-done : (left : List ℕ) → 4 * count ≤ length list → left ≡ written (runBytes (differsAt received settled) (plan .n * d + 1)) list
             → Outcome (done (count ∷ [])) left
         outcome-done left room e =
             rw (e, counted, edges-are)
-            (outcome (report-done sheet n wiring received settled list (p .plan-done) (rw edges-are at pass-r) (rw edges-are at pass-s)
+            (outcome (report-done plan received settled list (p .plan-done) (rw edges-are at pass-r) (rw edges-are at pass-s)
             (rw (counted, edges-are) at room)))

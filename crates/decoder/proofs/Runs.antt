@@ -5,7 +5,7 @@
 --   runBytes test m        these runs in order, offset and length of each as two bytes each (specs Report)
 --   covered test m e       bit e is in a run that ends before some i below m
 --   differsAt a b i        bit i of the two blocks differs (specs Report)
---   reportAnswer, reportList   what the service answers, and its list at exit (specs Report)
+--   reportAnswer, reportList   what the service answers, and its list at exit (specs Answer)
 --   Reported .. reply left     the service answers `reply` and leaves the list `left`
 -- A run is a stretch of bits that pass the test, as long as it can be: from runStart test i to i - 1, for an i at which one ends.
 -- Laws are named by their subject, then by the fact: `start-` is about where a run begins, `ends-` about where one ends, `runs-`
@@ -15,7 +15,7 @@
 -- At the end of a name, `-zero` and `-one-more` are a loop's start and step: a bit in the run (-inside) or not (-outside), a run
 -- that ends there (-ends) or none (-none).
 use Prim.Native.Nat.{ℕ, zero, suc, _+_, _-_, _*_, _≤_, _<_, pred}
-use mathlib.Core.Bool.{Bool, true, false, not, _&&_, and-false, true≢false, false≢true}
+use mathlib.Core.Bool.{Bool, true, false, not, _&&_, and-false, true≢false}
 use mathlib.Core.List.{List, [], _∷_, _++_, append-nil}
 use mathlib.Core.Logic.{_⊎_, inl, inr}
 use mathlib.Core.Path.{_≡_, refl, sym, ap, _∙_}
@@ -27,28 +27,26 @@ use lib.Bits.{bitXor, xor-zero-r}
 use lib.Dec.{ltb, leb, eqb}
 use lib.ListN.{length, getD, length-append}
 use borrow.Author.Tests.{ltb-true, lt-ltb, le-ltb, leb-true, le-leb, eqb-true, eqb-false, eq-eqb, not-true}
+use Rattle.bits.proofs.Tests.{and-both}
 use Rattle.bits.specs.Bit.{bitAt, written}
 use Rattle.bits.specs.Sum.{flag}
 use Rattle.bits.proofs.Sums.{sum-one-more, sum-append, flag-true, flag-false}
 use Rattle.bits.proofs.Xor.{xor-bits-parity}
 use Rattle.bits.proofs.Bytes.{bitAt-lt}
 use Rattle.inner_code.specs.Reply.{Reply, done, refused, refuseIf, andThen}
-use Rattle.inner_code.specs.Code.{someBelow}
-use Rattle.inner_code.specs.Sheet.{degree}
-use Rattle.inner_code.proofs.Least.{some-below, some-found}
-use Rattle.inner_code.proofs.Replies.{refuse-taken, refuse-passed, andThen-passed, andThen-refused}
+use Rattle.bits.specs.Search.{someBelow}
+use Rattle.bits.proofs.Searches.{some-below, some-found}
+use Rattle.inner_code.proofs.Replies.{refuse-taken, refuse-passed, andThen-passed, andThen-refused, ifDone-done, ifDone-refused}
 use Rattle.wiring.specs.Wiring.{planCheck}
 use Rattle.wiring.specs.Block.{blockCheck}
 use Rattle.wiring.proofs.Blocks.{block-clear}
-use Rattle.decoder.specs.Report.{differsAt, runStart, endsAt, runCount, pairBytes, runBytes, reportAnswer, listFor, reportList}
+use Rattle.decoder.specs.Report.{differsAt, runStart, endsAt, runCount, pairBytes, runBytes}
+use Rattle.decoder.specs.Answer.{reportAnswer, reportList}
+use Rattle.wiring.specs.Plan.{Plan, edgeCount}
 
 holds-or-not : (b : Bool) → (b ≡ true) ⊎ (b ≡ false)
 holds-or-not true = inl refl
 holds-or-not false = inr refl
-
-both-hold : (a b : Bool) → (a && b) ≡ true → (a ≡ true) × (b ≡ true)
-both-hold true b e = (refl, e)
-both-hold false b e = absurd (false≢true e)
 
 -- one test has one outcome
 opposite : {b : Bool} → b ≡ true → b ≡ false → ⊥
@@ -121,7 +119,7 @@ module _ (test : ℕ → Bool) where
   pub ends-after : (i : ℕ) → endsAt test i ≡ true → (test i ≡ false) × (runStart test i < i)
   unfolding endsAt
   ends-after i e =
-      let (out, some) = both-hold (not (test i)) _ e in
+      let (out, some) = and-both (not (test i)) _ e in
       (not-true (test i) out, ltb-true _ i some)
 
   pub ends-back : (i : ℕ) → test i ≡ false → runStart test i < i → endsAt test i ≡ true
@@ -171,7 +169,7 @@ module _ (test : ℕ → Bool) where
   unfolding covered
   covered-passes m e c =
       let (i, l, q) = some-found m (λ i. endsAt test i && (leb (runStart test i) e && ltb e i)) c in
-      let (low, high) = both-hold (leb (runStart test i) e) (ltb e i) (both-hold (endsAt test i) _ q .1) in
+      let (low, high) = and-both (leb (runStart test i) e) (ltb e i) (and-both (endsAt test i) _ q .1) in
       start-inside i e (leb-true _ e low) (ltb-true e i high)
 
   -- the runs cover the bits that pass, and no other
@@ -267,11 +265,14 @@ pub differs-bits : (a b : List ℕ) (i : ℕ) → differsAt a b i ≡ not (eqb (
 unfolding differsAt
 differs-bits a b i = refl
 
+pub differs-agree : (a b : List ℕ) (i : ℕ) → bitAt a i ≡ bitAt b i → differsAt a b i ≡ false
+differs-agree a b i e = differs-bits a b i ∙ ap not (eq-eqb _ _ e)
+
 module _ (N : ℕ) (received settled : List ℕ) (pass-r : blockCheck N received ≡ done []) (pass-s : blockCheck N settled ≡ done []) where
   -- past the last bit two blocks do not differ, so every run has ended before N + 1
   pub differs-past : (i : ℕ) → N ≤ i → differsAt received settled i ≡ false
   differs-past i h =
-      differs-bits received settled i ∙ ap not (eq-eqb _ _ (block-clear N received pass-r i h ∙ sym (block-clear N settled pass-s i h)))
+      differs-agree received settled i (block-clear N received pass-r i h ∙ sym (block-clear N settled pass-s i h))
 
   -- to change the received bits that the runs cover is to get the settled block
   pub runs-apply : (e : ℕ) → e < N → bitAt settled e ≡ bitXor (bitAt received e) (flag (covered (differsAt received settled) (N + 1) e))
@@ -282,62 +283,59 @@ module _ (N : ℕ) (received settled : List ℕ) (pass-r : blockCheck N received
 
 -- ---- what the report answers and leaves
 
-pub record Reported (sheet : List ℕ) (n : ℕ) (wiring received settled list : List ℕ) (reply : Reply) (left : List ℕ) : Type 0 where
-  pub answer : reportAnswer sheet n wiring received settled list ≡ reply
-  pub leaves : reportList sheet n wiring received settled list ≡ left
+pub record Reported (plan : Plan) (received settled list : List ℕ) (reply : Reply) (left : List ℕ) : Type 0 where
+  pub answer : reportAnswer plan received settled list ≡ reply
+  pub leaves : reportList plan received settled list ≡ left
 
-module _ (sheet : List ℕ) (n : ℕ) (wiring received settled list : List ℕ) where
+module _ (plan : Plan) (received settled list : List ℕ) where
   -- the number of runs of bits at which the two blocks differ
   abbrev count : ℕ
-  count = runCount (differsAt received settled) (n * degree sheet + 1)
+  count = runCount (differsAt received settled) (edgeCount plan + 1)
 
-  report-tests : reportAnswer sheet n wiring received settled list
-      ≡ andThen (planCheck sheet n wiring)
-      (andThen (blockCheck (n * degree sheet) received)
-      (andThen (blockCheck (n * degree sheet) settled) (refuseIf (ltb (length list) (4 * count)) 16 0 (done (count ∷ [])))))
+  report-tests : reportAnswer plan received settled list
+      ≡ andThen (planCheck plan)
+      (andThen (blockCheck (edgeCount plan) received)
+      (andThen (blockCheck (edgeCount plan) settled) (refuseIf (ltb (length list) (4 * count)) 16 0 (done (count ∷ [])))))
   unfolding reportAnswer
   report-tests = refl
 
-  reported : (reply : Reply) → reportAnswer sheet n wiring received settled list ≡ reply
-      → Reported sheet n wiring received settled list reply (listFor reply (n * degree sheet) received settled list)
-  unfolding reportList
-  reported reply e = record { answer = e; leaves = ap (λ (r : Reply). listFor r (n * degree sheet) received settled list) e }
-
   -- a refusal leaves the list as it is
-  reported-refused : (number place : ℕ) → reportAnswer sheet n wiring received settled list ≡ refused number place
-      → Reported sheet n wiring received settled list (refused number place) list
-  unfolding listFor
-  reported-refused number place = reported (refused number place)
+  reported-refused : (number place : ℕ) → reportAnswer plan received settled list ≡ refused number place
+      → Reported plan received settled list (refused number place) list
+  unfolding reportList
+  reported-refused number place e = record { answer = e; leaves = ifDone-refused _ _ list number place e }
 
-  pub report-plan : (number place : ℕ) → planCheck sheet n wiring ≡ refused number place
-      → Reported sheet n wiring received settled list (refused number place) list
+  pub report-plan : (number place : ℕ) → planCheck plan ≡ refused number place
+      → Reported plan received settled list (refused number place) list
   report-plan number place e = reported-refused number place (report-tests ∙ andThen-refused _ _ number place e)
 
-  module _ {values : List ℕ} (plan : planCheck sheet n wiring ≡ done values) where
-    pub report-received : (number place : ℕ) → blockCheck (n * degree sheet) received ≡ refused number place
-        → Reported sheet n wiring received settled list (refused number place) list
+  module _ {values : List ℕ} (accepted : planCheck plan ≡ done values) where
+    pub report-received : (number place : ℕ) → blockCheck (edgeCount plan) received ≡ refused number place
+        → Reported plan received settled list (refused number place) list
     report-received number place e =
-        reported-refused number place (report-tests ∙ andThen-passed _ _ values plan ∙ andThen-refused _ _ number place e)
+        reported-refused number place (report-tests ∙ andThen-passed _ _ values accepted ∙ andThen-refused _ _ number place e)
 
-    module _ {first : List ℕ} (pass-r : blockCheck (n * degree sheet) received ≡ done first) where
-      pub report-settled-block : (number place : ℕ) → blockCheck (n * degree sheet) settled ≡ refused number place
-          → Reported sheet n wiring received settled list (refused number place) list
+    module _ {first : List ℕ} (pass-r : blockCheck (edgeCount plan) received ≡ done first) where
+      pub report-settled-block : (number place : ℕ) → blockCheck (edgeCount plan) settled ≡ refused number place
+          → Reported plan received settled list (refused number place) list
       report-settled-block number place e =
           reported-refused number place
-          (report-tests ∙ andThen-passed _ _ values plan ∙ andThen-passed _ _ first pass-r ∙ andThen-refused _ _ number place e)
+          (report-tests ∙ andThen-passed _ _ values accepted ∙ andThen-passed _ _ first pass-r ∙ andThen-refused _ _ number place e)
 
-      module _ {second : List ℕ} (pass-s : blockCheck (n * degree sheet) settled ≡ done second) where
+      module _ {second : List ℕ} (pass-s : blockCheck (edgeCount plan) settled ≡ done second) where
         -- the checks of plan and blocks have passed
-        report-count : reportAnswer sheet n wiring received settled list ≡ refuseIf (ltb (length list) (4 * count)) 16 0 (done (count ∷ []))
+        report-count : reportAnswer plan received settled list ≡ refuseIf (ltb (length list) (4 * count)) 16 0 (done (count ∷ []))
         report-count =
-            report-tests ∙ andThen-passed _ _ values plan ∙ andThen-passed _ _ first pass-r ∙ andThen-passed _ _ second pass-s
+            report-tests ∙ andThen-passed _ _ values accepted ∙ andThen-passed _ _ first pass-r ∙ andThen-passed _ _ second pass-s
 
-        pub report-short : length list < 4 * runCount (differsAt received settled) (n * degree sheet + 1)
-            → Reported sheet n wiring received settled list (refused 16 0) list
+        pub report-short : length list < 4 * runCount (differsAt received settled) (edgeCount plan + 1)
+            → Reported plan received settled list (refused 16 0) list
         report-short short = reported-refused 16 0 (report-count ∙ refuse-taken _ 16 0 _ (lt-ltb _ _ short))
 
-        pub report-done : 4 * runCount (differsAt received settled) (n * degree sheet + 1) ≤ length list
-            → Reported sheet n wiring received settled list (done (runCount (differsAt received settled) (n * degree sheet + 1) ∷ []))
-            (written (runBytes (differsAt received settled) (n * degree sheet + 1)) list)
-        unfolding listFor
-        report-done room = reported (done (count ∷ [])) (report-count ∙ refuse-passed _ 16 0 _ (le-ltb _ _ room))
+        pub report-done : 4 * runCount (differsAt received settled) (edgeCount plan + 1) ≤ length list
+            → Reported plan received settled list (done (runCount (differsAt received settled) (edgeCount plan + 1) ∷ []))
+            (written (runBytes (differsAt received settled) (edgeCount plan + 1)) list)
+        unfolding reportList
+        report-done room =
+            let answers = report-count ∙ refuse-passed _ 16 0 _ (le-ltb _ _ room) in
+            record { answer = answers; leaves = ifDone-done _ _ list (count ∷ []) answers }

@@ -1,19 +1,20 @@
 -- Sweeps: what a visit of vertices in turn does to a block, what a sweep leaves, and what many sweeps in turn leave.
---   visited map bit d m block         the block after vertices 0 .. m - 1 of a side are visited in turn (specs Sweep)
---   sweep map edge d n right block    the block after every vertex of a side is visited (specs Sweep)
---   rightTurn i                       the side of sweep i + 1: left first, then in turn (specs Sweep)
---   afterSweeps map edge d n i block  the block after i sweeps (specs Sweep)
---   vertexWord bit d block v          the word that vertex v reads (wiring specs Block)
---   sideBit right edge                the bits of the left side (right is false) or the right side (wiring specs Block)
---   isCodewordBlock row k d n edge block  every vertex, left and right, reads an inner codeword (wiring specs Block)
--- `map` is what a visit makes of a vertex's word. Every law holds for any map that has the properties that the law names.
--- Laws are named by their subject, then by the fact: `visited-` is about the first m vertices of a side, `sweep-` about a whole
--- sweep, `after-` about i sweeps in turn. At the end of a name, `-one-more` is one more step, `-other` a bit that no visited
--- vertex has, `-word` and `-later` the words of visited vertices and of those still to come, `-block` the check of 11 and 12,
--- `-bytes` that bytes stay below 256, `-skip` and `-fixed` a map that leaves words as they are, `-ext` two maps that agree, `-stays` a block that does not
--- change any more, `-satisfied` vertices that read codewords.
+--   visited map side m block     the block after vertices 0 .. m - 1 of a side are visited in turn (specs Sweep)
+--   nearestOf side w             the nearest word of w by the side's inner code (specs Visiting)
+--   sweep side block             the block after every vertex of a side is visited (specs Sweep)
+--   turn i                       the side of sweep i + 1: left first, then in turn (specs Sweep)
+--   afterSweeps sides i block    the block after i sweeps (specs Sweep)
+--   vertexWord side block v      the word that vertex v reads (wiring specs Block)
+--   isCodewordBlock sides block  every vertex, left and right, reads an inner codeword (wiring specs Block)
+--   Whole N side                 the entries of a side are the bits 0 .. N - 1, each once (wiring Permutation)
+--   Mends side                   what sweeps need to know of a side's nearest word
+-- Laws are named by their subject, then by the fact: `visited-` is about the first m vertices of a side and holds for any map, `sweep-`
+-- is about a whole sweep, `after-` about i sweeps in turn. At the end of a name, `-one-more` is one more step, `-other` a bit that no
+-- visited vertex has, `-word` and `-later` the words of visited vertices and of those still to come, `-block` the check of 11 and 12,
+-- `-bytes` that bytes stay below 256, `-skip` and `-fixed` a map that leaves words as they are, `-stays` a block that does not change any
+-- more, `-satisfied` vertices that read codewords.
 use Prim.Native.Nat.{ℕ, zero, suc, _+_, _*_, _^_, _≤_, _<_}
-use mathlib.Core.Bool.{Bool, true, false, not, and-true}
+use mathlib.Core.Bool.{true, and-true}
 use mathlib.Core.List.{List, []}
 use mathlib.Core.Logic.{_≢_, ⊎-elim}
 use mathlib.Core.Path.{_≡_, refl, ap, _∙_}
@@ -25,190 +26,186 @@ use lib.Dec.{eqb}
 use lib.ListN.{length, getD}
 use borrow.Author.Tests.{eq-eqb}
 use Rattle.bits.specs.Bit.{bitAt}
+use Rattle.bits.proofs.Searches.{first-all}
 use Rattle.inner_code.specs.Reply.{done}
 use Rattle.inner_code.specs.Code.{isCodeword}
-use Rattle.wiring.specs.Wiring.{edgeOf}
-use Rattle.wiring.specs.Block.{sideBit, vertexWord, scattered, satisfied, firstUnsatisfied, isCodewordBlock, blockCheck}
-use Rattle.wiring.proofs.Searches.{first-all}
-use Rattle.wiring.proofs.Permutation.{Wired, side-lt, side-once}
-use Rattle.wiring.proofs.Blocks.{bytes-cover, block-sized, block-clear, block-back}
-use Rattle.wiring.proofs.VertexWords.{vertex-lt, length-scattered, scattered-bytes, scattered-other, scattered-word, scattered-fixed, scattered-other-word}
+use Rattle.inner_code.proofs.NearestWord.{nearest-codeword, nearest-lt, nearest-fixed}
+use Rattle.inner_code.proofs.SheetChecks.{Sound}
+use Rattle.wiring.specs.Plan.{Plan, Side, sideOf}
+use Rattle.wiring.specs.Block.{vertexWord, withWord, satisfied, firstUnsatisfied, isCodewordBlock, blockCheck}
+use Rattle.wiring.specs.declared.side.SideName.{SideName}
+use Rattle.wiring.proofs.Permutation.{Whole}
+use Rattle.wiring.proofs.Blocks.{bytes-hold, block-sized, block-clear, block-back}
+use Rattle.wiring.proofs.VertexWords.{vertex-lt, length-scattered, scattered-bytes, scattered-other, withWord-same, withWord-fixed, withWord-other}
 use Rattle.wiring.proofs.CodewordBlocks.{codeword-block-each}
-use Rattle.decoder.specs.Sweep.{visited, sweep, rightTurn, afterSweeps}
+use Rattle.decoder.specs.Visiting.{nearestOf}
+use Rattle.decoder.specs.Sweep.{visited, sweep, other, turn, afterSweeps}
 
 -- ---- vertices visited in turn
 
-module _ (map bit : ℕ → ℕ) (d : ℕ) where
+module _ (map : ℕ → ℕ) (side : Side) where
   pub visited-one-more : (v : ℕ) (block : List ℕ)
-      → visited map bit d (v + 1) block
-      ≡ scattered bit d (v * d) (map (vertexWord bit d (visited map bit d v block) v)) d (visited map bit d v block)
+      → visited map side (v + 1) block ≡ withWord side v (map (vertexWord side (visited map side v block) v)) (visited map side v block)
   unfolding visited
   visited-one-more v block = rw add-one
 
   -- a vertex whose word the map leaves as it is changes nothing
   pub visited-skip : (v : ℕ) (block : List ℕ)
-      → map (vertexWord bit d (visited map bit d v block) v) ≡ vertexWord bit d (visited map bit d v block) v
-      → visited map bit d (v + 1) block ≡ visited map bit d v block
-  visited-skip v block e = visited-one-more v block ∙ rw e (scattered-fixed bit d (visited map bit d v block) v)
+      → map (vertexWord side (visited map side v block) v) ≡ vertexWord side (visited map side v block) v
+      → visited map side (v + 1) block ≡ visited map side v block
+  visited-skip v block e = visited-one-more v block ∙ rw e (withWord-fixed side (visited map side v block) v)
 
-  pub length-visited : (m : ℕ) (block : List ℕ) → length (visited map bit d m block) ≡ length block
+  pub length-visited : (m : ℕ) (block : List ℕ) → length (visited map side m block) ≡ length block
   unfolding visited
   length-visited zero block = refl
-  length-visited (suc m) block = length-scattered bit d (m * d) _ d _ ∙ length-visited m block
+  length-visited (suc m) block = length-scattered (side .bit) (side .d) (m * side .d) _ (side .d) _ ∙ length-visited m block
 
-  pub visited-bytes : (m : ℕ) (block : List ℕ) → ((k : ℕ) → getD block k 0 < 256) → (k : ℕ) → getD (visited map bit d m block) k 0 < 256
+  visited-bytes : (m : ℕ) (block : List ℕ) → ((k : ℕ) → getD block k 0 < 256) → (k : ℕ) → getD (visited map side m block) k 0 < 256
   unfolding visited
   visited-bytes zero block small = small
-  visited-bytes (suc m) block small = scattered-bytes bit d (m * d) _ d _ (visited-bytes m block small)
+  visited-bytes (suc m) block small = scattered-bytes (side .bit) (side .d) (m * side .d) _ (side .d) _ (visited-bytes m block small)
 
-  pub visited-other : (m : ℕ) (block : List ℕ) (e : ℕ) → ((i : ℕ) → i < m * d → bit i ≢ e) → bitAt (visited map bit d m block) e ≡ bitAt block e
+  visited-other : (m : ℕ) (block : List ℕ) (e : ℕ) → ((i : ℕ) → i < m * side .d → side .bit i ≢ e)
+      → bitAt (visited map side m block) e ≡ bitAt block e
   unfolding visited
   visited-other zero block e none = refl
   visited-other (suc m) block e none =
-      scattered-other bit d (m * d) _ d _ e (λ j l. none (m * d + j) (digits-lt (lt-suc-self m) l))
+      scattered-other (side .bit) (side .d) (m * side .d) _ (side .d) _ e (λ j l. none (m * side .d + j) (digits-lt (lt-suc-self m) l))
       ∙ visited-other m block e (λ i l. none i (omega arith))
 
-  visited-fixed : (m : ℕ) (block : List ℕ) → ((v : ℕ) → v < m → map (vertexWord bit d block v) ≡ vertexWord bit d block v)
-      → visited map bit d m block ≡ block
+  visited-fixed : (m : ℕ) (block : List ℕ) → ((v : ℕ) → v < m → map (vertexWord side block v) ≡ vertexWord side block v)
+      → visited map side m block ≡ block
   unfolding visited
   visited-fixed zero block same = refl
   visited-fixed (suc m) block same =
-      rw (visited-fixed m block (λ v l. same v (le-step l)), same m (lt-suc-self m)) (scattered-fixed bit d block m)
+      rw (visited-fixed m block (λ v l. same v (le-step l)), same m (lt-suc-self m)) (withWord-fixed side block m)
 
--- a map counts only on words of d digits
-pub visited-ext : (map other bit : ℕ → ℕ) (d : ℕ) → ((w : ℕ) → w < 2 ^ d → map w ≡ other w) → (m : ℕ) (block : List ℕ)
-    → visited map bit d m block ≡ visited other bit d m block
-unfolding visited
-visited-ext map other bit d same zero block = refl
-visited-ext map other bit d same (suc v) block =
-    rw (visited-ext map other bit d same v block, same _ (vertex-lt bit d (visited other bit d v block) v))
+  module _ {N : ℕ} (whole : Whole N side) where
+    -- a vertex still to come reads what it read at first
+    pub visited-later : (m : ℕ) (block : List ℕ) (v : ℕ) → m ≤ v → v < side .n
+        → vertexWord side (visited map side m block) v ≡ vertexWord side block v
+    unfolding visited
+    visited-later zero block v l h = refl
+    visited-later (suc m) block v l h =
+        withWord-other whole _ _ v m h (omega arith) (omega arith) ∙ visited-later m block v (omega arith) h
 
-module _ (map bit : ℕ → ℕ) (d n : ℕ) (once : (i j : ℕ) → i < n * d → j < n * d → bit i ≡ bit j → i ≡ j) where
-  -- a vertex still to come reads what it read at first
-  pub visited-later : (m : ℕ) (block : List ℕ) (v : ℕ) → m ≤ v → v < n → vertexWord bit d (visited map bit d m block) v ≡ vertexWord bit d block v
-  unfolding visited
-  visited-later zero block v l h = refl
-  visited-later (suc m) block v l h =
-      scattered-other-word bit d n _ _ v m once h (omega arith) (omega arith) ∙ visited-later m block v (omega arith) h
+    visited-word : ((w : ℕ) → w < 2 ^ side .d → map w < 2 ^ side .d) → (m : ℕ) (block : List ℕ) → N ≤ length block * 8
+        → m ≤ side .n → (v : ℕ) → v < m → vertexWord side (visited map side m block) v ≡ map (vertexWord side block v)
+    unfolding visited
+    visited-word map-lt zero block room h v l = absurd (not-suc-le-zero l)
+    visited-word map-lt (suc m) block room h v l =
+        let before : List ℕ = visited map side m block in
+        ⊎-elim
+        (λ (e : v ≡ m).
+        rw e (withWord-same whole _ before m (map-lt _ (vertex-lt side before m)) (rw length-visited room) h
+        ∙ ap map (visited-later m block m (le-refl m) h)))
+        (λ (k : v < m). withWord-other whole _ before v m (omega arith) h (omega arith) ∙ visited-word map-lt m block room (omega arith) v k)
+        (eq-or-lt-of-le (le-of-suc-le-suc l))
 
-  pub visited-word : ((w : ℕ) → w < 2 ^ d → map w < 2 ^ d) → (m : ℕ) (block : List ℕ) → ((i : ℕ) → i < n * d → bit i < length block * 8)
-      → m ≤ n → (v : ℕ) → v < m → vertexWord bit d (visited map bit d m block) v ≡ map (vertexWord bit d block v)
-  unfolding visited
-  visited-word map-lt zero block inside h v l = absurd (not-suc-le-zero l)
-  visited-word map-lt (suc m) block inside h v l =
-      let before : List ℕ = visited map bit d m block in
-      ⊎-elim
-      (λ (e : v ≡ m).
-      rw e (scattered-word bit d _ before m (map-lt _ (vertex-lt bit d before m))
-      (λ j k. rw length-visited (inside _ (digits-lt h k)))
-      (λ i j k q e. let same : m * d + i ≡ m * d + j = once _ _ (digits-lt h k) (digits-lt h q) e in omega arith)
-      ∙ ap map (visited-later m block m (le-refl m) h)))
-      (λ (k : v < m).
-      scattered-other-word bit d n _ before v m once (omega arith) h (omega arith) ∙ visited-word map-lt m block inside (omega arith) v k)
-      (eq-or-lt-of-le (le-of-suc-le-suc l))
+-- ---- the nearest word of a side
+
+pub record Mends (side : Side) : Type 0 where
+  pub map-lt : (w : ℕ) → w < 2 ^ side .d → nearestOf side w < 2 ^ side .d
+  pub map-codeword : (w : ℕ) → w < 2 ^ side .d → isCodeword (side .row) (side .k) (nearestOf side w) ≡ true
+  pub map-fixed : (w : ℕ) → isCodeword (side .row) (side .k) w ≡ true → nearestOf side w ≡ w
+
+pub sheet-mends : (plan : Plan) → Sound (plan .sheet) → (name : SideName) → Mends (sideOf plan name)
+sheet-mends plan s name =
+    record {
+      map-lt = nearest-lt _ _ _ (s .degree-high) (s .rows-lt);
+      map-codeword = nearest-codeword _ _ _ (s .degree-high) (s .rows-lt);
+      map-fixed = nearest-fixed _ _ _ (s .degree-high) (s .rows-lt);
+    }
 
 -- ---- one sweep
 
--- a map that leaves the words of a side as they are changes nothing
-pub sweep-fixed : (map edge : ℕ → ℕ) (d n : ℕ) (right : Bool) (block : List ℕ)
-    → ((v : ℕ) → v < n → map (vertexWord (sideBit right edge) d block v) ≡ vertexWord (sideBit right edge) d block v)
-    → sweep map edge d n right block ≡ block
+-- a side whose words are their own nearest ones is swept into itself
+pub sweep-fixed : (side : Side) (block : List ℕ) → ((v : ℕ) → v < side .n → nearestOf side (vertexWord side block v) ≡ vertexWord side block v)
+    → sweep side block ≡ block
 unfolding sweep
-sweep-fixed map edge d n right = visited-fixed map (sideBit right edge) d n
+sweep-fixed side = visited-fixed (nearestOf side) side (side .n)
 
-pub sweep-ext : (map other edge : ℕ → ℕ) (d n : ℕ) → ((w : ℕ) → w < 2 ^ d → map w ≡ other w) → (right : Bool) (block : List ℕ)
-    → sweep map edge d n right block ≡ sweep other edge d n right block
+pub length-sweep : (side : Side) (block : List ℕ) → length (sweep side block) ≡ length block
 unfolding sweep
-sweep-ext map other edge d n same right = visited-ext map other (sideBit right edge) d same n
+length-sweep side = length-visited (nearestOf side) side (side .n)
 
-module _ {d n : ℕ} {wiring : List ℕ} (w : Wired d n wiring) (map : ℕ → ℕ) where
-  -- after a sweep every vertex of the side reads the map of what it read before
-  pub sweep-word : ((x : ℕ) → x < 2 ^ d → map x < 2 ^ d) → (block : List ℕ) → blockCheck (n * d) block ≡ done []
-      → (right : Bool) (v : ℕ) → v < n → vertexWord (sideBit right (edgeOf wiring)) d (sweep map (edgeOf wiring) d n right block) v
-      ≡ map (vertexWord (sideBit right (edgeOf wiring)) d block v)
+sweep-bytes : (side : Side) (block : List ℕ) → ((k : ℕ) → getD block k 0 < 256) → (k : ℕ) → getD (sweep side block) k 0 < 256
+unfolding sweep
+sweep-bytes side = visited-bytes (nearestOf side) side (side .n)
+
+module _ {N : ℕ} {side : Side} (whole : Whole N side) (block : List ℕ) (pass : blockCheck N block ≡ done []) where
+  -- after a sweep every vertex of the side reads the nearest word of what it read before
+  pub sweep-word : Mends side → (v : ℕ) → v < side .n → vertexWord side (sweep side block) v ≡ nearestOf side (vertexWord side block v)
   unfolding sweep
-  sweep-word map-lt block pass right =
-      visited-word map _ d n (side-once w right) map-lt n block
-      (λ i l. rw (block-sized (n * d) block pass) (bytes-cover (n * d) _ (side-lt w right i l))) (le-refl n)
+  sweep-word mends = visited-word (nearestOf side) side whole (mends .map-lt) (side .n) block room (le-refl (side .n))
+    where
+      room : N ≤ length block * 8
+      room = rw (block-sized N block pass) (bytes-hold N)
 
-  pub sweep-block : (block : List ℕ) → blockCheck (n * d) block ≡ done [] → (right : Bool)
-      → blockCheck (n * d) (sweep map (edgeOf wiring) d n right block) ≡ done []
+  pub sweep-block : blockCheck N (sweep side block) ≡ done []
   unfolding sweep
-  sweep-block block pass right =
-      block-back (n * d) _ (length-visited map _ d n block ∙ block-sized (n * d) block pass)
-      (λ i h. visited-other map _ d n block i (λ j l e. omega (arith, side-lt w right j l)) ∙ block-clear (n * d) block pass i h)
+  sweep-block =
+      block-back N _ (length-visited (nearestOf side) side (side .n) block ∙ block-sized N block pass)
+      (λ i h. visited-other (nearestOf side) side (side .n) block i
+      (λ j l e. omega (arith, whole .bit-lt j (rw (whole .entries) at l))) ∙ block-clear N block pass i h)
 
-pub length-sweep : (map edge : ℕ → ℕ) (d n : ℕ) (right : Bool) (block : List ℕ) → length (sweep map edge d n right block) ≡ length block
-unfolding sweep
-length-sweep map edge d n right = length-visited map (sideBit right edge) d n
-
-pub sweep-bytes : (map edge : ℕ → ℕ) (d n : ℕ) (right : Bool) (block : List ℕ) → ((k : ℕ) → getD block k 0 < 256)
-    → (k : ℕ) → getD (sweep map edge d n right block) k 0 < 256
-unfolding sweep
-sweep-bytes map edge d n right = visited-bytes map (sideBit right edge) d n
+  pub sweep-satisfied : Mends side → (v : ℕ) → v < side .n → satisfied side (sweep side block) v ≡ true
+  unfolding satisfied
+  sweep-satisfied mends v l = rw (sweep-word mends v l) (mends .map-codeword _ (vertex-lt side block v))
 
 -- ---- many sweeps
 
-module _ (map edge : ℕ → ℕ) (d n : ℕ) where
-  pub after-zero : (block : List ℕ) → afterSweeps map edge d n 0 block ≡ block
+module _ (sides : SideName → Side) where
+  pub after-zero : (block : List ℕ) → afterSweeps sides 0 block ≡ block
   unfolding afterSweeps
   after-zero block = refl
 
-  pub after-one-more : (i : ℕ) (block : List ℕ)
-      → afterSweeps map edge d n (i + 1) block ≡ sweep map edge d n (rightTurn i) (afterSweeps map edge d n i block)
+  pub after-one-more : (i : ℕ) (block : List ℕ) → afterSweeps sides (i + 1) block ≡ sweep (sides (turn i)) (afterSweeps sides i block)
   unfolding afterSweeps
   after-one-more i block = rw add-one
 
-  pub length-after : (i : ℕ) (block : List ℕ) → length (afterSweeps map edge d n i block) ≡ length block
+  pub length-after : (i : ℕ) (block : List ℕ) → length (afterSweeps sides i block) ≡ length block
   unfolding afterSweeps
   length-after zero block = refl
-  length-after (suc i) block = length-sweep map edge d n (rightTurn i) _ ∙ length-after i block
+  length-after (suc i) block = length-sweep (sides (turn i)) _ ∙ length-after i block
 
-  pub after-bytes : (i : ℕ) (block : List ℕ) → ((k : ℕ) → getD block k 0 < 256) → (k : ℕ) → getD (afterSweeps map edge d n i block) k 0 < 256
+  pub after-bytes : (i : ℕ) (block : List ℕ) → ((k : ℕ) → getD block k 0 < 256) → (k : ℕ) → getD (afterSweeps sides i block) k 0 < 256
   unfolding afterSweeps
   after-bytes zero block small = small
-  after-bytes (suc i) block small = sweep-bytes map edge d n (rightTurn i) _ (after-bytes i block small)
+  after-bytes (suc i) block small = sweep-bytes (sides (turn i)) _ (after-bytes i block small)
 
-pub after-block : {d n : ℕ} {wiring : List ℕ} → Wired d n wiring → (map : ℕ → ℕ) (i : ℕ) (block : List ℕ) → blockCheck (n * d) block ≡ done []
-    → blockCheck (n * d) (afterSweeps map (edgeOf wiring) d n i block) ≡ done []
-unfolding afterSweeps
-after-block w map zero block pass = pass
-after-block w map (suc i) block pass = sweep-block w map _ (after-block w map i block pass) (rightTurn i)
-
--- ---- codeword blocks
-
-module _ (row : ℕ → ℕ) (k : ℕ) (map : ℕ → ℕ) (fixes : (w : ℕ) → isCodeword row k w ≡ true → map w ≡ w) (edge : ℕ → ℕ) (d n : ℕ) where
   -- a codeword block is swept into itself
-  pub sweep-codeword : (right : Bool) (block : List ℕ) → isCodewordBlock row k d n edge block ≡ true → sweep map edge d n right block ≡ block
+  pub sweep-codeword : (name : SideName) → Mends (sides name) → (block : List ℕ) → isCodewordBlock sides block ≡ true
+      → sweep (sides name) block ≡ block
   unfolding satisfied
-  sweep-codeword right block e = sweep-fixed map edge d n right block (λ v l. fixes _ (codeword-block-each row k d n edge block e right v l))
+  sweep-codeword name mends block e =
+      sweep-fixed (sides name) block (λ v l. mends .map-fixed _ (codeword-block-each sides block e name v l))
 
-  pub after-stays : (i j : ℕ) (block : List ℕ) → isCodewordBlock row k d n edge (afterSweeps map edge d n i block) ≡ true
-      → afterSweeps map edge d n (i + j) block ≡ afterSweeps map edge d n i block
+  pub after-stays : ((name : SideName) → Mends (sides name)) → (i j : ℕ) (block : List ℕ) → isCodewordBlock sides (afterSweeps sides i block) ≡ true
+      → afterSweeps sides (i + j) block ≡ afterSweeps sides i block
   unfolding afterSweeps
-  after-stays i zero block e = rw add-zero
-  after-stays i (suc j) block e = rw (add-suc, after-stays i j block e) (sweep-codeword (rightTurn (i + j)) _ e)
+  after-stays mends i zero block e = rw add-zero
+  after-stays mends i (suc j) block e = rw (add-suc, after-stays mends i j block e) (sweep-codeword (turn (i + j)) (mends (turn (i + j))) _ e)
 
--- where one side is satisfied, the other decides
-other-side : (row : ℕ → ℕ) (k d n : ℕ) (edge : ℕ → ℕ) (block : List ℕ) (right : Bool) → firstUnsatisfied row k (sideBit right edge) d n block ≡ n
-    → isCodewordBlock row k d n edge block ≡ eqb (firstUnsatisfied row k (sideBit (not right) edge) d n block) n
-unfolding isCodewordBlock
-other-side row k d n edge block false e = rw (eq-eqb _ n e)
-other-side row k d n edge block true e = rw (eq-eqb _ n e) (and-true _)
+  -- where one side is satisfied, the other decides
+  other-side : (block : List ℕ) (name : SideName) → firstUnsatisfied (sides name) block ≡ sides name .n
+      → isCodewordBlock sides block ≡ eqb (firstUnsatisfied (sides (other name)) block) (sides (other name) .n)
+  unfolding isCodewordBlock other
+  other-side block SideName.Left e = rw (eq-eqb _ _ e)
+  other-side block SideName.Right e = rw (eq-eqb (firstUnsatisfied (sides SideName.Right) block) _ e) (and-true _)
 
-module _ {d n : ℕ} {wiring : List ℕ} (w : Wired d n wiring) (row : ℕ → ℕ) (k : ℕ) (map : ℕ → ℕ)
-    (map-lt : (x : ℕ) → x < 2 ^ d → map x < 2 ^ d) (map-codeword : (x : ℕ) → x < 2 ^ d → isCodeword row k (map x) ≡ true) where
-  pub sweep-satisfied : (block : List ℕ) → blockCheck (n * d) block ≡ done [] → (right : Bool) (v : ℕ) → v < n
-      → satisfied row k (sideBit right (edgeOf wiring)) d (sweep map (edgeOf wiring) d n right block) v ≡ true
-  unfolding satisfied
-  sweep-satisfied block pass right v l =
-      rw (sweep-word w map map-lt block pass right v l) (map-codeword _ (vertex-lt (sideBit right (edgeOf wiring)) d block v))
+  module _ {N : ℕ} (whole : (name : SideName) → Whole N (sides name)) where
+    pub after-block : (i : ℕ) (block : List ℕ) → blockCheck N block ≡ done [] → blockCheck N (afterSweeps sides i block) ≡ done []
+    unfolding afterSweeps
+    after-block zero block pass = pass
+    after-block (suc i) block pass = sweep-block (whole (turn i)) _ (after-block i block pass)
 
-  -- the side swept last is satisfied, so the next sweep's side alone decides
-  pub settled-by-next : (i : ℕ) (block : List ℕ) → 1 ≤ i → blockCheck (n * d) block ≡ done []
-      → isCodewordBlock row k d n (edgeOf wiring) (afterSweeps map (edgeOf wiring) d n i block)
-      ≡ eqb (firstUnsatisfied row k (sideBit (rightTurn i) (edgeOf wiring)) d n (afterSweeps map (edgeOf wiring) d n i block)) n
-  unfolding afterSweeps rightTurn firstUnsatisfied
-  settled-by-next zero block h pass = absurd (not-suc-le-zero h)
-  settled-by-next (suc i) block h pass =
-      other-side row k d n (edgeOf wiring) _ (rightTurn i) (first-all n _ (sweep-satisfied _ (after-block w map i block pass) (rightTurn i)))
+    -- the side swept last is satisfied, so the next sweep's side alone decides
+    pub settled-by-next : ((name : SideName) → Mends (sides name)) → (i : ℕ) (block : List ℕ) → 1 ≤ i → blockCheck N block ≡ done []
+        → isCodewordBlock sides (afterSweeps sides i block)
+        ≡ eqb (firstUnsatisfied (sides (turn i)) (afterSweeps sides i block)) (sides (turn i) .n)
+    unfolding afterSweeps turn firstUnsatisfied
+    settled-by-next mends zero block h pass = absurd (not-suc-le-zero h)
+    settled-by-next mends (suc i) block h pass =
+        other-side _ (turn i)
+        (first-all (sides (turn i) .n) _ (sweep-satisfied (whole (turn i)) _ (after-block i block pass) (mends (turn i))))

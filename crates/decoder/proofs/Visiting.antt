@@ -1,145 +1,151 @@
--- A sweep as the code makes it: vertex after vertex is read, and written where the map makes another word of what it reads.
---   visited map bit d m block       the block after vertices 0 .. m - 1 of a side are visited in turn (specs Sweep)
---   sweep map edge d n right block  the block after every vertex of a side is visited (specs Sweep)
---   changes map bit d block v       the map makes another word of what vertex v reads (specs Mending)
---   changedBy map bit d m block     how many of the vertices 0 .. m - 1 of a side it does so at (specs Mending)
---   Visits map bit d before v changed block  after the visit of vertices 0 .. v - 1 the block is `block`, and `changed` of them changed
--- Laws are named by their subject, then by the fact: `changed-` is about the number of changed vertices, `visit-` about one vertex, `visits-`
--- about all vertices so far: none (-none), one more that is written (-changed) or not (-kept), some that are passed over (-passed), all
--- (-sweep). `passed-` is about the vertices that are passed over.
-use Prim.Native.Nat.{ℕ, zero, suc, _+_, _-_, _*_, _≤_, _<_}
+-- One sweep as the code makes it: vertices that are passed over, vertices that are mended, and how many change.
+--   changes                    the nearest word of what a vertex reads is another word (specs Visiting)
+--   changedBy                  how many of a side's first vertices so change (specs Visiting)
+--   PassedOver, SideSwept      what passing over vertices and a whole sweep give (specs Visiting)
+--   visited, sweep, nearestOf  the block after some vertices, and after all, have their nearest word (specs Sweep, Visiting)
+--   Visits side before v changed block   the first v vertices are visited: `changed` of them changed, and the block is `block`
+--   Passing side block from v  the words of the vertices from .. v - 1 are their own nearest ones
+-- Laws are named by their subject, then by the fact: `changed-` is about the number of vertices that change, `visits-` about the block so
+-- far, `passing-` and `passed-` about vertices that stay, `word-` about one vertex's word in the code, `ready-` about a checked plan.
+use Prim.Native.Nat.{ℕ, zero, suc, _+_, _-_, _^_, _≤_, _<_}
 use mathlib.Core.Bool.{Bool, true, false, not}
 use mathlib.Core.List.{List}
 use mathlib.Core.Path.{_≡_, refl, sym, ap, ap₂, _∙_}
 use native.Mathlib.Nat.{le-refl, add-zero}
 use native.Mathlib.Decide.{ℕ-discrete}
 use native.Mathlib.Omega.{arith}
-use borrow.Author.Tests.{eqb-true, eq-eqb, ne-eqb, not-false}
+use borrow.Author.Tests.{eq-eqb, ne-eqb, eqb-true, not-false}
 use Rattle.bits.specs.Sum.{flag}
+use Rattle.bits.proofs.Tests.{flag-zero}
 use Rattle.bits.proofs.Sums.{sum-zero, sum-one-more, sum-none, sum-none-each, count-le, flag-true, flag-false}
-use Rattle.wiring.specs.Wiring.{edgeOf}
-use Rattle.wiring.specs.Block.{sideBit, vertexWord, scattered}
+use lib.ListN.{length}
+use Rattle.inner_code.specs.Sheet.{degree}
+use Rattle.inner_code.specs.Finding.{OwnNearest, Found}
+use Rattle.wiring.specs.Plan.{Plan, Side, edgeCount, sideOf}
 use Rattle.wiring.specs.Access.{readWord, writtenWord}
-use Rattle.wiring.proofs.Permutation.{Wired, side-once}
+use Rattle.wiring.specs.declared.side.SideName.{SideName}
+use Rattle.wiring.proofs.VertexWords.{vertex-lt}
 use Rattle.wiring.proofs.VertexAccess.{read-inside, write-inside}
+use Rattle.wiring.proofs.Plans.{plan-sound, plan-joined}
+use Rattle.wiring.specs.Block.{vertexWord, withWord}
+use Rattle.wiring.proofs.Permutation.{Whole}
 use Rattle.decoder.specs.Sweep.{visited, sweep}
-use Rattle.decoder.specs.Mending.{mendedBy, changes, changedBy, PassedOver}
-use Rattle.decoder.proofs.Sweeping.{visited-one-more, visited-skip, visited-later}
+use Rattle.decoder.specs.Visiting.{changes, changedBy, Ready, PassedOver, nearestOf}
+use Rattle.decoder.proofs.Sweeping.{length-visited, visited-one-more, visited-skip, visited-later}
 
 -- ---- how many vertices change
 
-flag-zero : (t : Bool) → flag t ≡ 0 → t ≡ false
-unfolding flag
-flag-zero true e = absurd (omega arith)
-flag-zero false e = refl
-
-module _ (map bit : ℕ → ℕ) (d : ℕ) (block : List ℕ) where
-  changed-none : changedBy map bit d 0 block ≡ 0
+module _ (side : Side) (block : List ℕ) where
+  changed-none : changedBy side 0 block ≡ 0
   unfolding changedBy
-  changed-none = sum-zero (λ v. flag (changes map bit d block v))
+  changed-none = sum-zero (λ v. flag (changes side block v))
 
-  changed-one-more : (v : ℕ) → changedBy map bit d (v + 1) block ≡ changedBy map bit d v block + flag (changes map bit d block v)
+  changed-one-more : (v : ℕ) → changedBy side (v + 1) block ≡ changedBy side v block + flag (changes side block v)
   unfolding changedBy
   changed-one-more v = sum-one-more v _
 
-  changed-le : (m : ℕ) → changedBy map bit d m block ≤ m
+  changed-le : (m : ℕ) → changedBy side m block ≤ m
   unfolding changedBy
-  changed-le m = count-le m (λ v. changes map bit d block v)
+  changed-le m = count-le m (λ v. changes side block v)
 
-  -- none, exactly if the map leaves every word of the side as it is
-  pub changed-zero : (m : ℕ) → changedBy map bit d m block ≡ 0 → (v : ℕ) → v < m → map (vertexWord bit d block v) ≡ vertexWord bit d block v
+  -- none, exactly if every word of the side is its own nearest one
+  pub changed-zero : (m : ℕ) → changedBy side m block ≡ 0 → (v : ℕ) → v < m → nearestOf side (vertexWord side block v) ≡ vertexWord side block v
   unfolding changedBy changes
-  changed-zero m e v l = eqb-true _ _ (not-false _ (flag-zero _ (sum-none-each m (λ v. flag (changes map bit d block v)) e v l)))
+  changed-zero m e v l = eqb-true _ _ (not-false _ (flag-zero _ (sum-none-each m (λ v. flag (changes side block v)) e v l)))
 
-  pub changed-zero-back : (m : ℕ) → ((v : ℕ) → v < m → map (vertexWord bit d block v) ≡ vertexWord bit d block v) → changedBy map bit d m block ≡ 0
+  pub changed-zero-back : (m : ℕ) → ((v : ℕ) → v < m → nearestOf side (vertexWord side block v) ≡ vertexWord side block v)
+      → changedBy side m block ≡ 0
   unfolding changedBy changes
   changed-zero-back m same =
-      sum-none m (λ v. flag (changes map bit d block v)) (λ v l. ap (λ (t : Bool). flag (not t)) (eq-eqb _ _ (same v l)) ∙ flag-false)
+      sum-none m (λ v. flag (changes side block v)) (λ v l. ap (λ (t : Bool). flag (not t)) (eq-eqb _ _ (same v l)) ∙ flag-false)
 
--- ---- a sweep as the code makes it
+-- ---- vertices visited so far
 
-pub record Visits (map bit : ℕ → ℕ) (d : ℕ) (before : List ℕ) (v changed : ℕ) (block : List ℕ) : Type 0 where
-  pub counted : changed ≡ changedBy map bit d v before
-  pub swept : block ≡ visited map bit d v before
+pub record Visits (side : Side) (before : List ℕ) (v changed : ℕ) (block : List ℕ) : Type 0 where
+  pub counted : changed ≡ changedBy side v before
+  pub swept : block ≡ visited (nearestOf side) side v before
 
-pub visits-none : {map bit : ℕ → ℕ} {d : ℕ} {before : List ℕ} → Visits map bit d before 0 0 before
+pub visits-none : {side : Side} {before : List ℕ} → Visits side before 0 0 before
 unfolding visited
-visits-none {map} {bit} {d} {before} = record { counted = sym (changed-none map bit d before); swept = refl }
+visits-none {side} {before} = record { counted = sym (changed-none side before); swept = refl }
 
-pub visits-le : {map bit : ℕ → ℕ} {d : ℕ} {before : List ℕ} {v changed : ℕ} {block : List ℕ} → Visits map bit d before v changed block → changed ≤ v
-visits-le {map} {bit} {d} {before} {v} all = omega (arith, all .counted, changed-le map bit d before v)
+pub visits-le : {side : Side} {before : List ℕ} {v changed : ℕ} {block : List ℕ} → Visits side before v changed block → changed ≤ v
+visits-le {side} {before} {v} all = omega (arith, all .counted, changed-le side before v)
 
--- vertex v is read, and written where the map makes another word of what it reads
-module _ {d n : ℕ} {wiring : List ℕ} (w : Wired d n wiring) (narrow : d ≤ 16) {map : ℕ → ℕ} (right : Bool) {before block : List ℕ} {v changed : ℕ} (below : v < n)
-    (so-far : Visits map (sideBit right (edgeOf wiring)) d before v changed block) {word mended : ℕ} (read : word ≡ readWord right wiring d block v)
-    (mapped : mended ≡ map word) where
-  abbrev bit : ℕ → ℕ
-  bit = sideBit right (edgeOf wiring)
+module _ {N : ℕ} {side : Side} (whole : Whole N side) {before block : List ℕ} {v changed : ℕ} (below : v < side .n)
+    (so-far : Visits side before v changed block) where
+  -- vertex v still reads what it read at first
+  visit-first : vertexWord side block v ≡ vertexWord side before v
+  visit-first = ap (λ (l : List ℕ). vertexWord side l v) (so-far .swept) ∙ visited-later (nearestOf side) side whole v before v (le-refl v) below
 
-  visit-word : word ≡ vertexWord bit d (visited map bit d v before) v
-  visit-word = read ∙ read-inside w narrow right block v below ∙ ap (λ (l : List ℕ). vertexWord bit d l v) (so-far .swept)
+  abbrev Stays : Type 0
+  Stays = nearestOf side (vertexWord side block v) ≡ vertexWord side block v
 
-  visit-first : word ≡ vertexWord bit d before v
-  visit-first = visit-word ∙ visited-later map bit d n (side-once w right) v before v (le-refl v) below
-
-  visit-other : (mended ≡ word → ⊥) → changes map bit d before v ≡ true
+  visit-changes : (Stays → ⊥) → changes side before v ≡ true
   unfolding changes
-  visit-other other = rw (← visit-first) (ap not (ne-eqb (map word) word (λ e. other (mapped ∙ e))))
+  visit-changes moves = rw (← visit-first) (ap not (ne-eqb _ _ moves))
 
-  visit-same : mended ≡ word → changes map bit d before v ≡ false
+  visit-stays : Stays → changes side before v ≡ false
   unfolding changes
-  visit-same same = rw (← visit-first) (ap not (eq-eqb (map word) word (sym mapped ∙ same)))
+  visit-stays stays = rw (← visit-first) (ap not (eq-eqb _ _ stays))
 
-  pub visits-changed : {more : ℕ} {after : List ℕ} → (mended ≡ word → ⊥) → after ≡ writtenWord right wiring d v mended block → more ≡ changed + 1
-      → Visits map bit d before (v + 1) more after
-  visits-changed other e one =
+  pub visits-changed : {mended : ℕ} {after : List ℕ} → (Stays → ⊥) → mended ≡ nearestOf side (vertexWord side block v)
+      → after ≡ withWord side v mended block → Visits side before (v + 1) (changed + 1) after
+  visits-changed moves mapped e =
       record {
-        counted = omega (arith, changed-one-more map bit d before v, ap flag (visit-other other), flag-true, so-far .counted);
-        swept = e ∙ write-inside w narrow right v mended block below
-            ∙ ap₂ (λ (x : ℕ) (l : List ℕ). scattered bit d (v * d) x d l) (mapped ∙ ap map visit-word) (so-far .swept)
-            ∙ sym (visited-one-more map bit d v before);
+        counted = omega (arith, changed-one-more side before v, ap flag (visit-changes moves), flag-true, so-far .counted);
+        swept = e
+            ∙ ap₂ (λ (x : ℕ) (l : List ℕ). withWord side v x l)
+            (mapped ∙ ap (λ (l : List ℕ). nearestOf side (vertexWord side l v)) (so-far .swept)) (so-far .swept)
+            ∙ sym (visited-one-more (nearestOf side) side v before);
       }
 
-  pub visits-kept : {more : ℕ} {after : List ℕ} → mended ≡ word → after ≡ block → more ≡ changed → Visits map bit d before (v + 1) more after
-  visits-kept same e none =
+  pub visits-kept : Stays → Visits side before (v + 1) changed block
+  visits-kept stays =
       record {
-        counted = omega (arith, changed-one-more map bit d before v, ap flag (visit-same same), flag-false, so-far .counted);
-        swept = e ∙ so-far .swept ∙ sym (visited-skip map bit d v before (ap map (sym visit-word) ∙ sym mapped ∙ same ∙ visit-word));
+        counted = omega (arith, changed-one-more side before v, ap flag (visit-stays stays), flag-false, so-far .counted);
+        swept = so-far .swept
+            ∙ sym (visited-skip (nearestOf side) side v before (rw (so-far .swept) at stays));
       }
 
 -- after the last vertex
-module _ {map : ℕ → ℕ} (edge : ℕ → ℕ) {d n : ℕ} (right : Bool) {before : List ℕ} {v changed : ℕ} {block : List ℕ}
-    (all : Visits map (sideBit right edge) d before v changed block) (end : v ≡ n) where
-  pub visits-sweep : (changed ≡ changedBy map (sideBit right edge) d n before) × (block ≡ sweep map edge d n right before)
-  unfolding sweep
-  visits-sweep = (
-    all .counted ∙ ap (λ (m : ℕ). changedBy map (sideBit right edge) d m before) end,
-    all .swept ∙ ap (λ (m : ℕ). visited map (sideBit right edge) d m before) end,
-  )
+pub visits-sweep : {side : Side} {before : List ℕ} {v changed : ℕ} {block : List ℕ} → Visits side before v changed block → v ≡ side .n
+    → (changed ≡ changedBy side (side .n) before) × (block ≡ sweep side before)
+unfolding sweep
+visits-sweep {side} {before} all end = (
+  all .counted ∙ ap (λ (m : ℕ). changedBy side m before) end,
+  all .swept ∙ ap (λ (m : ℕ). visited (nearestOf side) side m before) end,
+)
 
 -- ---- vertices that are passed over
 
-module _ {right : Bool} {wiring : List ℕ} {d n : ℕ} {near basis : List ℕ} {k : ℕ} {block : List ℕ} {from : ℕ} where
-  pub passed-none : from ≤ n → PassedOver right wiring d n near basis k block from from
-  passed-none h = record { after = le-refl from; within = h; stay = λ words v a b. absurd (omega arith) }
+pub record Passing (side : Side) (block : List ℕ) (from v : ℕ) : Type 0 where
+  pub after : from ≤ v
+  pub within : v ≤ side .n
+  pub stay : (u : ℕ) → from ≤ u → u < v → nearestOf side (vertexWord side block u) ≡ vertexWord side block u
 
-  pub passed-more : {v word : ℕ} → PassedOver right wiring d n near basis k block from v → v < n → word ≡ readWord right wiring d block v
-      → ((words : List ℕ) → mendedBy near basis k words word ≡ word) → PassedOver right wiring d n near basis k block from (v + 1)
-  passed-more {v} {word} so-far below read here = record { after = omega (arith, so-far .after); within = omega arith; stay = go }
+module _ {side : Side} {block : List ℕ} {from : ℕ} where
+  pub passing-none : from ≤ side .n → Passing side block from from
+  passing-none h = record { after = le-refl from; within = h; stay = λ v a b. absurd (omega arith) }
+
+  pub passing-more : {v : ℕ} → Passing side block from v → v < side .n → nearestOf side (vertexWord side block v) ≡ vertexWord side block v
+      → Passing side block from (v + 1)
+  passing-more {v} so-far below here = record { after = omega (arith, so-far .after); within = omega arith; stay = go }
     where
-      go : (words : List ℕ) (u : ℕ) → from ≤ u → u < v + 1 → mendedBy near basis k words (readWord right wiring d block u) ≡ readWord right wiring d block u
-      go words u low high =
-          elim (ℕ-discrete u v) [
-            | yes e ↦
-                rw e (ap (mendedBy near basis k words) (sym read) ∙ here words ∙ read)
-            | no other ↦ so-far .stay words u low (omega arith)
-          ]
+      go : (u : ℕ) → from ≤ u → u < v + 1 → nearestOf side (vertexWord side block u) ≡ vertexWord side block u
+      go u low high = elim (ℕ-discrete u v) [ yes e ↦ rw e here | no apart ↦ so-far .stay u low (omega arith) ]
+
+  pub passed-end : {v : ℕ} → Passing side block from v → side .n ≤ v → PassedOver side block from v
+  passed-end all end = record { after = all .after; within = all .within; stay = all .stay; stops = λ l. absurd (omega arith) }
+
+  pub passed-stop : {v : ℕ} → Passing side block from v → (nearestOf side (vertexWord side block v) ≡ vertexWord side block v → ⊥)
+      → PassedOver side block from v
+  passed-stop all moves = record { after = all .after; within = all .within; stay = all .stay; stops = λ l. moves }
 
 -- passing them over is visiting them
-pub visits-passed : {d n : ℕ} {wiring : List ℕ} (w : Wired d n wiring) (narrow : d ≤ 16) (right : Bool) (words : List ℕ) {near basis : List ℕ} {k : ℕ} {before block : List ℕ}
-    {v to changed : ℕ} → Visits (mendedBy near basis k words) (sideBit right (edgeOf wiring)) d before v changed block
-    → PassedOver right wiring d n near basis k block v to → Visits (mendedBy near basis k words) (sideBit right (edgeOf wiring)) d before to changed block
-visits-passed {d} {n} {wiring} w narrow right words {near} {basis} {k} {before} {block} {v} {to} {changed} so-far passed =
+pub visits-passed : {N : ℕ} {side : Side} → Whole N side → {before block : List ℕ} {v to changed : ℕ} → Visits side before v changed block
+    → PassedOver side block v to → Visits side before to changed block
+visits-passed {N} {side} whole {before} {block} {v} {to} {changed} so-far passed =
     rw (sum-back v to (passed .after)) at (go (to - v) (omega (arith, passed .after)))
   where
     sum-back : (a b : ℕ) → a ≤ b → a + (b - a) ≡ b
@@ -148,9 +154,51 @@ visits-passed {d} {n} {wiring} w narrow right words {near} {basis} {k} {before} 
     next : (a b : ℕ) → a + suc b ≡ a + b + 1
     next a b = omega arith
 
-    go : (m : ℕ) → v + m ≤ to → Visits (mendedBy near basis k words) (sideBit right (edgeOf wiring)) d before (v + m) changed block
+    go : (m : ℕ) → v + m ≤ to → Visits side before (v + m) changed block
     go zero h = rw (add-zero v) so-far
     go (suc m) h =
-        let last = visits-kept w narrow right (omega (arith, passed .within)) (go m (omega arith)) {word = readWord right wiring d block (v + m)} refl refl
-        (passed .stay words (v + m) (omega arith) (omega arith)) refl refl in
-        rw (next v m) last
+        rw (next v m)
+        (visits-kept whole (omega (arith, passed .within)) (go m (omega arith)) (passed .stay (v + m) (omega arith) (omega arith)))
+
+-- ---- a vertex's word as the code reads it, and what the finder says of it
+
+module _ {plan : Plan} {finder : List ℕ} (ready : Ready plan finder) (name : SideName) (block : List ℕ) {v d word : ℕ} (below : v < plan .n)
+    (d-is : d ≡ degree (plan .sheet)) (read : word ≡ readWord name (plan .wiring) d block v) where
+  word-is : word ≡ vertexWord (sideOf plan name) block v
+  word-is =
+      read ∙ ap (λ (x : ℕ). readWord name (plan .wiring) x block v) d-is
+      ∙ read-inside plan (plan-sound plan (ready .plan-done) .1) name block v below
+
+  word-lt : word < 2 ^ degree (plan .sheet)
+  word-lt = rw word-is (vertex-lt (sideOf plan name) block v)
+
+  pub word-stays : {r : Bool} → OwnNearest finder word r → r ≡ true
+      → nearestOf (sideOf plan name) (vertexWord (sideOf plan name) block v) ≡ vertexWord (sideOf plan name) block v
+  word-stays own e = rw word-is at (own .stays e (plan .sheet) (ready .finds) word-lt)
+
+  pub word-moves : {r : Bool} → OwnNearest finder word r → r ≡ false
+      → nearestOf (sideOf plan name) (vertexWord (sideOf plan name) block v) ≡ vertexWord (sideOf plan name) block v → ⊥
+  word-moves own e = rw word-is at (own .changes e (plan .sheet) (ready .finds) word-lt)
+
+  pub word-found : {mended : ℕ} {after : List ℕ} → Found finder word mended after
+      → mended ≡ nearestOf (sideOf plan name) (vertexWord (sideOf plan name) block v)
+  word-found found = found .nearest (plan .sheet) (ready .finds) word-lt ∙ ap (nearestOf (sideOf plan name)) word-is
+
+-- the word put where the code puts it
+pub word-put : {plan : Plan} {finder : List ℕ} → Ready plan finder → (name : SideName) (block : List ℕ) (mended : ℕ)
+    {after : List ℕ} {v d : ℕ} → v < plan .n → d ≡ degree (plan .sheet)
+    → after ≡ writtenWord name (plan .wiring) d v mended block → after ≡ withWord (sideOf plan name) v mended block
+word-put {plan} ready name block mended {after} {v} {d} below d-is e =
+    e ∙ ap (λ (x : ℕ). writtenWord name (plan .wiring) x v mended block) d-is
+    ∙ write-inside plan (plan-sound plan (ready .plan-done) .1) name v mended block below
+
+-- the sheet of a checked plan has its first byte
+pub ready-sheet : {plan : Plan} {finder : List ℕ} → Ready plan finder → 0 < length (plan .sheet)
+ready-sheet {plan} ready = omega (arith, plan-sound plan (ready .plan-done) .0 .sized)
+
+pub ready-whole : {plan : Plan} {finder : List ℕ} → Ready plan finder → (name : SideName) → Whole (edgeCount plan) (sideOf plan name)
+ready-whole {plan} ready = plan-joined plan (ready .plan-done) .whole
+
+pub visits-length : {side : Side} {before : List ℕ} {v changed : ℕ} {block : List ℕ} → Visits side before v changed block
+    → length block ≡ length before
+visits-length {side} {before} {v} all = ap length (all .swept) ∙ length-visited (nearestOf side) side v before

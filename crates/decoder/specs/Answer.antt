@@ -1,8 +1,59 @@
--- The paper's number, place and values for each case of the decoder's answer in the code.
-use mathlib.Core.List.{[], _∷_}
-use Rattle.inner_code.specs.Reply.{Reply, done, refused}
+-- What the services of this layer answer, and what they leave in the lent buffers.
+--   decodeCheck ..               what stops a decoder call before it decodes: 1 to 12, 13, 14
+--   decodeAnswer, decodeOutput   the decoder: these, 15, or the sweep count; its output at exit has the trial's block at the front
+--   reportAnswer, reportList     the report: 1 to 12, 16, or the number of pairs; its list at exit has the runs at the front
+--   decodeReply, reportReply     the paper's number, place and values for each case of an answer in the code
+use Prim.Native.Nat.{ℕ, _+_, _*_}
+use mathlib.Core.List.{List, [], _∷_}
+use mathlib.Core.Bool.{not}
+use lib.ListN.{length}
+use lib.Dec.{ltb}
+use Rattle.bits.specs.Bit.{written}
+use Rattle.inner_code.specs.Reply.{Reply, done, refused, refuseIf, andThen, ifDone}
+use Rattle.wiring.specs.Plan.{Plan, edgeCount}
+use Rattle.wiring.specs.Wiring.{planCheck}
+use Rattle.wiring.specs.Block.{blockBytes, blockCheck}
+use Rattle.decoder.specs.Decode.{trial}
+use Rattle.decoder.specs.Report.{differsAt, runCount, runBytes}
 use Rattle.decoder.specs.declared.decoding.Decoded.{Decoded}
+use Rattle.decoder.specs.declared.report.Reported.{Reported}
+
+unfoldable pub decodeCheck : Plan → List ℕ → List ℕ → ℕ → Reply
+unfolding andThen refuseIf planCheck blockBytes
+decodeCheck plan received output H =
+    andThen (planCheck plan)
+    (andThen (blockCheck (edgeCount plan) received)
+    (refuseIf (ltb (length output) (blockBytes (edgeCount plan))) 13 0 (refuseIf (ltb 4096 H) 14 0 (done []))))
+
+unfoldable pub decodeAnswer : Plan → List ℕ → List ℕ → ℕ → Reply
+unfolding andThen refuseIf decodeCheck trial
+decodeAnswer plan received output H =
+    andThen (decodeCheck plan received output H)
+    (refuseIf (not (trial plan received H .settled)) 15 0 (done (trial plan received H .count ∷ [])))
+
+unfoldable pub decodeOutput : Plan → List ℕ → List ℕ → ℕ → List ℕ
+unfolding ifDone written decodeCheck trial
+decodeOutput plan received output H = ifDone (decodeCheck plan received output H) (written (trial plan received H .block) output) output
+
+-- no bit after N - 1 is set in either block, so every run has ended before N + 1
+unfoldable pub reportAnswer : Plan → List ℕ → List ℕ → List ℕ → Reply
+unfolding andThen refuseIf planCheck runCount differsAt
+reportAnswer plan received settled list =
+    andThen (planCheck plan)
+    (andThen (blockCheck (edgeCount plan) received)
+    (andThen (blockCheck (edgeCount plan) settled)
+    (refuseIf (ltb (length list) (4 * runCount (differsAt received settled) (edgeCount plan + 1))) 16 0
+    (done (runCount (differsAt received settled) (edgeCount plan + 1) ∷ [])))))
+
+unfoldable pub reportList : Plan → List ℕ → List ℕ → List ℕ → List ℕ
+unfolding ifDone written reportAnswer runBytes differsAt
+reportList plan received settled list =
+    ifDone (reportAnswer plan received settled list) (written (runBytes (differsAt received settled) (edgeCount plan + 1)) list) list
 
 abbrev pub decodeReply : Decoded → Reply
 decodeReply (Decoded.Settled count) = done (count ∷ [])
 decodeReply (Decoded.Refused r) = refused (r .number) (r .place)
+
+abbrev pub reportReply : Reported → Reply
+reportReply (Reported.Pairs m) = done (m ∷ [])
+reportReply (Reported.Refused r) = refused (r .number) (r .place)

@@ -1,50 +1,35 @@
--- The decoder: what it answers, and what its output holds.
---   sweptBlock sheet n wiring i block   the block after i sweeps with the sheet's nearest word
---   settlesAt sheet n wiring block H    the first count from 0 to H after which the block is a codeword; H + 1 where none is
---   decodeAnswer ..                     the answer: 1 to 12, 13, 14, 15, or the sweep count
---   decodeOutput ..                     the output at exit: the settled block, with 15 the received block, and else nothing new
-use Prim.Native.Nat.{ℕ, _+_, _*_}
-use mathlib.Core.List.{List, [], _∷_, _++_}
-use mathlib.Core.Bool.{not, cond}
-use lib.ListN.{length, drop}
-use lib.Dec.{ltb, eqb}
-use Rattle.bits.specs.Bit.{written}
-use Rattle.inner_code.specs.Reply.{Reply, done, refused, refuseIf, andThen}
-use Rattle.inner_code.specs.Code.{nearestWord}
-use Rattle.inner_code.specs.Sheet.{degree, rowCount, rowOf}
-use Rattle.wiring.specs.Search.{firstFailing}
-use Rattle.wiring.specs.Wiring.{edgeOf, planCheck}
-use Rattle.wiring.specs.Block.{blockBytes, blockCheck, isCodewordBlock}
+-- Decoding: what sweeps make of a received block.
+--   sweptBlock plan i block   the block after i sweeps
+--   settledAfter plan block i the block after i sweeps is a codeword
+--   settlesAt plan block H    the first count from 0 to H after which the block is a codeword; H + 1 where none is
+--   Trial                     what a trial ends in: whether the block settles, at which count, and the block that is left
+--   trial plan received H     the trial of a received block with limit H: an unsettled one leaves the received block
+use Prim.Native.Nat.{ℕ, _+_}
+use mathlib.Core.List.{List}
+use mathlib.Core.Bool.{Bool, not, cond}
+use lib.Dec.{leb}
+use Rattle.bits.specs.Search.{firstFailing}
+use Rattle.wiring.specs.Plan.{Plan, sideOf}
+use Rattle.wiring.specs.Block.{isCodewordBlock}
 use Rattle.decoder.specs.Sweep.{afterSweeps}
 
-unfoldable pub sweptBlock : List ℕ → ℕ → List ℕ → ℕ → List ℕ → List ℕ
-unfolding afterSweeps nearestWord degree rowCount rowOf edgeOf
-sweptBlock sheet n wiring i block =
-    afterSweeps (nearestWord (rowOf sheet) (rowCount sheet) (degree sheet)) (edgeOf wiring) (degree sheet) n i block
+abbrev pub sweptBlock : Plan → ℕ → List ℕ → List ℕ
+sweptBlock plan i block = afterSweeps (sideOf plan) i block
 
-unfoldable pub settlesAt : List ℕ → ℕ → List ℕ → List ℕ → ℕ → ℕ
-unfolding firstFailing isCodewordBlock sweptBlock degree rowCount rowOf edgeOf
-settlesAt sheet n wiring block H =
-    firstFailing (H + 1)
-    (λ i. not (isCodewordBlock (rowOf sheet) (rowCount sheet) (degree sheet) n (edgeOf wiring) (sweptBlock sheet n wiring i block)))
+abbrev pub settledAfter : Plan → List ℕ → ℕ → Bool
+settledAfter plan block i = isCodewordBlock (sideOf plan) (sweptBlock plan i block)
 
-unfoldable pub decodeAnswer : List ℕ → ℕ → List ℕ → List ℕ → List ℕ → ℕ → Reply
-unfolding andThen refuseIf planCheck blockCheck blockBytes settlesAt degree
-decodeAnswer sheet n wiring received output H =
-    andThen (planCheck sheet n wiring)
-    (andThen (blockCheck (n * degree sheet) received)
-    (refuseIf (ltb (length output) (blockBytes (n * degree sheet))) 13 0
-    (refuseIf (ltb 4096 H) 14 0
-    (refuseIf (ltb H (settlesAt sheet n wiring received H)) 15 0
-    (done (settlesAt sheet n wiring received H ∷ []))))))
+unfoldable pub settlesAt : Plan → List ℕ → ℕ → ℕ
+unfolding firstFailing isCodewordBlock afterSweeps
+settlesAt plan block H = firstFailing (H + 1) (λ i. not (settledAfter plan block i))
 
--- the block that an answer leaves in the output
-unfoldable pub outputFor : Reply → List ℕ → ℕ → List ℕ → List ℕ → List ℕ → List ℕ
-unfolding written sweptBlock
-outputFor (done []) sheet n wiring received output = output
-outputFor (done (count ∷ rest)) sheet n wiring received output = written (sweptBlock sheet n wiring count received) output
-outputFor (refused number place) sheet n wiring received output = cond (eqb number 15) (written received output) output
+pub record Trial : Type 0 where
+  pub settled : Bool
+  pub count : ℕ
+  pub block : List ℕ
 
-unfoldable pub decodeOutput : List ℕ → ℕ → List ℕ → List ℕ → List ℕ → ℕ → List ℕ
-unfolding outputFor decodeAnswer
-decodeOutput sheet n wiring received output H = outputFor (decodeAnswer sheet n wiring received output H) sheet n wiring received output
+unfoldable pub trial : Plan → List ℕ → ℕ → Trial
+unfolding settlesAt afterSweeps
+trial plan received H =
+    let at : ℕ = settlesAt plan received H in
+    record { settled = leb at H; count = at; block = cond (leb at H) (sweptBlock plan at received) received }

@@ -1,7 +1,6 @@
 pub mod Sweep
 pub mod Decode
-pub mod Answer
 pub mod Report
-pub mod ReportAnswer
-pub mod Mending
+pub mod Answer
+pub mod Visiting
 pub mod Agreement

@@ -5,18 +5,12 @@
 --   runCount test m        the number of runs that end before some i below m
 --   pairBytes a b          two numbers as two bytes each, high byte first
 --   runBytes test m        these runs in order, offset and length of each as bytes
---   reportAnswer, reportList   what the service answers, and its list at exit
-use Prim.Native.Nat.{ℕ, zero, suc, _+_, _-_, _*_, _/_, _%_}
+use Prim.Native.Nat.{ℕ, zero, suc, _-_, _/_, _%_}
 use mathlib.Core.List.{List, [], _∷_, _++_}
-use mathlib.Core.Bool.{Bool, true, false, not, cond, _&&_}
-use lib.ListN.{length, drop}
+use mathlib.Core.Bool.{Bool, not, cond, _&&_}
 use lib.Dec.{ltb, eqb}
-use Rattle.bits.specs.Bit.{bitAt, written}
+use Rattle.bits.specs.Bit.{bitAt}
 use Rattle.bits.specs.Sum.{sum, flag}
-use Rattle.inner_code.specs.Reply.{Reply, done, refused, refuseIf, andThen}
-use Rattle.inner_code.specs.Sheet.{degree}
-use Rattle.wiring.specs.Wiring.{planCheck}
-use Rattle.wiring.specs.Block.{blockCheck}
 
 unfoldable pub differsAt : List ℕ → List ℕ → ℕ → Bool
 unfolding bitAt
@@ -41,24 +35,3 @@ unfoldable pub runBytes : (ℕ → Bool) → ℕ → List ℕ
 unfolding endsAt runStart pairBytes
 runBytes test zero = []
 runBytes test (suc i) = runBytes test i ++ cond (endsAt test i) (pairBytes (runStart test i) (i - runStart test i)) []
-
--- no bit after N - 1 is set in either block, so every run has ended before N + 1
-unfoldable pub reportAnswer : List ℕ → ℕ → List ℕ → List ℕ → List ℕ → List ℕ → Reply
-unfolding andThen refuseIf planCheck blockCheck runCount differsAt degree
-reportAnswer sheet n wiring received settled list =
-    andThen (planCheck sheet n wiring)
-    (andThen (blockCheck (n * degree sheet) received)
-    (andThen (blockCheck (n * degree sheet) settled)
-    (refuseIf (ltb (length list) (4 * runCount (differsAt received settled) (n * degree sheet + 1))) 16 0
-    (done (runCount (differsAt received settled) (n * degree sheet + 1) ∷ [])))))
-
--- the list that an answer leaves
-unfoldable pub listFor : Reply → ℕ → List ℕ → List ℕ → List ℕ → List ℕ
-unfolding written runBytes differsAt
-listFor (done values) N received settled list = written (runBytes (differsAt received settled) (N + 1)) list
-listFor (refused number place) N received settled list = list
-
-unfoldable pub reportList : List ℕ → ℕ → List ℕ → List ℕ → List ℕ → List ℕ → List ℕ
-unfolding listFor reportAnswer degree
-reportList sheet n wiring received settled list =
-    listFor (reportAnswer sheet n wiring received settled list) (n * degree sheet) received settled list

@@ -1,15 +1,22 @@
 // The decoder: refusals 1 to 15.
 use crate::settle::settle;
+use inner_code::FINDER_WORDS;
 use inner_code::Refusal;
 use inner_code::Sheet;
+use inner_code::refusal;
 use wiring::Checked;
+ghost use mathlib.Core.List.{[]};
 ghost use mathlib.Core.Path.{_≡_};
 ghost use Prim.Native.Nat.{_≤_};
 ghost use lib.ListN.{length};
 ghost use Rattle.bits.specs.Bit.{written};
-ghost use Rattle.decoder.specs.Decode.{decodeAnswer, decodeOutput};
-ghost use Rattle.decoder.specs.Answer.{decodeReply};
-ghost use Rattle.decoder.specs.Mending.{Prepared};
+ghost use Rattle.inner_code.specs.Reply.{done};
+ghost use Rattle.inner_code.specs.Finding.{Finds};
+ghost use Rattle.wiring.specs.Plan.{planOf};
+ghost use Rattle.decoder.specs.Answer.{decodeCheck, decodeAnswer, decodeOutput, decodeReply};
+
+// The most sweeps that a call may allow.
+const MAX_LIMIT: usize = 4096;
 
 // What the decoder answers: the sweeps after which the block settled, or the refusal.
 pub enum Decoded {
@@ -27,8 +34,8 @@ pub fn decode(
     output: &mut [u8],
     limit: usize,
 ) -> Decoded
-    ensures { λ r. ⌜ decodeReply r ≡ decodeAnswer (now (sheet .entry)) n (now (wiring .entry)) (now (received .entry)) (now (output .entry)) limit ⌝ }
-    ensures { λ _. ⌜ now (output .exit) ≡ decodeOutput (now (sheet .entry)) n (now (wiring .entry)) (now (received .entry)) (now (output .entry)) limit ⌝ }
+    ensures { λ r. ⌜ decodeReply r ≡ decodeAnswer (planOf (now (sheet .entry)) n (now (wiring .entry))) (now (received .entry)) (now (output .entry)) limit ⌝ }
+    ensures { λ _. ⌜ now (output .exit) ≡ decodeOutput (planOf (now (sheet .entry)) n (now (wiring .entry))) (now (received .entry)) (now (output .entry)) limit ⌝ }
 {
     let checked = wiring::check_plan(sheet, n, wiring);
     let values = checked.sheet;
@@ -39,18 +46,20 @@ pub fn decode(
             Checked::Passed => {
                 if output.len() < received.len() {
                     return Decoded::Refused(Refusal {
-                        number: 13,
+                        number: refusal::OUTPUT_SHORT,
                         place: 0,
                     });
                 }
-                if 4096 < limit {
+                if MAX_LIMIT < limit {
                     return Decoded::Refused(Refusal {
-                        number: 14,
+                        number: refusal::LIMIT_TOO_LARGE,
                         place: 0,
                     });
                 }
                 let basis = checked.basis;
-                decode_copy(sheet, n, wiring, d, k, &basis, received, output, limit)
+                let mut finder = [0u16; FINDER_WORDS];
+                inner_code::prepare_finder(sheet, k, &basis, &mut finder);
+                decode_copy(sheet, n, wiring, &mut finder, received, output, limit)
             }
         },
     }
@@ -61,26 +70,23 @@ fn decode_copy(
     sheet: &[u8],
     n: usize,
     wiring: &[u8],
-    d: usize,
-    k: usize,
-    basis: &[u16; 11],
+    finder: &mut [u16; FINDER_WORDS],
     received: &[u8],
     output: &mut [u8],
     limit: usize,
 ) -> Decoded
-    requires { ⌜ limit ≤ 4096 ⌝ }
-    requires { ⌜ length (now received) ≤ length (now output) ⌝ }
-    requires { ⌜ Prepared (now sheet) n (now wiring) d k (now basis) (now received) ⌝ }
-    ensures { λ r. ⌜ decodeReply r ≡ decodeAnswer (now (sheet .entry)) n (now (wiring .entry)) (now (received .entry)) (now (output .entry)) limit ⌝ }
-    ensures { λ _. ⌜ now (output .exit) ≡ decodeOutput (now (sheet .entry)) n (now (wiring .entry)) (now (received .entry)) (now (output .entry)) limit ⌝ }
+    requires { ⌜ Finds (now sheet) (now finder) ⌝ }
+    requires { ⌜ decodeCheck (planOf (now sheet) n (now wiring)) (now received) (now output) limit ≡ done [] ⌝ }
+    ensures { λ r. ⌜ decodeReply r ≡ decodeAnswer (planOf (now (sheet .entry)) n (now (wiring .entry))) (now (received .entry)) (now (output .entry)) limit ⌝ }
+    ensures { λ _. ⌜ now (output .exit) ≡ decodeOutput (planOf (now (sheet .entry)) n (now (wiring .entry))) (now (received .entry)) (now (output .entry)) limit ⌝ }
 {
     copy_front(received, output);
     let size = received.len();
-    let count = settle(sheet, n, wiring, d, k, basis, limit, &mut output[0..size]);
+    let count = settle(sheet, n, wiring, finder, limit, &mut output[0..size]);
     if limit < count {
         copy_front(received, output);
         return Decoded::Refused(Refusal {
-            number: 15,
+            number: refusal::UNSETTLED,
             place: 0,
         });
     }

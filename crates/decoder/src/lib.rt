@@ -1,6 +1,5 @@
 // Sweeps: the decoder and the correction report.
 mod decoding;
-mod mend;
 mod report;
 mod settle;
 mod sweep;

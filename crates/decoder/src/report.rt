@@ -1,14 +1,16 @@
 // The correction report: the maximal runs of bits at which a received and a settled block differ.
 use inner_code::Refusal;
 use inner_code::Sheet;
+use inner_code::refusal;
 use wiring::Checked;
 ghost use mathlib.Core.Path.{_≡_};
 ghost use Prim.Native.Nat.{_+_, _*_, _≤_, _<_};
 ghost use lib.ListN.{length};
 ghost use lib.Seq.{sets};
 ghost use Rattle.bits.specs.Bit.{written};
-ghost use Rattle.decoder.specs.Report.{differsAt, runCount, pairBytes, runBytes, reportAnswer, reportList};
-ghost use Rattle.decoder.specs.ReportAnswer.{reportReply};
+ghost use Rattle.wiring.specs.Plan.{planOf};
+ghost use Rattle.decoder.specs.Report.{differsAt, runCount, pairBytes, runBytes};
+ghost use Rattle.decoder.specs.Answer.{reportAnswer, reportList, reportReply};
 ghost use Rattle.decoder.specs.Agreement.{Held, Agreeing};
 
 // The number of pairs in the list, or the refusal.
@@ -28,8 +30,8 @@ pub fn report_runs(
     settled: &[u8],
     list: &mut [u8],
 ) -> Reported
-    ensures { λ r. ⌜ reportReply r ≡ reportAnswer (now (sheet .entry)) n (now (wiring .entry)) (now (received .entry)) (now (settled .entry)) (now (list .entry)) ⌝ }
-    ensures { λ _. ⌜ now (list .exit) ≡ reportList (now (sheet .entry)) n (now (wiring .entry)) (now (received .entry)) (now (settled .entry)) (now (list .entry)) ⌝ }
+    ensures { λ r. ⌜ reportReply r ≡ reportAnswer (planOf (now (sheet .entry)) n (now (wiring .entry))) (now (received .entry)) (now (settled .entry)) (now (list .entry)) ⌝ }
+    ensures { λ _. ⌜ now (list .exit) ≡ reportList (planOf (now (sheet .entry)) n (now (wiring .entry))) (now (received .entry)) (now (settled .entry)) (now (list .entry)) ⌝ }
 {
     let checked = wiring::check_plan(sheet, n, wiring);
     let values = checked.sheet;
@@ -45,7 +47,7 @@ pub fn report_runs(
                         let count = count_runs(received, settled, edges);
                         if list.len() < 4 * count {
                             return Reported::Refused(Refusal {
-                                number: 16,
+                                number: refusal::LIST_SHORT,
                                 place: 0,
                             });
                         }

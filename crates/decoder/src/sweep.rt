@@ -1,74 +1,73 @@
 // One sweep: every vertex of a side is visited in turn.
-use crate::mend::mended_word;
-use crate::mend::stays;
+use inner_code::FINDER_WORDS;
+use wiring::SideName;
 ghost use mathlib.Core.Path.{_≡_};
 ghost use Prim.Native.Nat.{_≤_};
-ghost use Rattle.wiring.specs.Wiring.{edgeOf};
-ghost use Rattle.wiring.specs.Block.{sideBit};
-ghost use Rattle.wiring.proofs.Permutation.{Wired};
-ghost use Rattle.decoder.specs.Sweep.{sweep};
-ghost use Rattle.decoder.specs.Mending.{mendedBy, changedBy, LeadersKept, PassedOver};
+ghost use Rattle.wiring.specs.Plan.{planOf, sideOf};
+ghost use Rattle.decoder.specs.Sweep.{other};
+ghost use Rattle.decoder.specs.Visiting.{Ready, SideSwept, PassedOver};
 
-// Puts the nearest word at every vertex of a side and answers at how many vertices that was another word.
+// Puts the nearest word at every vertex of a side of a checked plan and answers at how many vertices that was another word.
 pub(crate) fn sweep_side(
-    right: bool,
-    wiring: &[u8],
-    d: usize,
+    sheet: &[u8],
     n: usize,
-    near: &[u8],
-    basis: &[u16; 11],
-    k: usize,
-    words: &[u16],
-    leaders: &mut [u32; 512],
+    wiring: &[u8],
+    side: SideName,
+    finder: &mut [u16; FINDER_WORDS],
     block: &mut [u8],
 ) -> usize
-    requires { ⌜ d ≤ 16 ⌝ }
-    requires { ⌜ Wired d n (now wiring) ⌝ }
-    requires { ⌜ LeadersKept (now basis) k (now words) (now leaders) ⌝ }
-    ensures { λ r. ⌜ r ≡ changedBy (mendedBy (now (near .entry)) (now (basis .entry)) k (now (words .entry))) (sideBit right (edgeOf (now (wiring .entry)))) d n (now (block .entry)) ⌝ }
-    ensures { λ _. ⌜ LeadersKept (now (basis .entry)) k (now (words .entry)) (now (leaders .exit)) ⌝ }
-    ensures { λ _. ⌜ now (block .exit) ≡ sweep (mendedBy (now (near .entry)) (now (basis .entry)) k (now (words .entry))) (edgeOf (now (wiring .entry))) d n right (now (block .entry)) ⌝ }
+    requires { ⌜ Ready (planOf (now sheet) n (now wiring)) (now finder) ⌝ }
+    ensures { λ r. ⌜ SideSwept (planOf (now (sheet .entry)) n (now (wiring .entry))) side (now (block .entry)) r (now (block .exit)) (now (finder .exit)) ⌝ }
 {
+    let d = sheet[0] as usize;
     let mut changed = 0;
     let mut v = 0;
     while v < n {
-        v = pass_over(right, wiring, d, n, near, basis, k, block, v);
+        v = pass_over(sheet, n, wiring, side, finder, block, v);
         if v < n {
-            let word = wiring::read_word(right, wiring, d, block, v);
-            let mended = mended_word(near, basis, k, words, leaders, word);
-            if mended != word {
-                wiring::write_word(right, wiring, d, v, mended, block);
-                changed += 1;
-            }
+            let word = wiring::read_word(side, wiring, d, block, v);
+            let mended = inner_code::find_nearest(finder, word);
+            wiring::write_word(side, wiring, d, v, mended, block);
+            changed += 1;
             v += 1;
         }
     }
     changed
 }
 
-// The first vertex of a side from `from` on whose word is not seen at once to stay, n where there is none. Most vertices stay, and this loop
+// The first vertex of a side from `from` on whose word is not its own nearest one, n where there is none. Most vertices stay, and this loop
 // has nothing else to do.
 fn pass_over(
-    right: bool,
-    wiring: &[u8],
-    d: usize,
+    sheet: &[u8],
     n: usize,
-    near: &[u8],
-    basis: &[u16; 11],
-    k: usize,
+    wiring: &[u8],
+    side: SideName,
+    finder: &[u16; FINDER_WORDS],
     block: &[u8],
     from: usize,
 ) -> usize
     requires { ⌜ from ≤ n ⌝ }
-    ensures { λ r. ⌜ PassedOver right (now (wiring .entry)) d n (now (near .entry)) (now (basis .entry)) k (now (block .entry)) from r ⌝ }
+    requires { ⌜ Ready (planOf (now sheet) n (now wiring)) (now finder) ⌝ }
+    ensures { λ r. ⌜ PassedOver (sideOf (planOf (now (sheet .entry)) n (now (wiring .entry))) side) (now (block .entry)) from r ⌝ }
 {
+    let d = sheet[0] as usize;
     let mut v = from;
     while v < n {
-        let word = wiring::read_word(right, wiring, d, block, v);
-        if !stays(near, basis, k, word) {
+        let word = wiring::read_word(side, wiring, d, block, v);
+        if !inner_code::is_own_nearest(finder, word) {
             return v;
         }
         v += 1;
     }
     v
+}
+
+// The other side.
+pub(crate) fn other_side(side: SideName) -> SideName
+    ensures { λ r. ⌜ r ≡ other side ⌝ }
+{
+    match side {
+        SideName::Left => SideName::Right,
+        SideName::Right => SideName::Left,
+    }
 }

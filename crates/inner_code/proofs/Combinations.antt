@@ -3,8 +3,8 @@
 --   isCodeword row k w    some combination of the k rows is w
 -- `combination-` laws speak of one combination, `codeword-` laws of the test. All hold for any rows and any k.
 use mathlib.Core.Path.{_≡_, refl, sym, ap, ap₂, _∙_, subst}
-use mathlib.Core.Bool.{Bool, true, false}
-use Prim.Native.Nat.{ℕ, zero, suc, _+_, _*_, _^_, _<_, _≤_}
+use mathlib.Core.Bool.{true}
+use Prim.Native.Nat.{ℕ, zero, suc, _+_, _*_, _^_, _<_}
 use native.Mathlib.Nat.{le-step, lt-suc-self, zero-mul, one-mul, pow-suc, ne-of-lt}
 use native.Mathlib.Omega.{arith}
 use borrow.Author.Tests.{eq-eqb, eqb-true}
@@ -12,8 +12,8 @@ use lib.Bits.{bitXor, xor-zero-r, xor-lt, xor-self, xor-shifted}
 use lib.Pow.{pow-pos}
 use Rattle.bits.specs.Bit.{digit}
 use Rattle.bits.proofs.Xor.{xor-swap, xor-digit, digit-lt, digit-zero, digit-high, digit-pow-same, digit-pow-other}
-use Rattle.inner_code.specs.Code.{combination, someBelow, isCodeword}
-use Rattle.inner_code.proofs.Least.{some-below, some-found}
+use Rattle.inner_code.specs.Code.{combination, isCodeword}
+use Rattle.bits.proofs.Searches.{some-below, some-found}
 
 -- ---- one combination
 

@@ -1,19 +1,20 @@
 -- Cosets: the words that differ by a codeword share one nearest pattern, the coset's leader.
 --   reduced row k w      what is left of w after it is reduced by the echelon form of the rows (specs Reduction)
 --   leastKey words n w   the least key of a pattern that leads w to one of words 0 .. words (n - 1) (specs Reduction)
+--   nearestPattern row k d w   the pattern below 2^d that leads w to its nearest word (specs Code)
 -- Laws are named `coset-` and then by the fact.
-use mathlib.Core.Path.{_≡_, sym, ap, _∙_}
+use mathlib.Core.Path.{_≡_, refl, sym, ap, _∙_, subst}
 use mathlib.Core.Bool.{true}
-use Prim.Native.Nat.{ℕ, _^_, _≤_, _<_}
+use Prim.Native.Nat.{ℕ, _%_, _^_, _≤_, _<_}
 use native.Mathlib.Nat.{le-antisymm}
-use native.Mathlib.Omega.{arith}
-use lib.Bits.{bitXor, xor-self, xor-comm}
-use Rattle.bits.proofs.Xor.{xor-assoc, xor-cancel-right}
-use Rattle.inner_code.specs.Code.{combination, isCodeword, key, noKey}
-use Rattle.inner_code.specs.Reduction.{reduced, leastKey}
-use Rattle.inner_code.proofs.Least.{least-le, least-top, least-ge}
-use Rattle.inner_code.proofs.Combinations.{codeword-xor, codeword-found, codeword-combination}
+use lib.Bits.{bitXor, xor-self, xor-comm, xor-lt}
+use Rattle.bits.proofs.Xor.{xor-assoc, xor-cancel, xor-cancel-right}
+use Rattle.inner_code.specs.Code.{combination, isCodeword, key, noKey, nearestPattern, nearestWord}
+use Rattle.inner_code.specs.Reduction.{reduced, leastKey, searched}
+use Rattle.bits.proofs.Searches.{least-le, least-top, least-ge}
+use Rattle.inner_code.proofs.Combinations.{codeword-xor, codeword-lt, codeword-found, codeword-combination}
 use Rattle.inner_code.proofs.EchelonForm.{reduced-xor, reduced-codeword}
+use Rattle.inner_code.proofs.NearestWord.{nearest-searched}
 
 -- words of which the rows leave the same differ by a codeword
 pub coset-residue : (row : ℕ → ℕ) (k v w : ℕ) → reduced row k v ≡ reduced row k w → isCodeword row k (bitXor v w) ≡ true
@@ -36,3 +37,24 @@ module _ (row : ℕ → ℕ) (k : ℕ) (words : ℕ → ℕ) (all : (m : ℕ) �
   -- words of one coset have the same least key, so the same nearest pattern
   pub coset-leastKey : (v w : ℕ) → isCodeword row k (bitXor v w) ≡ true → leastKey words (2 ^ k) v ≡ leastKey words (2 ^ k) w
   coset-leastKey v w e = le-antisymm (coset-le v w e) (coset-le w v (rw (xor-comm w v) e))
+
+-- words below 2^d of which the rows leave the same have one nearest pattern
+pub coset-pattern : (row : ℕ → ℕ) (k d : ℕ) → d ≤ 16 → ((i : ℕ) → i < k → row i < 2 ^ d) → (v w : ℕ) → v < 2 ^ d → w < 2 ^ d
+    → reduced row k v ≡ reduced row k w → nearestPattern row k d v ≡ nearestPattern row k d w
+unfolding nearestWord searched
+coset-pattern row k d d-high rows-lt v w v-lt w-lt same =
+    by-key v v-lt
+    ∙ ap (λ (x : ℕ). x % 65536) (coset-leastKey row k (combination row k) (λ m l. refl) v w (coset-residue row k v w same))
+    ∙ sym (by-key w w-lt)
+  where
+    by-key : (x : ℕ) → x < 2 ^ d → nearestPattern row k d x ≡ leastKey (combination row k) (2 ^ k) x % 65536
+    by-key x l =
+        sym (xor-cancel x (nearestPattern row k d x))
+        ∙ ap (bitXor x) (sym (nearest-searched row k d d-high rows-lt (combination row k) (λ m h. refl) x l))
+        ∙ xor-cancel x (leastKey (combination row k) (2 ^ k) x % 65536)
+
+-- a word of which the rows leave the same as of a word below 2^d is below 2^d itself
+pub coset-lt : (row : ℕ → ℕ) (k d : ℕ) → ((i : ℕ) → i < k → row i < 2 ^ d) → (v w : ℕ) → v < 2 ^ d → reduced row k w ≡ reduced row k v → w < 2 ^ d
+coset-lt row k d rows-lt v w v-lt same =
+    subst (λ (x : ℕ). x < 2 ^ d) (xor-cancel-right w v)
+    (xor-lt d (bitXor w v) v (codeword-lt row d k (bitXor w v) rows-lt (coset-residue row k w v same)) v-lt)

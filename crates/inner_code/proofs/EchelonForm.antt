@@ -4,25 +4,27 @@
 --   reducedBy basis n w w reduced by a given list of rows
 -- Each is additive: it takes an exclusive-or to the exclusive-or of its values (`-xor`).
 use mathlib.Core.Path.{_≡_, refl, sym, ap, ap₂, _∙_, subst}
-use mathlib.Core.Logic.{_⊎_, inl, inr, ⊎-elim, _≢_}
+use mathlib.Core.Logic.{_⊎_, ⊎-elim, _≢_}
 use mathlib.Core.Bool.{Bool, true, false, true≢false}
 use mathlib.Core.List.{List}
 use Prim.Native.Nat.{ℕ, zero, suc, _+_, _*_, _/_, _%_, _^_, _≤_, _<_, min}
-use native.Mathlib.Nat.{eq-zero-or-pos, le-suc-iff, suc-inj, not-suc-le-zero, le-step, le-of-lt, lt-suc-self, min-eq-left, min-eq-right, min-le-left, min-le-right, min-zero, zero-min, zero-mul, one-mul, div-eq-of-lt-le, pow-suc, le-refl, ne-of-lt}
+use native.Mathlib.Nat.{min-eq-left, min-eq-right, min-le-left, min-le-right, min-zero, zero-min, zero-mul, one-mul, div-eq-of-lt-le, pow-suc}
+use native.Mathlib.Nat.{eq-zero-or-pos, le-suc-iff, suc-inj, not-suc-le-zero, le-step, le-of-lt, lt-suc-self, le-refl, ne-of-lt}
 use native.Mathlib.Numerals.{add-one}
 use native.Mathlib.Omega.{arith}
 use borrow.Author.Tests.{eq-eqb, ne-eqb}
 use lib.Dec.{eqb}
 use lib.ListN.{length, getD, set, length-set}
 use lib.Seq.{getD-set-same, getD-set-other}
-use lib.Bits.{bitXor, xor-self, xor-comm, xor-zero-r, xor-shr}
+use lib.Bits.{bitXor, xor-self, xor-zero-r, xor-shr}
 use lib.Count.{leading-top}
 use lib.Pow.{pow-pos, shr-mono}
-use Rattle.bits.specs.Bit.{at, digit}
+use Rattle.bits.specs.Window.{at}
+use Rattle.bits.specs.Bit.{digit}
 use Rattle.bits.proofs.Xor.{xor-assoc, xor-cancel, xor-swap, xor-half, xor-parity, xor-digit, digit-lt}
 use Rattle.inner_code.specs.Code.{combination, isCodeword}
 use Rattle.inner_code.specs.Reduction.{reduceBy, reduced, echelon, reducedBy, withEchelon}
-use Rattle.inner_code.proofs.Least.{min-either}
+use Rattle.bits.proofs.Searches.{min-either}
 use Rattle.inner_code.proofs.Combinations.{digit-times, codeword-zero, codeword-xor, codeword-more, codeword-last-row, codeword-found}
 
 -- ---- one step
@@ -43,15 +45,18 @@ reduceBy-digit b p w low high = go (w / 2 ^ p % 2) refl (digit-lt w p)
     top : bitXor w b / 2 ^ p ≡ bitXor (w / 2 ^ p) 1
     top = xor-shr w b p ∙ ap (bitXor (w / 2 ^ p)) (div-eq-of-lt-le {k = 1} (2 ^ p) (omega arith) (omega (arith, pow-suc 2 p)))
 
+    half : bitXor (w / 2 ^ p) 1 / 2 ≡ w / 2 ^ p / 2
+    half = xor-half (w / 2 ^ p) 1 ∙ xor-zero-r (w / 2 ^ p / 2)
+
     go : (t : ℕ) → w / 2 ^ p % 2 ≡ t → t < 2 → min w (bitXor w b) ≡ bitXor w (t * b)
     go zero e l =
         ⊎-elim (λ (m : min w (bitXor w b) ≡ w). m ∙ sym (ap (bitXor w) (zero-mul b) ∙ xor-zero-r w))
         (λ (m : min w (bitXor w b) ≡ bitXor w b).
-        absurd (omega (arith, top, shr-mono p (rw m at (min-le-left w (bitXor w b))), xor-half (w / 2 ^ p) 1, xor-zero-r (w / 2 ^ p / 2), xor-parity (w / 2 ^ p) 1)))
+        absurd (omega (arith, top, shr-mono p (rw m at (min-le-left w (bitXor w b))), half, xor-parity (w / 2 ^ p) 1)))
         (min-either w (bitXor w b))
     go (suc zero) e l =
         ⊎-elim (λ (m : min w (bitXor w b) ≡ w).
-        absurd (omega (arith, top, shr-mono p (rw m at (min-le-right w (bitXor w b))), xor-half (w / 2 ^ p) 1, xor-zero-r (w / 2 ^ p / 2), xor-parity (w / 2 ^ p) 1)))
+        absurd (omega (arith, top, shr-mono p (rw m at (min-le-right w (bitXor w b))), half, xor-parity (w / 2 ^ p) 1)))
         (λ (m : min w (bitXor w b) ≡ bitXor w b). m ∙ ap (bitXor w) (sym (one-mul b))) (min-either w (bitXor w b))
     go (suc (suc t)) e l = absurd (omega arith)
 
@@ -107,7 +112,8 @@ unfolding reduced
 reduced-row row zero i h = absurd (not-suc-le-zero h)
 reduced-row row (suc k) i h =
     ⊎-elim (λ (l : suc i ≤ k). ap (reduceBy (reduced row k (row k))) (reduced-row row k i l) ∙ reduceBy-zero (reduced row k (row k)))
-    (λ (e : suc i ≡ suc k). ap (λ (j : ℕ). reduceBy (reduced row k (row k)) (reduced row k (row j))) (suc-inj e) ∙ reduceBy-self (reduced row k (row k)))
+    (λ (e : suc i ≡ suc k). ap (λ (j : ℕ). reduceBy (reduced row k (row k)) (reduced row k (row j))) (suc-inj e)
+    ∙ reduceBy-self (reduced row k (row k)))
     (le-suc-iff .0 h)
 
 -- nothing is left of a combination of rows

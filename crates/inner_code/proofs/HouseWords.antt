@@ -2,7 +2,7 @@
 -- carries it to each entry.
 --   houseWords       the table, as it stands in the source
 --   houseWords-rule  each entry is the nearest word of its place
-use mathlib.Core.Path.{_≡_, refl, sym, _∙_}
+use mathlib.Core.Path.{_≡_, refl, _∙_}
 use mathlib.Core.Bool.{Bool, false, not}
 use mathlib.Core.List.{List, [], _∷_}
 use Prim.Native.Nat.{ℕ, zero, suc, _^_, _<_}
@@ -12,12 +12,13 @@ use lib.Dec.{eqb, lit<}
 use lib.ListN.{getD}
 use lib.Count.{ones, onesIn}
 use Rattle.bits.specs.Bit.{digit, pairAt}
-use Rattle.inner_code.specs.Code.{combination, least, someBelow, isCodeword, onesUnlessZero, fewestOnes, distance, key, noKey, nearestWord}
-use Rattle.inner_code.specs.Reduction.{leastKey, searched}
+use Rattle.bits.specs.Search.{least, someBelow}
+use Rattle.inner_code.specs.Code.{combination, isCodeword, distance, key, noKey, nearestWord}
+use Rattle.inner_code.specs.Reduction.{leastKey, searched, onesUnlessZero, fewestOnes}
 use Rattle.inner_code.specs.Sheet.{degree, rowCount, rowOf, rowCheck, rowsCheck, sheetCheck}
 use Rattle.inner_code.specs.Reply.{done, refuseIf, andThen}
-use Rattle.inner_code.specs.House.{houseSheet, houseRow}
-use Rattle.inner_code.proofs.Least.{none-below-each}
+use Rattle.inner_code.specs.House.{houseSheet}
+use Rattle.bits.proofs.Searches.{none-below-each}
 use Rattle.inner_code.proofs.NearestWord.{nearest-searched}
 
 unfoldable pub houseWords : List ℕ
@@ -37,31 +38,31 @@ houseWords =
 
 -- an entry that is not what the search over the sixteen codewords finds
 wrongAt : ℕ → Bool
-wrongAt w = not (eqb (getD houseWords w 0) (searched (combination houseRow 4) 16 w))
+wrongAt w = not (eqb (getD houseWords w 0) (searched (combination (rowOf houseSheet) 4) 16 w))
 
 none-wrong : someBelow 256 wrongAt ≡ false
-unfolding someBelow wrongAt houseWords searched leastKey least key noKey ones onesIn combination digit houseRow rowOf pairAt houseSheet
+unfolding someBelow wrongAt houseWords searched leastKey least key noKey ones onesIn combination digit rowOf pairAt houseSheet
 none-wrong = refl
 
-pub houseRow-lt : (i : ℕ) → i < 4 → houseRow i < 2 ^ 8
-unfolding houseRow rowOf pairAt houseSheet
-houseRow-lt zero h = lit< tt
-houseRow-lt (suc zero) h = lit< tt
-houseRow-lt (suc (suc zero)) h = lit< tt
-houseRow-lt (suc (suc (suc zero))) h = lit< tt
-houseRow-lt (suc (suc (suc (suc i)))) h = absurd (omega arith)
+pub house-row-lt : (i : ℕ) → i < 4 → (rowOf houseSheet) i < 2 ^ 8
+unfolding rowOf pairAt houseSheet
+house-row-lt zero h = lit< tt
+house-row-lt (suc zero) h = lit< tt
+house-row-lt (suc (suc zero)) h = lit< tt
+house-row-lt (suc (suc (suc zero))) h = lit< tt
+house-row-lt (suc (suc (suc (suc i)))) h = absurd (omega arith)
 
-pub houseWords-rule : (w : ℕ) → w < 256 → getD houseWords w 0 ≡ nearestWord houseRow 4 8 w
+pub houseWords-rule : (w : ℕ) → w < 256 → getD houseWords w 0 ≡ nearestWord (rowOf houseSheet) 4 8 w
 unfolding wrongAt
 houseWords-rule w h =
     eqb-true _ _ (not-false _ (none-below-each 256 wrongAt none-wrong w h))
-    ∙ nearest-searched houseRow 4 8 (omega arith) houseRow-lt (combination houseRow 4) (λ m l. refl) w h
+    ∙ nearest-searched (rowOf houseSheet) 4 8 (omega arith) house-row-lt (combination (rowOf houseSheet) 4) (λ m l. refl) w h
 
 -- the house sheet is accepted, and its distance is 4
 pub house-accepted : sheetCheck houseSheet ≡ done []
 unfolding sheetCheck refuseIf andThen rowsCheck rowCheck isCodeword someBelow combination digit degree rowCount rowOf pairAt houseSheet
 house-accepted = refl
 
-pub house-distance : distance houseRow 4 ≡ 4
-unfolding distance fewestOnes least onesUnlessZero ones onesIn combination digit houseRow rowOf pairAt houseSheet
+pub house-distance : distance (rowOf houseSheet) 4 ≡ 4
+unfolding distance fewestOnes least onesUnlessZero ones onesIn combination digit rowOf pairAt houseSheet
 house-distance = refl

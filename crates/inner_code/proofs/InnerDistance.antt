@@ -2,17 +2,17 @@
 --   distance row k   D of the code that the first k rows make
 -- It is at least 1, no nonzero codeword has fewer ones, and some nonzero codeword has that many.
 use mathlib.Core.Path.{_≡_, refl, sym, ap, _∙_, subst}
-use mathlib.Core.Logic.{_⊎_, inl, inr, ⊎-elim}
-use mathlib.Core.Bool.{Bool, true, false, cond}
+use mathlib.Core.Logic.{_⊎_, ⊎-elim}
+use mathlib.Core.Bool.{Bool, true, cond}
 use Prim.Native.Nat.{ℕ, zero, suc, _+_, _^_, _≤_, _<_, min}
 use native.Mathlib.Nat.{le-of-lt, min-eq-left, min-eq-right, pos-of-ne-zero}
 use native.Mathlib.Omega.{arith}
-use borrow.Author.Tests.{eq-eqb, ne-eqb}
-use lib.Dec.{eqb}
+use borrow.Author.Tests.{ne-eqb}
 use lib.Count.{ones, ones-le}
 use Rattle.bits.proofs.Xor.{ones-pos}
-use Rattle.inner_code.specs.Code.{combination, isCodeword, onesUnlessZero, fewestOnes, distance}
-use Rattle.inner_code.proofs.Least.{least-one-more, least-top, least-le, least-ge, least-found, least-ext}
+use Rattle.inner_code.specs.Reduction.{onesUnlessZero, fewestOnes}
+use Rattle.inner_code.specs.Code.{combination, isCodeword, distance}
+use Rattle.bits.proofs.Searches.{least-one-more, least-top, least-le, least-ge, least-found, least-ext}
 use Rattle.inner_code.proofs.Combinations.{codeword-found, codeword-combination}
 
 onesUnlessZero-zero : onesUnlessZero 0 ≡ 17
@@ -49,13 +49,13 @@ fewest-zero words n fewest e z =
 
 -- words that are the codewords have the code's distance
 pub fewest-distance : (row words : ℕ → ℕ) (k : ℕ) → ((m : ℕ) → m < 2 ^ k → words m ≡ combination row k m) → fewestOnes words (2 ^ k) ≡ distance row k
-unfolding fewestOnes distance
+unfolding fewestOnes distance onesUnlessZero
 fewest-distance row words k listed = least-ext 17 _ _ (2 ^ k) (λ m h. ap onesUnlessZero (listed m h))
 
 -- ---- the distance
 
 pub distance-pos : (row : ℕ → ℕ) (k : ℕ) → 1 ≤ distance row k
-unfolding distance fewestOnes
+unfolding distance onesUnlessZero
 distance-pos row k = least-ge 17 _ (2 ^ k) 1 (omega arith) (λ m h. each (combination row k m))
   where
     each : (w : ℕ) → 1 ≤ onesUnlessZero w
@@ -63,7 +63,7 @@ distance-pos row k = least-ge 17 _ (2 ^ k) 1 (omega arith) (λ m h. each (combin
     each (suc w) = omega (arith, onesUnlessZero-pos (suc w) (omega arith), ones-pos (suc w) (omega arith))
 
 pub distance-le : (row : ℕ → ℕ) (k w : ℕ) → isCodeword row k w ≡ true → 0 < w → distance row k ≤ ones w
-unfolding distance fewestOnes
+unfolding distance onesUnlessZero
 distance-le row k w e h =
     let t = codeword-found row k w e in
     subst (λ (x : ℕ). distance row k ≤ x) (ap onesUnlessZero (sym (t .2)) ∙ onesUnlessZero-pos w h)
@@ -72,7 +72,7 @@ distance-le row k w e h =
 -- a code with a nonzero codeword of at most 16 digits has one of D ones
 pub distance-attained : (row : ℕ → ℕ) (k c : ℕ) → isCodeword row k c ≡ true → 0 < c → c < 2 ^ 16
     → (w : ℕ) × (isCodeword row k w ≡ true) × (0 < w) × (ones w ≡ distance row k)
-unfolding distance fewestOnes
+unfolding distance onesUnlessZero
 distance-attained row k c e h l =
     ⊎-elim (λ (q : distance row k ≡ 17). absurd (omega (arith, distance-le row k c e h, ones-le 16 c l)))
     (λ (t : (m : ℕ) × (m < 2 ^ k) × (distance row k ≡ onesUnlessZero (combination row k m))).

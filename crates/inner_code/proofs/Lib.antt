@@ -1,4 +1,3 @@
-pub mod Least
 pub mod Combinations
 pub mod InnerDistance
 pub mod NearestWord
@@ -8,3 +7,4 @@ pub mod Replies
 pub mod Listings
 pub mod SheetChecks
 pub mod HouseWords
+pub mod Finding

@@ -1,20 +1,24 @@
 -- The codewords as the code lists them, by doubling: behind the words of the first i rows come the same words with row i put on.
 --   doubled n r m l   the list l with r put on its words 0 .. m - 1, at the places n .. n + m - 1
 --   listed row k l    the list l with the codewords of k rows at its places 0 .. 2^k - 1
-use mathlib.Core.Path.{_≡_, refl, sym, ap, ap₂, _∙_, subst}
+--   Lists row k l r m the list m is l with the codewords of k rows listed, and r is how many they are, where l has room for every code
+-- Laws are named by their subject, then by the fact; `lists-` is about what the code has listed, `front-` about the part of it that holds
+-- the codewords.
+use mathlib.Core.Path.{_≡_, refl, sym, ap, _∙_}
 use mathlib.Core.Logic.{_⊎_, inl, inr, ⊎-elim}
 use mathlib.Core.List.{List}
-use Prim.Native.Nat.{ℕ, zero, suc, _+_, _*_, _^_, _≤_, _<_}
-use native.Mathlib.Nat.{le-dest, pow-suc, le-of-lt}
+use Prim.Native.Nat.{ℕ, zero, suc, _+_, _^_, _≤_, _<_, min}
+use native.Mathlib.Nat.{le-dest, pow-suc, le-of-lt, min-le-right}
 use native.Mathlib.Decide.{decLt}
 use native.Mathlib.Numerals.{add-one}
 use native.Mathlib.Omega.{arith}
 use lib.ListN.{length, getD, set, take, length-set}
 use lib.Seq.{getD-set-same, getD-set-other, set-set, getD-take, length-take-le}
 use lib.Bits.{bitXor}
+use lib.Pow.{pow-mono}
 use Rattle.inner_code.specs.Code.{combination}
-use Rattle.bits.specs.Bit.{at}
-use Rattle.inner_code.specs.Reduction.{doubled, listed, searched}
+use Rattle.bits.specs.Window.{at}
+use Rattle.inner_code.specs.Reduction.{doubled, listed, searched, Lists}
 use Rattle.inner_code.proofs.Combinations.{combination-lower, combination-upper}
 use Rattle.inner_code.proofs.NearestWord.{searched-ext}
 
@@ -56,7 +60,7 @@ pub listed-one-more : (row : ℕ → ℕ) (i : ℕ) (l : List ℕ) → listed ro
 unfolding listed
 listed-one-more row i l = rw add-one
 
-pub length-listed : (row : ℕ → ℕ) (k : ℕ) (l : List ℕ) → length (listed row k l) ≡ length l
+length-listed : (row : ℕ → ℕ) (k : ℕ) (l : List ℕ) → length (listed row k l) ≡ length l
 unfolding listed
 length-listed row zero l = length-set l 0 0
 length-listed row (suc i) l = length-doubled (2 ^ i) (row i) (2 ^ i) (listed row i l) ∙ length-listed row i l
@@ -74,7 +78,8 @@ listed-word row (suc i) l f m h = go (listed-word row i l (omega (arith, pow-suc
         → getD (doubled (2 ^ i) (row i) (2 ^ i) (listed row i l)) m 0 ≡ combination row (suc i) m
     upper before t =
         let b : t .0 < 2 ^ i = omega (arith, pow-suc 2 i, t .1, h) in
-        rw (← t .1) (doubled-new (2 ^ i) (row i) (2 ^ i) (listed row i l) (t .0) b (omega arith) (omega (arith, length-listed row i l, pow-suc 2 i, f))
+        rw (← t .1) (doubled-new (2 ^ i) (row i) (2 ^ i) (listed row i l) (t .0) b (omega arith)
+        (omega (arith, length-listed row i l, pow-suc 2 i, f))
         ∙ ap (λ (x : ℕ). bitXor x (row i)) (before (t .0) b)
         ∙ sym (combination-upper row i (t .0) b))
 
@@ -95,21 +100,33 @@ unfolding listed
 listed-again row zero l = set-set l 0 0 0
 listed-again row (suc i) l = ap (doubled (2 ^ i) (row i) (2 ^ i)) (listed-again row i l)
 
--- ---- the listed words as a part that is lent on
+-- ---- what the code has listed, where there is room for every code
 
-module _ (row : ℕ → ℕ) (k : ℕ) (before words : List ℕ) (count : ℕ) (room : 2 ^ k ≤ length before) (all : words ≡ listed row k before) (size : count ≡ 2 ^ k) where
-  front-sized : length words ≡ length before
-  front-sized = ap length all ∙ length-listed row k before
+module _ (row : ℕ → ℕ) (k : ℕ) {before words : List ℕ} {count : ℕ} (lists : Lists row k before count words) (room : 2048 ≤ length before) where
+  lists-room : 2 ^ min k 11 ≤ length before
+  lists-room = omega (arith, pow-mono {j = 11} (min-le-right k 11))
 
-  pub front-length : length (take count words) ≡ 2 ^ k
-  front-length = length-take-le count words (omega (arith, front-sized)) ∙ size
+  pub lists-few : count ≤ 2048
+  lists-few = omega (arith, lists .room room .0, pow-mono {j = 11} (min-le-right k 11))
 
-  pub front-word : (m : ℕ) → m < 2 ^ k → at (take count words) m ≡ combination row k m
+  pub lists-fits : count ≤ length words
+  lists-fits = omega (arith, lists-few, ap length (lists .room room .1), length-listed row (min k 11) before)
+
+  pub lists-word : (m : ℕ) → m < 2 ^ min k 11 → getD words m 0 ≡ combination row (min k 11) m
+  lists-word m h = ap (λ (l : List ℕ). getD l m 0) (lists .room room .1) ∙ listed-word row (min k 11) before lists-room m h
+
+  -- the words as a part that is lent on
+
+  pub front-length : length (take count words) ≡ 2 ^ min k 11
+  front-length = length-take-le count words lists-fits ∙ lists .room room .0
+
+  pub front-word : (m : ℕ) → m < 2 ^ min k 11 → at (take count words) m ≡ combination row (min k 11) m
   unfolding at
-  front-word m h = getD-take count words m 0 (omega arith) ∙ ap (λ (l : List ℕ). getD l m 0) all ∙ listed-word row k before room m h
+  front-word m h = getD-take count words m 0 (omega (arith, lists .room room .0)) ∙ lists-word m h
 
   -- a search over that part is a search over the codewords
-  pub front-searched : (w : ℕ) → searched (at (take count words)) (length (take count words)) w ≡ searched (combination row k) (2 ^ k) w
+  pub front-searched : (w : ℕ)
+      → searched (at (take count words)) (length (take count words)) w ≡ searched (combination row (min k 11)) (2 ^ min k 11) w
   front-searched w =
       ap (λ (n : ℕ). searched (at (take count words)) n w) front-length
-      ∙ searched-ext (at (take count words)) (combination row k) (2 ^ k) w front-word
+      ∙ searched-ext (at (take count words)) (combination row (min k 11)) (2 ^ min k 11) w front-word

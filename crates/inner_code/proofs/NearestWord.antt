@@ -4,23 +4,25 @@
 --   searched words n w      what a search over listed codewords finds
 -- `key-` laws compare patterns, `nearest-` laws say what the found word is. They hold for any rows below 2^d and any d up to 16.
 use mathlib.Core.Path.{_≡_, refl, sym, ap, ap₂, _∙_, subst}
-use mathlib.Core.Logic.{_⊎_, inl, inr, ⊎-elim}
-use mathlib.Core.Bool.{Bool, true, false}
-use Prim.Native.Nat.{ℕ, zero, suc, _+_, _*_, _%_, _^_, _≤_, _<_, min}
+use mathlib.Core.Logic.{_⊎_, ⊎-elim}
+use mathlib.Core.Bool.{Bool, true, false, cond}
+use Prim.Native.Nat.{ℕ, _+_, _*_, _%_, _^_, _≤_, _<_, min}
 use native.Mathlib.Nat.{eq-zero-or-pos, le-antisymm, le-of-lt, lt-of-lt-of-le, min-eq-left, min-eq-right}
 use native.Mathlib.Omega.{arith}
 use lib.Bits.{bitXor, xor-lt, xor-self, xor-comm, xor-zero-r}
 use lib.Count.{ones, ones-le}
 use lib.Pow.{pow-mono, pow-pos}
-use Rattle.bits.proofs.Xor.{xor-cancel, xor-cancel-right, xor-zero-eq, ones-zero, ones-triangle}
+use Rattle.bits.proofs.Xor.{xor-cancel, xor-zero-eq, ones-zero, ones-triangle}
 use mathlib.Core.List.{List, [], _∷_}
 use borrow.Author.Tests.{le-leb, lt-leb}
 use Rattle.inner_code.specs.Reply.{done, refused}
-use Rattle.inner_code.specs.Sheet.{degree, rowCount, rowOf, sheetCheck, nearestAnswer}
+use Rattle.inner_code.specs.Answer.{nearestAnswer}
+use Rattle.inner_code.specs.Sheet.{degree, rowCount, rowOf, sheetCheck}
 use Rattle.inner_code.proofs.Replies.{andThen-refused, andThen-passed, refuse-taken, refuse-passed}
-use Rattle.inner_code.specs.Code.{combination, isCodeword, least, key, noKey, keyWhere, nearestPattern, nearestWord, distance}
+use Rattle.bits.specs.Search.{least}
+use Rattle.inner_code.specs.Code.{combination, isCodeword, key, noKey, nearestPattern, nearestWord, distance}
 use Rattle.inner_code.specs.Reduction.{leastKey, searched}
-use Rattle.inner_code.proofs.Least.{least-one-more, least-le, least-top, least-ge, least-found, least-ext}
+use Rattle.bits.proofs.Searches.{least-one-more, least-le, least-top, least-ge, least-found, least-ext}
 use Rattle.inner_code.proofs.Combinations.{codeword-zero, codeword-xor, codeword-lt, codeword-found, codeword-combination}
 use Rattle.inner_code.proofs.InnerDistance.{distance-le}
 
@@ -47,7 +49,8 @@ key-zero p h = omega (arith, ones-zero)
 pub leastKey-lower : (words : ℕ → ℕ) (n w best : ℕ) → best ≡ leastKey words n w → key (bitXor (words n) w) < best
     → key (bitXor (words n) w) ≡ leastKey words (n + 1) w
 unfolding leastKey
-leastKey-lower words n w best e h = sym (least-one-more noKey _ n ∙ ap (λ (x : ℕ). min x (key (bitXor (words n) w))) (sym e) ∙ min-eq-right (le-of-lt h))
+leastKey-lower words n w best e h =
+    sym (least-one-more noKey _ n ∙ ap (λ (x : ℕ). min x (key (bitXor (words n) w))) (sym e) ∙ min-eq-right (le-of-lt h))
 
 pub leastKey-kept : (words : ℕ → ℕ) (n w best : ℕ) → best ≡ leastKey words n w → best ≤ key (bitXor (words n) w)
     → best ≡ leastKey words (n + 1) w
@@ -64,15 +67,15 @@ module _ (row : ℕ → ℕ) (k d : ℕ) (d-high : d ≤ 16) (rows-lt : (i : ℕ
   below p h = lt-of-lt-of-le h (pow-mono d-high)
 
   leads : ℕ → ℕ → ℕ
-  leads w p = keyWhere (isCodeword row k (bitXor w p)) p
+  leads w p = cond (isCodeword row k (bitXor w p)) (key p) noKey
 
   leads-true : (w p : ℕ) → isCodeword row k (bitXor w p) ≡ true → leads w p ≡ key p
-  unfolding leads keyWhere
-  leads-true w p e = ap (λ (t : Bool). keyWhere t p) e
+  unfolding leads
+  leads-true w p e = ap (λ (t : Bool). cond t (key p) noKey) e
 
   leads-none : (w p : ℕ) → isCodeword row k (bitXor w p) ≡ false → leads w p ≡ noKey
-  unfolding leads keyWhere
-  leads-none w p e = ap (λ (t : Bool). keyWhere t p) e
+  unfolding leads
+  leads-none w p e = ap (λ (t : Bool). cond t (key p) noKey) e
 
   -- the found pattern leads to a codeword
   found : (w : ℕ) → w < 2 ^ d → (p : ℕ) × (p < 2 ^ d) × (isCodeword row k (bitXor w p) ≡ true) × (least noKey (leads w) (2 ^ d) ≡ key p)

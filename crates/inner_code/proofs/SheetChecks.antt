@@ -3,9 +3,9 @@
 --   Sound sheet           what holds of an accepted sheet
 --   Accepted sheet r d k  what a caller learns from a check that accepts
 -- `row-` laws give one row's outcome, `rows-` laws that of the rows so far, `sound-` laws the two directions of acceptance.
-use mathlib.Core.Path.{_≡_, refl, sym, ap, ap₂, _∙_, subst, subst⁻¹}
-use mathlib.Core.Logic.{_⊎_, inl, inr, ⊎-elim}
-use mathlib.Core.Bool.{Bool, true, false, not, _||_, true≢false, false≢true}
+use mathlib.Core.Path.{_≡_, refl, sym, ap, _∙_, subst, subst⁻¹}
+use mathlib.Core.Logic.{_⊎_, ⊎-elim}
+use mathlib.Core.Bool.{Bool, true, false, not, _||_, false≢true}
 use mathlib.Core.List.{List, [], _∷_}
 use Prim.Native.Nat.{ℕ, zero, suc, _+_, _*_, _^_, _≤_, _<_}
 use native.Mathlib.Nat.{le-suc-iff, suc-inj, not-suc-le-zero, lt-suc-self, le-step}
@@ -17,11 +17,13 @@ use lib.ListN.{length, getD, replicate}
 use Rattle.inner_code.specs.Reply.{Reply, done, refused, refuseIf, andThen}
 use Rattle.inner_code.specs.Code.{isCodeword}
 use Rattle.inner_code.specs.Reduction.{reduced, withEchelon}
-use Rattle.inner_code.specs.Sheet.{degree, rowCount, rowOf, rowCheck, rowsCheck, sheetCheck, sheetAnswer, rowsAnswer, refusedSheet, soundRows, sheetReply, SheetChecked}
-use Rattle.inner_code.specs.declared.sheet.Refusal.{Refusal}
+use Rattle.inner_code.specs.Sheet.{degree, rowCount, rowOf, rowCheck, rowsCheck, sheetCheck}
+use Rattle.inner_code.specs.Checking.{sheetAnswer, rowsAnswer, refusedSheet, soundRows, sheetReply, SheetChecked}
+use Rattle.inner_code.specs.declared.refusal.Refusal.{Refusal}
 use Rattle.inner_code.specs.declared.sheet.Sheet.{Sheet}
 use Rattle.inner_code.specs.declared.sheet.CheckedSheet.{CheckedSheet}
-use Rattle.inner_code.proofs.Replies.{refuse-taken, refuse-passed, refuse-done, andThen-passed, andThen-refused, andThen-done}
+use Rattle.bits.proofs.Tests.{or-left, or-right, or-neither}
+use Rattle.inner_code.proofs.Replies.{refuse-taken, refuse-passed, refuse-done, andThen-passed, andThen-refused, andThen-done, andThen-back}
 use Rattle.inner_code.proofs.EchelonForm.{codeword-test, reduced-codeword}
 
 -- ---- one row
@@ -92,13 +94,6 @@ rows-answer-done sheet d k e = andThen-passed _ _ [] e
 or-none : (a b : Bool) → a ≡ false → b ≡ false → (a || b) ≡ false
 or-none a b p q = rw p q
 
-or-first : (a b : Bool) → a ≡ true → (a || b) ≡ true
-or-first a b p = rw p
-
-or-second : (a b : Bool) → b ≡ true → (a || b) ≡ true
-or-second true b p = refl
-or-second false b p = p
-
 module _ (sheet : List ℕ) where
   badDegree : Bool
   badDegree = ltb (degree sheet) 2 || ltb 16 (degree sheet)
@@ -141,7 +136,8 @@ module _ (sheet : List ℕ) where
     sheet-degree h =
         answer-refused 2 0 (past-length
         ∙ refuse-taken badDegree 2 0 _
-        (⊎-elim (λ (l : degree sheet < 2). or-first _ _ (lt-ltb _ _ l)) (λ (l : 16 < degree sheet). or-second (ltb (degree sheet) 2) _ (lt-ltb _ _ l)) h))
+        (⊎-elim (λ (l : degree sheet < 2). or-left _ _ (lt-ltb _ _ l))
+        (λ (l : 16 < degree sheet). or-right (ltb (degree sheet) 2) _ (lt-ltb _ _ l)) h))
 
     module _ (low : 2 ≤ degree sheet) (high : degree sheet ≤ 16) where
       past-degree : sheetCheck sheet ≡ fromCount
@@ -153,9 +149,9 @@ module _ (sheet : List ℕ) where
       sheet-count h =
           answer-refused 3 0 (past-degree
           ∙ refuse-taken badCount 3 0 _
-          (⊎-elim (λ (l : rowCount sheet < 1). or-first _ _ (lt-ltb _ _ l))
-          (⊎-elim (λ (l : 11 < rowCount sheet). or-second (ltb (rowCount sheet) 1) _ (or-first _ _ (lt-ltb _ _ l)))
-          (λ (l : degree sheet < rowCount sheet). or-second (ltb (rowCount sheet) 1) _ (or-second (ltb 11 (rowCount sheet)) _ (lt-ltb _ _ l)))) h))
+          (⊎-elim (λ (l : rowCount sheet < 1). or-left _ _ (lt-ltb _ _ l))
+          (⊎-elim (λ (l : 11 < rowCount sheet). or-right (ltb (rowCount sheet) 1) _ (or-left _ _ (lt-ltb _ _ l)))
+          (λ (l : degree sheet < rowCount sheet). or-right (ltb (rowCount sheet) 1) _ (or-right (ltb 11 (rowCount sheet)) _ (lt-ltb _ _ l)))) h))
 
       module _ (some : 1 ≤ rowCount sheet) (few : rowCount sheet ≤ 11) (fit : rowCount sheet ≤ degree sheet) where
         past-count : sheetCheck sheet ≡ fromLength
@@ -194,24 +190,16 @@ pub record Sound (sheet : List ℕ) : Type 0 where
   pub rows-lt : (i : ℕ) → i < rowCount sheet → rowOf sheet i < 2 ^ degree sheet
   pub rows-new : (i : ℕ) → i < rowCount sheet → isCodeword (rowOf sheet) i (rowOf sheet i) ≡ false
 
-or-left-none : (a b : Bool) → (a || b) ≡ false → a ≡ false
-or-left-none true b e = e
-or-left-none false b e = refl
-
-or-right-none : (a b : Bool) → (a || b) ≡ false → b ≡ false
-or-right-none true b e = absurd (true≢false e)
-or-right-none false b e = e
-
 -- an accepted sheet is sound
 pub sound : (sheet values : List ℕ) → sheetCheck sheet ≡ done values → Sound sheet
 unfolding sheetCheck
 sound sheet values e =
     record {
-      degree-low = ltb-false _ _ (or-left-none _ (ltb 16 d) (b .0));
-      degree-high = ltb-false _ _ (or-right-none (ltb d 2) _ (b .0));
-      count-low = ltb-false _ _ (or-left-none _ (ltb 11 k || ltb d k) (g .0));
-      count-high = ltb-false _ _ (or-left-none _ (ltb d k) (or-right-none (ltb k 1) _ (g .0)));
-      count-degree = ltb-false _ _ (or-right-none (ltb 11 k) _ (or-right-none (ltb k 1) _ (g .0)));
+      degree-low = ltb-false _ _ (wide .0);
+      degree-high = ltb-false _ _ (wide .1);
+      count-low = ltb-false _ _ (counted .0);
+      count-high = ltb-false _ _ (few .0);
+      count-degree = ltb-false _ _ (few .1);
       sized = eqb-true _ _ (not-false _ (h .0));
       rows-lt = λ i l. row-passed d (rowOf sheet) i (rows-done d (rowOf sheet) k values (h .1) i l) .0;
       rows-new = λ i l. row-passed d (rowOf sheet) i (rows-done d (rowOf sheet) k values (h .1) i l) .1;
@@ -240,6 +228,15 @@ sound sheet values e =
 
     g : ((ltb k 1 || (ltb 11 k || ltb d k)) ≡ false) × (fourth ≡ done values)
     g = refuse-done (ltb k 1 || (ltb 11 k || ltb d k)) 3 0 fourth values (b .1)
+
+    wide : (ltb d 2 ≡ false) × (ltb 16 d ≡ false)
+    wide = or-neither (ltb d 2) (ltb 16 d) (b .0)
+
+    counted : (ltb k 1 ≡ false) × ((ltb 11 k || ltb d k) ≡ false)
+    counted = or-neither (ltb k 1) _ (g .0)
+
+    few : (ltb 11 k ≡ false) × (ltb d k ≡ false)
+    few = or-neither (ltb 11 k) (ltb d k) (counted .1)
 
     h : (not (eqb (length sheet) (2 + 2 * k)) ≡ false) × (rowsCheck d (rowOf sheet) k ≡ done values)
     h = refuse-done (not (eqb (length sheet) (2 + 2 * k))) 4 0 (rowsCheck d (rowOf sheet) k) values (g .1)
@@ -299,8 +296,4 @@ accepted sheet r d k c e =
 pub turned-back : (sheet : List ℕ) (r : CheckedSheet) (f : Refusal) → SheetChecked sheet r → r .sheet ≡ Sheet.Refused f
     → sheetCheck sheet ≡ refused (f .number) (f .place)
 unfolding sheetAnswer
-turned-back sheet r f c e = go (sheetCheck sheet) (sym (ap sheetReply e) ∙ c .answer)
-  where
-    go : (x : Reply) → refused (f .number) (f .place) ≡ andThen x (done (degree sheet ∷ rowCount sheet ∷ [])) → x ≡ refused (f .number) (f .place)
-    go (done values) q = let z : _≡_ {A = ℕ} 0 1 = cc in absurd (omega arith)
-    go (refused n p) q = sym q
+turned-back sheet r f c e = andThen-back (sheetCheck sheet) _ _ _ (sym (c .answer) ∙ ap sheetReply e)

@@ -1,5 +1,8 @@
 pub mod Reply
 pub mod Code
-pub mod Reduction
 pub mod Sheet
 pub mod House
+pub mod Answer
+pub mod Reduction
+pub mod Checking
+pub mod Finding

@@ -4,15 +4,24 @@
 --   echelon row i         row i, reduced by the rows before it
 --   reducedBy basis n w   w reduced by basis 0 .. basis (n - 1)
 --   withEchelon row n l   the list l with echelon row i at its place i, for each i below n
+--   onesUnlessZero w      the ones of a nonzero word; of the zero word 17, more than any word has
+--   fewestOnes words n    the fewest ones in a nonzero one of words 0 .. words (n - 1), 17 where there is none
 --   leastKey words n w    the least key of a pattern that leads w to one of words 0 .. words (n - 1)
 --   searched words n w    w with the pattern of that key on it
 --   doubled n r m l       the list l with r put on its words 0 .. m - 1, at the places n .. n + m - 1
 --   listed row k l        the list l with the codewords of k rows at its places 0 .. 2^k - 1, by doubling
-use Prim.Native.Nat.{ℕ, zero, suc, _+_, _%_, _^_, min}
+--   Lists row k l r m     the list m is l with the codewords of k rows listed, of 11 at most, and r is how many they are; where l has no
+--                         room for 2^11 words, m is l and r is 0
+use Prim.Native.Nat.{ℕ, zero, suc, _+_, _%_, _^_, _≤_, _<_, min}
+use mathlib.Core.Bool.{cond}
 use mathlib.Core.List.{List}
-use lib.ListN.{getD, set}
+use mathlib.Core.Path.{_≡_}
+use lib.ListN.{length, getD, set}
 use lib.Bits.{bitXor}
-use Rattle.inner_code.specs.Code.{least, key, noKey}
+use lib.Count.{ones}
+use lib.Dec.{eqb}
+use Rattle.bits.specs.Search.{least}
+use Rattle.inner_code.specs.Code.{key, noKey}
 
 unfoldable pub reduceBy : ℕ → ℕ → ℕ
 reduceBy b w = min w (bitXor w b)
@@ -36,6 +45,13 @@ unfolding echelon
 withEchelon row zero l = l
 withEchelon row (suc n) l = set (withEchelon row n l) n (echelon row n)
 
+unfoldable pub onesUnlessZero : ℕ → ℕ
+onesUnlessZero w = cond (eqb w 0) 17 (ones w)
+
+unfoldable pub fewestOnes : (ℕ → ℕ) → ℕ → ℕ
+unfolding least onesUnlessZero
+fewestOnes words n = least 17 (λ m. onesUnlessZero (words m)) n
+
 unfoldable pub leastKey : (ℕ → ℕ) → ℕ → ℕ → ℕ
 unfolding least key noKey
 leastKey words n w = least noKey (λ m. key (bitXor (words m) w)) n
@@ -52,3 +68,7 @@ unfoldable pub listed : (ℕ → ℕ) → ℕ → List ℕ → List ℕ
 unfolding doubled
 listed row zero l = set l 0 0
 listed row (suc i) l = doubled (2 ^ i) (row i) (2 ^ i) (listed row i l)
+
+pub record Lists (row : ℕ → ℕ) (k : ℕ) (before : List ℕ) (r : ℕ) (after : List ℕ) : Type 0 where
+  pub room : 2048 ≤ length before → (r ≡ 2 ^ min k 11) × (after ≡ listed row (min k 11) before)
+  pub short : length before < 2048 → (r ≡ 0) × (after ≡ before)

@@ -1,23 +1,16 @@
--- The inner sheet, its refusals 1 to 6, and what the nearest word answers.
+-- The inner sheet and its refusals 1 to 6.
 --   degree, rowCount, rowOf   the sheet's d, k and row i
+--   rowCheck d row i          row i alone: at or above 2^d (5), else made of earlier rows (6)
 --   rowsCheck d row n         the first faulty row below n: at or above 2^d (5), else made of earlier rows (6)
 --   sheetCheck sheet          the sheet's place in the table: the first of 1 to 6, or done with no value
---   sheetAnswer sheet         the values d and k of an accepted sheet, or its refusal
---   nearestAnswer sheet w     what the service answers for a sheet and a word
 use Prim.Native.Nat.{ℕ, zero, suc, _+_, _*_, _^_}
-use mathlib.Core.List.{List, [], _∷_}
-use mathlib.Core.Bool.{Bool, true, false, not, _||_}
-use mathlib.Core.Path.{_≡_}
-use lib.ListN.{length, getD, replicate}
+use mathlib.Core.List.{List, []}
+use mathlib.Core.Bool.{not, _||_}
+use lib.ListN.{length, getD}
 use lib.Dec.{ltb, leb, eqb}
 use Rattle.bits.specs.Bit.{pairAt}
-use Rattle.inner_code.specs.Reply.{Reply, done, refused, refuseIf, andThen}
-use Rattle.inner_code.specs.Code.{isCodeword, nearestWord}
-use Rattle.inner_code.specs.Reduction.{withEchelon}
-use Rattle.inner_code.specs.declared.sheet.Refusal.{Refusal}
-use Rattle.inner_code.specs.declared.sheet.Sheet.{Sheet}
-use Rattle.inner_code.specs.declared.sheet.CheckedSheet.{CheckedSheet}
-use Rattle.inner_code.specs.declared.nearest.Nearest.{Nearest}
+use Rattle.inner_code.specs.Reply.{Reply, done, refuseIf, andThen}
+use Rattle.inner_code.specs.Code.{isCodeword}
 
 unfoldable pub degree : List ℕ → ℕ
 degree sheet = getD sheet 0 0
@@ -46,45 +39,3 @@ sheetCheck sheet =
     (refuseIf (ltb (rowCount sheet) 1 || (ltb 11 (rowCount sheet) || ltb (degree sheet) (rowCount sheet))) 3 0
     (refuseIf (not (eqb (length sheet) (2 + 2 * rowCount sheet))) 4 0
     (rowsCheck (degree sheet) (rowOf sheet) (rowCount sheet)))))
-
--- the rows' part of the answer: d and k once no row below k is faulty
-unfoldable pub rowsAnswer : List ℕ → ℕ → ℕ → Reply
-unfolding andThen rowsCheck rowOf
-rowsAnswer sheet d k = andThen (rowsCheck d (rowOf sheet) k) (done (d ∷ k ∷ []))
-
-unfoldable pub sheetAnswer : List ℕ → Reply
-unfolding andThen sheetCheck degree rowCount
-sheetAnswer sheet = andThen (sheetCheck sheet) (done (degree sheet ∷ rowCount sheet ∷ []))
-
-unfoldable pub nearestAnswer : List ℕ → ℕ → Reply
-unfolding andThen refuseIf sheetCheck nearestWord degree rowCount rowOf
-nearestAnswer sheet w =
-    andThen (sheetCheck sheet)
-    (refuseIf (leb (2 ^ degree sheet) w) 12 0
-    (done (nearestWord (rowOf sheet) (rowCount sheet) (degree sheet) w ∷ [])))
-
--- the paper's number, place and values for each case of an answer in the code
-abbrev pub sheetReply : Sheet → Reply
-sheetReply (Sheet.Accepted d k) = done (d ∷ k ∷ [])
-sheetReply (Sheet.Refused r) = refused (r .number) (r .place)
-
-abbrev pub nearestReply : Nearest → Reply
-nearestReply (Nearest.Word w) = done (w ∷ [])
-nearestReply (Nearest.Refused r) = refused (r .number) (r .place)
-
--- how many rows come before the first faulty one: the place of 5 and 6, all k of an accepted sheet, none with 1 to 4
-abbrev pub soundRows : Sheet → ℕ
-soundRows (Sheet.Accepted d k) = k
-soundRows (Sheet.Refused r) = r .place
-
--- what the checks of a sheet and of its rows give: the answer, and the echelon form of the sound rows before zeros
-pub record SheetChecked (sheet : List ℕ) (r : CheckedSheet) : Type 0 where
-  pub answer : sheetReply (r .sheet) ≡ sheetAnswer sheet
-  pub rows : r .basis ≡ withEchelon (rowOf sheet) (soundRows (r .sheet)) (replicate 11 0)
-
-pub record RowsChecked (sheet : List ℕ) (d k : ℕ) (r : CheckedSheet) : Type 0 where
-  pub answer : sheetReply (r .sheet) ≡ rowsAnswer sheet d k
-  pub rows : r .basis ≡ withEchelon (rowOf sheet) (soundRows (r .sheet)) (replicate 11 0)
-
-abbrev pub refusedSheet : ℕ → CheckedSheet
-refusedSheet number = record { sheet = Sheet.Refused (record { number = number; place = 0 }); basis = replicate 11 0 }

@@ -1,18 +1,22 @@
 // The codewords as a list, and the inner distance.
 ghost use mathlib.Core.Path.{_≡_};
-ghost use Prim.Native.Nat.{_*_, _^_, _≤_, min};
+ghost use Prim.Native.Nat.{_*_, _≤_};
 ghost use lib.ListN.{length};
-ghost use Rattle.bits.specs.Bit.{at};
-ghost use Rattle.inner_code.specs.Code.{fewestOnes};
+ghost use Rattle.bits.specs.Window.{at};
 ghost use Rattle.inner_code.specs.Sheet.{rowOf};
-ghost use Rattle.inner_code.specs.Reduction.{listed, doubled};
+ghost use Rattle.inner_code.specs.Reduction.{Lists, doubled, fewestOnes};
+
+// The most codewords of a sheet, 2^11.
+pub const MAX_CODEWORDS: usize = 2048;
 
 // Lists the codewords that the sheet's first k rows make at the front of `words` and answers how many there are, 2^k. A k
-// above 11 counts as 11. The rest of `words` stays as it was.
-pub fn list_codewords(sheet: &[u8], k: usize, words: &mut [u16; 2048]) -> usize
-    ensures { λ r. ⌜ r ≡ 2 ^ min k 11 ⌝ }
-    ensures { λ _. ⌜ now (words .exit) ≡ listed (rowOf (now (sheet .entry))) (min k 11) (now (words .entry)) ⌝ }
+// above 11 counts as 11. The rest of `words` stays as it was. Room for fewer than 2,048 words is left as it was, and the answer is 0.
+pub fn list_codewords(sheet: &[u8], k: usize, words: &mut [u16]) -> usize
+    ensures { λ r. ⌜ Lists (rowOf (now (sheet .entry))) k (now (words .entry)) r (now (words .exit)) ⌝ }
 {
+    if words.len() < MAX_CODEWORDS {
+        return 0;
+    }
     words[0] = 0;
     let mut count: usize = 1;
     let mut i = 0;
@@ -28,8 +32,8 @@ pub fn list_codewords(sheet: &[u8], k: usize, words: &mut [u16; 2048]) -> usize
 }
 
 // Words 0 to count - 1 again, with `row` put on each, behind themselves.
-fn double(words: &mut [u16; 2048], count: usize, row: u16)
-    requires { ⌜ 2 * count ≤ 2048 ⌝ }
+fn double(words: &mut [u16], count: usize, row: u16)
+    requires { ⌜ 2 * count ≤ length (now words) ⌝ }
     ensures { λ _. ⌜ now (words .exit) ≡ doubled count row count (now (words .entry)) ⌝ }
 {
     let mut m = 0;

@@ -1,7 +1,8 @@
 // The house code: d 8, k 4, rows FF, 0F, 33, 55, with D = 4. Its nearest words come from a table.
 ghost use mathlib.Core.Path.{_≡_};
 ghost use Rattle.inner_code.specs.Code.{nearestWord};
-ghost use Rattle.inner_code.specs.House.{houseSheet, houseRow, houseCode, HouseTable};
+ghost use Rattle.inner_code.specs.Sheet.{rowOf};
+ghost use Rattle.inner_code.specs.House.{houseSheet, houseCode, HouseTable};
 
 // The nearest house codeword of each of the 256 words.
 const NEAREST: [u8; 256] = [
@@ -308,7 +309,7 @@ impl HouseCode {
 
     // The nearest codeword of a word, from the table.
     pub fn nearest(word: u8) -> u8
-        ensures { λ r. ⌜ r ≡ nearestWord houseRow 4 8 word ⌝ }
+        ensures { λ r. ⌜ r ≡ nearestWord (rowOf houseSheet) 4 8 word ⌝ }
     {
         NEAREST[word as usize]
     }

@@ -1,18 +1,27 @@
 // The inner code: the sheet's check, codewords, distance, the nearest word and the house code.
 mod codewords;
+mod finder;
 mod house;
 mod membership;
 mod nearest;
+pub mod refusal;
 mod sheet;
 
+pub use codewords::MAX_CODEWORDS;
 pub use codewords::distance;
 pub use codewords::list_codewords;
+pub use finder::FINDER_WORDS;
+pub use finder::find_nearest;
+pub use finder::is_own_nearest;
+pub use finder::prepare_finder;
 pub use house::HouseCode;
 pub use membership::residue;
 pub use nearest::Nearest;
 pub use nearest::nearest_listed;
 pub use nearest::nearest_word;
+pub use refusal::Refusal;
 pub use sheet::CheckedSheet;
-pub use sheet::Refusal;
+pub use sheet::MAX_DEGREE;
+pub use sheet::MAX_ROWS;
 pub use sheet::Sheet;
 pub use sheet::check_sheet;

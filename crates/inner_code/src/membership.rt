@@ -1,7 +1,7 @@
 // Membership of a word in as many steps as the code has rows.
 ghost use mathlib.Core.Path.{_≡_};
 ghost use Prim.Native.Nat.{min};
-ghost use Rattle.bits.specs.Bit.{at};
+ghost use Rattle.bits.specs.Window.{at};
 ghost use Rattle.inner_code.specs.Reduction.{reducedBy};
 
 // What is left of a word after it is reduced by the first `count` rows of `basis` in turn; a count above 11 counts as 11. With

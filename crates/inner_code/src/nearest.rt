@@ -1,13 +1,16 @@
 // The nearest word: of all error patterns that turn a word into a codeword the one with fewest ones, of those the smallest.
+use crate::codewords::MAX_CODEWORDS;
 use crate::codewords::list_codewords;
-use crate::sheet::Refusal;
+use crate::refusal;
+use crate::refusal::Refusal;
 use crate::sheet::Sheet;
 use crate::sheet::check_sheet;
 ghost use mathlib.Core.Path.{_≡_};
 ghost use Prim.Native.Nat.{_^_, min};
 ghost use lib.ListN.{length};
-ghost use Rattle.bits.specs.Bit.{at};
-ghost use Rattle.inner_code.specs.Sheet.{rowOf, nearestAnswer, nearestReply};
+ghost use Rattle.bits.specs.Window.{at};
+ghost use Rattle.inner_code.specs.Answer.{nearestAnswer, nearestReply};
+ghost use Rattle.inner_code.specs.Sheet.{rowOf};
 ghost use Rattle.inner_code.specs.Code.{combination};
 ghost use Rattle.inner_code.specs.Reduction.{searched};
 
@@ -28,7 +31,7 @@ pub fn nearest_word(sheet: &[u8], word: u64) -> Nearest
         Sheet::Accepted { d, k } => {
             if 1u64 << d <= word {
                 return Nearest::Refused(Refusal {
-                    number: 12,
+                    number: refusal::STRAY_BIT,
                     place: 0,
                 });
             }
@@ -41,7 +44,7 @@ pub fn nearest_word(sheet: &[u8], word: u64) -> Nearest
 fn nearest_of_rows(sheet: &[u8], k: usize, word: u16) -> u16
     ensures { λ r. ⌜ r ≡ searched (combination (rowOf (now (sheet .entry))) (min k 11)) (2 ^ min k 11) word ⌝ }
 {
-    let mut words = [0u16; 2048];
+    let mut words = [0u16; MAX_CODEWORDS];
     let count = list_codewords(sheet, k, &mut words);
     nearest_listed(&words[0..count], word)
 }

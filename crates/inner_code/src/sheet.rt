@@ -1,14 +1,15 @@
 // The inner sheet: bytes d, k, then k rows of two bytes, high byte first.
 use crate::membership::residue;
+use crate::refusal;
+use crate::refusal::Refusal;
 ghost use mathlib.Core.Path.{_≡_};
 ghost use Prim.Native.Nat.{_≤_};
-ghost use Rattle.inner_code.specs.Sheet.{SheetChecked, RowsChecked, refusedSheet};
+ghost use Rattle.inner_code.specs.Checking.{SheetChecked, RowsChecked, refusedSheet};
 
-// Why a call is turned back: its number in the table of refusals, and the row or entry at fault (0 where none is).
-pub struct Refusal {
-    pub number: u32,
-    pub place: u32,
-}
+// The largest degree d and the most rows k of a sheet.
+pub const MAX_DEGREE: usize = 16;
+
+pub const MAX_ROWS: usize = 11;
 
 // An accepted sheet's values, or its refusal.
 pub enum Sheet {
@@ -28,27 +29,27 @@ pub fn check_sheet(sheet: &[u8]) -> CheckedSheet
     ensures { λ r. ⌜ SheetChecked (now (sheet .entry)) r ⌝ }
 {
     if sheet.len() < 2 {
-        return refused(1);
+        return refused(refusal::SHEET_SHORT);
     }
     let d = sheet[0] as usize;
     let k = sheet[1] as usize;
     if d < 2 {
-        return refused(2);
+        return refused(refusal::DEGREE_OUT_OF_RANGE);
     }
-    if 16 < d {
-        return refused(2);
+    if MAX_DEGREE < d {
+        return refused(refusal::DEGREE_OUT_OF_RANGE);
     }
     if k < 1 {
-        return refused(3);
+        return refused(refusal::ROWS_OUT_OF_RANGE);
     }
-    if 11 < k {
-        return refused(3);
+    if MAX_ROWS < k {
+        return refused(refusal::ROWS_OUT_OF_RANGE);
     }
     if d < k {
-        return refused(3);
+        return refused(refusal::ROWS_OUT_OF_RANGE);
     }
     if sheet.len() != 2 + 2 * k {
-        return refused(4);
+        return refused(refusal::SHEET_LENGTH_WRONG);
     }
     check_rows(sheet, d, k)
 }
@@ -77,7 +78,7 @@ fn check_rows(sheet: &[u8], d: usize, k: usize) -> CheckedSheet
         if limit <= row as u32 {
             return CheckedSheet {
                 sheet: Sheet::Refused(Refusal {
-                    number: 5,
+                    number: refusal::ROW_TOO_LARGE,
                     place: i as u32,
                 }),
                 basis,
@@ -87,7 +88,7 @@ fn check_rows(sheet: &[u8], d: usize, k: usize) -> CheckedSheet
         if left == 0 {
             return CheckedSheet {
                 sheet: Sheet::Refused(Refusal {
-                    number: 6,
+                    number: refusal::ROW_DEPENDENT,
                     place: i as u32,
                 }),
                 basis,

@@ -6,7 +6,7 @@
 --   start N                all rows below N live, row p the unit vector at p (specs Elimination)
 --   hit N check s p        row p is live and fails the check (specs Elimination)
 --   pivot N check s        the lowest row that is hit, N where there is none (specs Elimination)
---   stepped N check s      the state after one check: the pivot is dropped and put on every row that is hit, itself too, so that it is 0 (specs Elimination)
+--   stepped N check s      the state after one check: the pivot is dropped and put on every row that is hit, itself too (specs Elimination)
 --   after N checks m       the state after checks 0 .. m - 1 (specs Elimination)
 --   chosen s c p           c p where row p is live, and else 0 (specs Elimination)
 --   combined N s c e       bit e of the combination of the live rows p with c p = 1 (specs Elimination)
@@ -22,18 +22,20 @@ use Prim.Native.Nat.{ℕ, zero, suc, _+_, _*_, _/_, _%_, _≤_, _<_}
 use mathlib.Core.Bool.{Bool, true, false, not, _&&_, and-eq-true-iff, and-true, true≢false}
 use mathlib.Core.Logic.{_⊎_, inl, inr, _≢_}
 use mathlib.Core.Path.{_≡_, refl, sym, ap, _∙_}
-use native.Mathlib.Nat.{add-zero, mul-zero, mul-one, zero-mul, one-mul, lt-suc-self, le-step, not-suc-le-zero, eq-or-lt-of-le, le-of-suc-le-suc, mod-eq-of-lt, mod-add-mod}
+use native.Mathlib.Nat.{add-zero, mul-zero, mul-one, zero-mul, one-mul, lt-suc-self, le-step, not-suc-le-zero}
+use native.Mathlib.Nat.{eq-or-lt-of-le, le-of-suc-le-suc, mod-eq-of-lt, mod-add-mod}
 use native.Mathlib.Decide.{decLe, ℕ-discrete}
 use native.Mathlib.Numerals.{add-one}
 use native.Mathlib.Omega.{arith}
 use lib.Arith.{lt-of-le-ne}
 use lib.Bits.{bitXor, bitAnd, xor-add-and, xor-self, xor-zero-r}
 use lib.Dec.{eqb}
-use borrow.Author.Tests.{ltb-true, lt-ltb, eqb-true, eqb-false, ne-eqb, not-false, not-true}
+use borrow.Author.Tests.{ltb-true, lt-ltb, eqb-true, eqb-false, not-false, not-true}
 use Rattle.bits.specs.Sum.{sum, flag}
-use Rattle.bits.proofs.Sums.{sum-zero, sum-suc, sum-ext, sum-none, sum-swap, sum-scale, sum-scale-right, sum-at, flag-true, flag-false, flag-le-one, flag-equal, flag-apart}
+use Rattle.bits.proofs.Sums.{sum-zero, sum-suc, sum-ext, sum-none, sum-swap, sum-scale, sum-scale-right}
+use Rattle.bits.proofs.Sums.{sum-at, flag-true, flag-false, flag-le-one, flag-equal, flag-apart}
 use Rattle.bits.proofs.Xor.{xor-bits-lt, xor-bits-parity}
-use Rattle.wiring.proofs.Searches.{first-passed, first-failed, first-at, first-all}
+use Rattle.bits.proofs.Searches.{first-passed, first-failed}
 use Rattle.messages.specs.Elimination.{parity, State, start, hit, pivot, stepped, after, chosen, combined}
 
 -- ---- parities
@@ -144,14 +146,6 @@ module _ (N : ℕ) (check : ℕ → ℕ) (s : State) where
         | no h ↦ absurd (true≢false (sym e ∙ not-true _ (first-passed N (λ q. not (hit N check s q)) p (omega arith))))
       ]
 
-  pub pivot-at : (p : ℕ) → p < N → hit N check s p ≡ true → ((q : ℕ) → q < p → hit N check s q ≡ false) → pivot N check s ≡ p
-  unfolding pivot
-  pivot-at p l e before = first-at N _ p l (λ q k. ap not (before q k)) (ap not e)
-
-  pub pivot-none : ((p : ℕ) → p < N → hit N check s p ≡ false) → pivot N check s ≡ N
-  unfolding pivot
-  pivot-none none = first-all N _ (λ p l. ap not (none p l))
-
   pub pivot-hit : pivot N check s < N → hit N check s (pivot N check s) ≡ true
   unfolding pivot
   pivot-hit l = not-false _ (first-failed N _ l)
@@ -180,10 +174,6 @@ module _ (N : ℕ) (check : ℕ → ℕ) (s : State) where
   -- a row that is not hit stays, and where none is hit no row is dropped
   pub stepped-missed : (p e : ℕ) → hit N check s p ≡ false → stepped N check s .row p e ≡ s .row p e
   stepped-missed p e q = stepped-keeps p e (λ h. absurd (true≢false (sym h ∙ q)))
-
-  pub stepped-live-none : (p : ℕ) → p < N → pivot N check s ≡ N → stepped N check s .live p ≡ s .live p
-  stepped-live-none p l none =
-      stepped-live-is p ∙ ap (λ (t : Bool). s .live p && not t) (ne-eqb p _ (λ q. omega arith)) ∙ and-true (s .live p)
 
 -- ---- the invariants
 
@@ -320,14 +310,17 @@ module _ (N : ℕ) (checks : ℕ → ℕ → ℕ) (m : ℕ) (s : State) (r : Red
       sym
       (parity-ext N (chosen next f) (chosen s f) _ _ (λ p k. dropped f p e k)
       ∙ parity-xor N (chosen s f) (λ p. s .row p e) (λ p. flag (hits p) * s .row low e)
-      ∙ rw (← old, parity-scale-none N (s .row low e) (chosen s f) (λ p. flag (hits p)) (even-hits f bits solves), add-zero) (mod-eq-of-lt (bits e l)))
+      ∙ rw (← old, parity-scale-none N (s .row low e) (chosen s f) (λ p. flag (hits p)) (even-hits f bits solves), add-zero)
+      (mod-eq-of-lt (bits e l)))
 
   stepped-reduced : Reduced N checks (suc m) next
   stepped-reduced =
       record {
         live-lt = λ p e. r .live-lt p (old-live p e);
         row-lt = next-lt;
-        row-own = λ p e. stepped-keeps N (checks m) s p p (λ h. r .row-other low p (low-live p h) (old-live p e) (not-low p e)) ∙ r .row-own p (old-live p e);
+        row-own = λ p e.
+            stepped-keeps N (checks m) s p p (λ h. r .row-other low p (low-live p h) (old-live p e) (not-low p e))
+            ∙ r .row-own p (old-live p e);
         row-other = λ p q d e apart.
             stepped-keeps N (checks m) s p q (λ h. r .row-other low q (low-live p h) (old-live q e) (not-low q e))
             ∙ r .row-other p q (old-live p d) (old-live q e) apart;
@@ -404,4 +397,6 @@ module _ {N : ℕ} {checks : ℕ → ℕ → ℕ} {m : ℕ} {s : State} (r : Red
 
       go : (t : Bool) → s .live j ≡ t → s .live j ≡ true
       go true e = e
-      go false e = absurd (omega (arith, last .one-at, r .spans f bits solves j l, parity-none N _ _ (λ p k. chosen-none s f p _ (λ d. clear e p k d))))
+      go false e =
+          let none = parity-none N _ _ (λ p k. chosen-none s f p _ (λ d. clear e p k d)) in
+          absurd (omega (arith, last .one-at, r .spans f bits solves j l, none))

@@ -5,7 +5,6 @@ pub mod Ranks
 pub mod Positions
 pub mod Encoding
 pub mod Reading
-pub mod Fronts
 pub mod Answers
 pub mod StoredRows
 pub mod Pivots

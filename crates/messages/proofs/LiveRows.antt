@@ -4,17 +4,18 @@
 --   Chosen N columns message chosen column 0 of `chosen` is the set of the rows left whose bit in the message is 1 (specs Columns)
 --   columnParity chosen columns e   bit e of the rows of a set put together (specs Columns)
 --   onesBoth chosen columns e w     the ones that the first w words of a set and of column e have in common
---   StoredPlan .. N columns         the columns hold the final rows of an accepted plan of N edges (specs Columns)
---   finalState sheet n wiring       the state after all checks of the plan (specs Elimination)
+--   StoredPlan plan N columns       the columns hold the final rows of an accepted plan of N edges (specs Columns)
+--   finalState plan                 the state after all checks of the plan (specs Elimination)
 -- Laws are named by their subject, then by the fact: `live-` is about the count, `chosen-` about the chosen rows, `ones-` about their
 -- common ones, `stored-` about the rows of a plan. At the end of a name, `-none` is the beginning of a loop, `-one-more` a turn, `-last`
 -- its end, `-le` a bound.
 use Prim.Native.Nat.{ℕ, zero, suc, _+_, _-_, _*_, _/_, _%_, _^_, _≤_, _<_}
 use mathlib.Core.Bool.{Bool, true, false}
-use mathlib.Core.List.{List, []}
+use mathlib.Core.List.{List}
 use mathlib.Core.Logic.{⊎-elim, _≢_}
 use mathlib.Core.Path.{_≡_, refl, sym, ap, ap₂, _∙_}
-use native.Mathlib.Nat.{zero-mul, not-suc-le-zero, eq-or-lt-of-le, le-of-suc-le-suc, lt-of-lt-of-le, lt-of-le-of-lt, mod-eq-of-lt, add-sub-of-le, add-zero}
+use native.Mathlib.Nat.{zero-mul, not-suc-le-zero, eq-or-lt-of-le, le-of-suc-le-suc, lt-of-lt-of-le}
+use native.Mathlib.Nat.{lt-of-le-of-lt, mod-eq-of-lt, add-sub-of-le, add-zero}
 use native.Mathlib.Decide.{ℕ-discrete}
 use native.Mathlib.Numerals.{add-one}
 use native.Mathlib.Omega.{arith}
@@ -26,17 +27,17 @@ use lib.Seq.{getD-set-same, getD-set-other}
 use Rattle.bits.specs.Bit.{digit, bitAt}
 use Rattle.bits.specs.Sum.{sum, flag}
 use Rattle.bits.proofs.Sums.{sum-zero, sum-one-more, sum-ext, sum-none, sum-append, sum-blocks, sum-mono, sum-const, flag-true, flag-false}
-use Rattle.bits.proofs.Xor.{digit-lt, digit-pow-same, digit-pow-other, xor-digit}
+use Rattle.bits.proofs.Xor.{digit-pow-same, digit-pow-other, xor-digit}
 use Rattle.bits.proofs.Bytes.{bitAt-lt}
 use Rattle.bits.proofs.Words.{ones-sum}
-use Rattle.inner_code.specs.Sheet.{degree}
+use Rattle.wiring.specs.Plan.{Plan, edgeCount}
 use Rattle.messages.specs.Position.{positionsBefore, messageBits}
 use Rattle.messages.specs.Message.{encodedNumber}
 use Rattle.messages.specs.Elimination.{parity, State, finalState, planChecks, chosen, combined, positionBit}
-use Rattle.messages.specs.Columns.{rowBit, noRows, Stores, StoredPlan, liveBefore, Chosen, columnParity}
+use Rattle.messages.specs.Columns.{rowBit, noRows, StoredPlan, liveBefore, Chosen, columnParity}
 use Rattle.messages.proofs.Elimination.{parity-ext}
 use Rattle.messages.proofs.Ranks.{rank}
-use Rattle.messages.proofs.Positions.{final-reduced, positions-live, message-bits-live}
+use Rattle.messages.proofs.Positions.{final-reduced, positions-live}
 use Rattle.messages.proofs.Encoding.{encoded-digit}
 use Rattle.messages.proofs.StoredRows.{rowBit-lt, rows-empty}
 use Rattle.messages.proofs.Pivots.{dropped-none, term-lt}
@@ -134,7 +135,8 @@ module _ (chosen columns : List ℕ) (e : ℕ) where
   unfolding onesBoth
   ones-both-none = sum-zero _
 
-  pub ones-both-one-more : (w : ℕ) → onesBoth chosen columns e (w + 1) ≡ onesBoth chosen columns e w + ones (bitAnd (getD chosen w 0) (getD columns (8 * e + w) 0))
+  pub ones-both-one-more : (w : ℕ)
+      → onesBoth chosen columns e (w + 1) ≡ onesBoth chosen columns e w + ones (bitAnd (getD chosen w 0) (getD columns (8 * e + w) 0))
   unfolding onesBoth
   ones-both-one-more w = sum-one-more w _
 
@@ -153,7 +155,8 @@ module _ (chosen columns : List ℕ) (e : ℕ) where
       let first : 8 * 0 + v ≡ v = omega arith in
       and-digit (getD chosen v 0) (getD columns (8 * e + v) 0) j ∙ sym (rw (at-word, at-digit, first)))
 
-  pub ones-both-parity : (w : ℕ) → ((v : ℕ) → v < w → getD chosen v 0 < 2 ^ 64) → w ≡ 8 → onesBoth chosen columns e w % 2 ≡ columnParity chosen columns e
+  pub ones-both-parity : (w : ℕ) → ((v : ℕ) → v < w → getD chosen v 0 < 2 ^ 64) → w ≡ 8
+      → onesBoth chosen columns e w % 2 ≡ columnParity chosen columns e
   unfolding onesBoth columnParity parity
   ones-both-parity w words last =
       ap (λ (x : ℕ). x % 2)
@@ -174,9 +177,9 @@ parity-past N M a f h none =
     (sum-none (M - N) _ (λ i l. ap (λ (x : ℕ). x * f (N + i)) (none (N + i) (omega arith) (omega arith)) ∙ zero-mul _))
     ∙ add-zero _)
 
-module _ {sheet : List ℕ} {n : ℕ} {wiring : List ℕ} {N : ℕ} {columns : List ℕ} (s : StoredPlan sheet n wiring N columns) where
+module _ {plan : Plan} {N : ℕ} {columns : List ℕ} (s : StoredPlan plan N columns) where
   abbrev final : State
-  final = finalState sheet n wiring
+  final = finalState plan
 
   -- a row is left exactly if it has a 1 at its own place
   pub stored-live : (p : ℕ) → p < N → rowBit columns p p ≡ flag (final .live p)
@@ -184,25 +187,27 @@ module _ {sheet : List ℕ} {n : ℕ} {wiring : List ℕ} {N : ℕ} {columns : L
   stored-live p l = s .stored .bits p p (lt-of-lt-of-le l (s .short)) l ∙ go (final .live p) refl
     where
       go : (t : Bool) → final .live p ≡ t → final .row p p ≡ flag (final .live p)
-      go true e = final-reduced sheet n wiring .row-own p e ∙ sym (ap flag e ∙ flag-true)
+      go true e = final-reduced plan .row-own p e ∙ sym (ap flag e ∙ flag-true)
       go false e =
-          dropped-none (n * degree sheet) (planChecks sheet n wiring) (2 * (n * degree sheet)) p p (rw (s .edges) at l) e ∙ sym (ap flag e ∙ flag-false)
+          dropped-none (edgeCount plan) (planChecks plan) (2 * edgeCount plan) p p (rw (s .edges) at l) e ∙ sym (ap flag e ∙ flag-false)
 
-  pub stored-count : (j : ℕ) → j ≤ N → liveBefore columns j ≡ positionsBefore sheet n wiring j
+  pub stored-count : (j : ℕ) → j ≤ N → liveBefore columns j ≡ positionsBefore plan j
   unfolding liveBefore rank
-  stored-count j h = sum-ext j _ _ (λ i l. stored-live i (lt-of-lt-of-le l h)) ∙ sym (positions-live sheet n wiring (s .plan) j)
+  stored-count j h = sum-ext j _ _ (λ i l. stored-live i (lt-of-lt-of-le l h)) ∙ sym (positions-live plan (s .accepted) j)
 
-  pub stored-bits : liveBefore columns N ≡ messageBits sheet n wiring
+  pub stored-bits : liveBefore columns N ≡ messageBits plan
   unfolding messageBits
-  stored-bits = stored-count N (omega arith) ∙ ap (positionsBefore sheet n wiring) (s .edges)
+  stored-bits = stored-count N (omega arith) ∙ ap (positionsBefore plan) (s .edges)
 
   -- the chosen rows put together have the digits of the codeword that carries the message
   pub stored-digit : (message chosen : List ℕ) → Chosen N columns message chosen → (e : ℕ) → e < N
-      → digit (encodedNumber sheet n wiring message) e ≡ columnParity chosen columns e
+      → digit (encodedNumber plan message) e ≡ columnParity chosen columns e
   unfolding columnParity combined
   stored-digit message chosen c e l =
-      encoded-digit sheet n wiring (s .plan) message e (rw (s .edges) at l)
-      ∙ ap (λ (M : ℕ). parity M (λ p. flag (final .live p) * positionBit sheet n wiring message p) (λ p. final .row p e)) (sym (s .edges))
+      encoded-digit plan (s .accepted) message e (rw (s .edges) at l)
+      ∙ ap (λ (M : ℕ). parity M (λ p. flag (final .live p) * positionBit plan message p) (λ p. final .row p e)) (sym (s .edges))
       ∙ sym
       (parity-past N 512 _ _ (s .short) (λ p h k. c .past p h k)
-      ∙ parity-ext N _ _ _ _ (λ p k. ap₂ _*_ (c .inside p k ∙ ap₂ (λ (x y : ℕ). x * bitAt message y) (stored-live p k) (stored-count p (omega arith))) (s .stored .bits p e (lt-of-lt-of-le k (s .short)) l)))
+      ∙ parity-ext N _ _ _ _ (λ p k.
+      ap₂ _*_ (c .inside p k ∙ ap₂ (λ (x y : ℕ). x * bitAt message y) (stored-live p k) (stored-count p (omega arith)))
+      (s .stored .bits p e (lt-of-lt-of-le k (s .short)) l)))

@@ -8,7 +8,7 @@
 -- from a number, `block-number` leads from a block back to its number. At the end of a name, `-lt` is a bound, `-byte` says that every
 -- byte is below 256, `-bit` and `-past` what a bit is, `-last` where the last 1 stands.
 use Prim.Native.Nat.{ℕ, zero, suc, _+_, _-_, _*_, _/_, _%_, _^_, _≤_, _<_}
-use mathlib.Core.List.{List, []}
+use mathlib.Core.List.{List}
 use mathlib.Core.Logic.{⊎-elim}
 use mathlib.Core.Path.{_≡_, refl, sym, ap, _∙_}
 use native.Mathlib.Nat.{le-of-lt, lt-of-lt-of-le, le-refl, not-suc-le-zero, eq-or-lt-of-le, le-of-suc-le-suc, pow-suc, ne-of-lt, div-eq-of-lt-le}
@@ -21,8 +21,7 @@ use Rattle.bits.specs.Bit.{digit, word, bitAt, withBit}
 use Rattle.bits.proofs.Xor.{digit-lt, digit-zero, digit-high, digit-ext}
 use Rattle.bits.proofs.Words.{word-lt, word-digit}
 use Rattle.bits.proofs.Bytes.{bitAt-lt, bitAt-same, bitAt-other, length-withBit, withBit-byte}
-use Rattle.inner_code.specs.Reply.{done}
-use Rattle.wiring.specs.Block.{blockBytes, blockCheck}
+use Rattle.wiring.specs.Block.{blockBytes, Block}
 use Rattle.wiring.proofs.Blocks.{block-back, block-ext}
 use Rattle.messages.specs.Position.{bitsPut, blockOf}
 use Rattle.messages.proofs.Elimination.{Bits, LastOne}
@@ -138,11 +137,11 @@ module _ (N x : ℕ) where
   unfolding blockOf
   blockOf-is = refl
 
-  pub length-blockOf : length (blockOf N x) ≡ blockBytes N
+  length-blockOf : length (blockOf N x) ≡ blockBytes N
   unfolding blockOf
   length-blockOf = length-bitsPut x N _ ∙ length-replicate (blockBytes N) 0
 
-  pub blockOf-byte : (k : ℕ) → getD (blockOf N x) k 0 < 256
+  blockOf-byte : (k : ℕ) → getD (blockOf N x) k 0 < 256
   unfolding blockOf
   blockOf-byte = bitsPut-byte x N _ (λ k. omega (arith, zeros-at (blockBytes N) k))
 
@@ -150,20 +149,16 @@ module _ (N x : ℕ) where
   unfolding blockOf
   blockOf-bit = bitsPut-bit x N _ (rw length-replicate (bytes-fit N))
 
-  pub blockOf-past : (i : ℕ) → N ≤ i → bitAt (blockOf N x) i ≡ 0
+  blockOf-past : (i : ℕ) → N ≤ i → bitAt (blockOf N x) i ≡ 0
   unfolding blockOf
   blockOf-past i l = bitsPut-past x N _ i l ∙ zeros-bit (blockBytes N) i
 
-  pub blockOf-check : blockCheck N (blockOf N x) ≡ done []
-  blockOf-check = block-back N (blockOf N x) length-blockOf blockOf-past
+  pub blockOf-block : Block N (blockOf N x)
+  blockOf-block = record { bytes = blockOf-byte; checked = block-back N (blockOf N x) length-blockOf blockOf-past }
 
 -- ---- a block's number
 
-pub block-number : (N : ℕ) (block : List ℕ) → blockCheck N block ≡ done [] → ((k : ℕ) → getD block k 0 < 256) → blockOf N (numberOf N (bitAt block)) ≡ block
-block-number N block e small =
-    block-ext N _ block (blockOf-check N _) e (blockOf-byte N _) small
+pub block-number : (N : ℕ) (block : List ℕ) → Block N block → blockOf N (numberOf N (bitAt block)) ≡ block
+block-number N block b =
+    block-ext N _ block (blockOf-block N _) b
     (λ i l. blockOf-bit N _ i l ∙ number-digit N (bitAt block) (λ k _. bitAt-lt block k) i l)
-
-pub blockOf-injective : (N x y : ℕ) → x < 2 ^ N → y < 2 ^ N → blockOf N x ≡ blockOf N y → x ≡ y
-blockOf-injective N x y hx hy e =
-    digit-ext N x y hx hy (λ i l. sym (blockOf-bit N x i l) ∙ ap (λ (b : List ℕ). bitAt b i) e ∙ blockOf-bit N y i l)

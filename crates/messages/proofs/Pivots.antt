@@ -1,45 +1,50 @@
 -- One check on the stored rows: the set of the rows that fail it, its lowest row, and that row put on all of them.
 --   rowBit columns p e              bit e of row p, for p below 512 (specs Columns)
 --   ColumnPut from a to b left      `left` is `to` with column a of `from` put on its column b (specs Columns)
+--   checkAt d n m                   check m of a graph as the code holds it (specs Columns)
+--   FailSet i check .. hits         column 0 of `hits` is the set of the rows that fail it on the first i edges of the vertex (specs Columns)
 --   HitSet .. m columns hits        column 0 of `hits` is the set of the rows that fail check m (specs Columns)
 --   lowestRow hits N                the lowest row of column 0, N where it has none below N (specs Columns)
 --   Spread N p hits columns left    `left` is `columns` with row p put on every row of `hits` (specs Columns)
 --   Stores N s columns              the columns hold the rows of the state s (specs Columns)
 --   after, stepped, hit, pivot      the states of the elimination, the rows that a check hits, the lowest of them (specs Elimination)
---   HitsSoFar .. i hits             the set of the rows that fail the check of a vertex on its first i edges
 --   SpreadSoFar p hits columns i left  the columns with row p put on the rows of `hits` in the columns below i
--- Laws are named by their subject, then by the fact: `lowest-` is about the lowest row, `hits-` and `vertex-` about the set, `spread-` about the row
--- that is put on it, `dropped-` about rows that are no longer live, `step-` about the state after a check. At the end of a name, `-none`
--- is the beginning of a loop or a check that no row fails, `-put` and `-kept` a turn that adds a column and one that does not, `-last`
--- the end of a loop.
+-- Laws are named by their subject, then by the fact: `lowest-` is about the lowest row, `hits-` about the set, `check-` about
+-- the check that the code holds, `spread-` about the row that is put on the set, `dropped-` about rows that are no longer live, `step-`
+-- about the state after a check. At the end of a name, `-none` is the beginning of a loop or a check that no row fails, `-put` and `-kept`
+-- a turn that adds a column and one that does not, `-last` the end of a loop.
 use Prim.Native.Nat.{ℕ, zero, suc, _+_, _-_, _*_, _/_, _%_, _^_, _≤_, _<_}
-use mathlib.Core.Bool.{Bool, true, false, not, _&&_, true≢false, false≢true}
+use mathlib.Core.Bool.{Bool, true, false, not, _&&_, true≢false}
 use mathlib.Core.List.{List}
 use mathlib.Core.Logic.{⊎-elim, _≢_}
 use mathlib.Core.Path.{_≡_, refl, sym, ap, ap₂, _∙_}
-use native.Mathlib.Nat.{le-refl, mul-zero, mul-one, zero-mul, one-mul, not-suc-le-zero, eq-or-lt-of-le, le-of-suc-le-suc, lt-of-lt-of-le, le-antisymm, mod-lt, mul-le-mul-right}
+use native.Mathlib.Nat.{le-refl, mul-zero, mul-one, zero-mul, one-mul, eq-or-lt-of-le, le-of-suc-le-suc}
+use native.Mathlib.Nat.{lt-of-lt-of-le, le-antisymm, mod-lt, div-lt-iff-lt-mul, add-mul-mod-self-right}
 use native.Mathlib.Decide.{decLe}
 use native.Mathlib.Numerals.{add-one}
 use native.Mathlib.Omega.{arith}
 use lib.Arith.{digits-lt}
 use lib.Bits.{bitXor, xor-self, xor-zero-r}
-use lib.Dec.{leb, eqb}
+use lib.Dec.{eqb}
 use lib.ListN.{getD}
 use lib.Pow.{pow-mono, shr-lt}
-use borrow.Author.Tests.{le-ltb, ltb-false, eqb-true, eq-eqb, ne-eqb, not-true}
+use borrow.Author.Tests.{lt-ltb, le-ltb, ltb-false, eqb-true, eq-eqb, not-true}
 use Rattle.bits.specs.Bit.{digit}
 use Rattle.bits.specs.Sum.{flag}
 use Rattle.bits.proofs.Sums.{flag-true, flag-false, flag-apart}
 use Rattle.bits.proofs.Xor.{digit-lt, digit-zero}
 use Rattle.bits.proofs.Windows.{digit-low, digit-shifted}
-use Rattle.wiring.specs.Wiring.{edgeOf}
-use Rattle.wiring.specs.Block.{sideBit}
-use Rattle.wiring.proofs.Permutation.{side-lt}
-use Rattle.wiring.proofs.Searches.{first-le, first-zero, first-one-more, first-at, first-all, first-all-each, first-ext}
-use Rattle.messages.specs.Elimination.{parity, State, start, hit, pivot, stepped, after, mask, graphCheck}
-use Rattle.messages.specs.Columns.{rowBit, noRows, ColumnPut, Masks, Uses, Short, Stores, HitSet, lowestRow, Spread}
-use Rattle.messages.proofs.Elimination.{parity-zero, parity-one-more, parity-ext, parity-none, hit-live, hit-product, pivot-hit, stepped-live-is, stepped-row, stepped-missed, Reduced, after-one-more, after-reduced}
-use Rattle.messages.proofs.Checks.{vertex-parity}
+use Rattle.wiring.specs.Plan.{left, right, sideBit}
+use Rattle.wiring.specs.Checking.{Wired}
+use Rattle.wiring.specs.declared.side.SideName.{SideName}
+use Rattle.wiring.proofs.Permutation.{side-lt, wired-fits}
+use Rattle.bits.proofs.Searches.{first-le, first-zero, first-at, first-all, first-all-each, first-ext}
+use Rattle.messages.specs.Elimination.{parity, State, start, hit, pivot, stepped, after, mask, sideCheck, graphCheck}
+use Rattle.messages.specs.Columns.{rowBit, noRows, ColumnPut, sidesBy, Masks, Uses, Stores, checkAt, Within, FailSet, HitSet, lowestRow, Spread}
+use Rattle.messages.specs.declared.solver.Check.{Check}
+use Rattle.messages.proofs.Elimination.{parity-zero, parity-one-more, parity-ext, parity-none, hit-live, hit-product, pivot-hit}
+use Rattle.messages.proofs.Elimination.{stepped-live-is, stepped-row, stepped-missed, after-one-more, after-reduced}
+use Rattle.messages.proofs.Checks.{vertex-parity, check-left, check-right}
 use Rattle.messages.proofs.StoredRows.{rowBit-lt, rows-empty}
 
 -- ---- the lowest row of a set
@@ -48,11 +53,6 @@ module _ (hits : List ℕ) where
   pub lowest-none : lowestRow hits 0 ≡ 0
   unfolding lowestRow
   lowest-none = first-zero (λ p. not (eqb (rowBit hits p 0) 1))
-
-  -- b is the bit that is read
-  pub lowest-one-more : (p b : ℕ) → lowestRow hits p ≡ p → b ≡ rowBit hits p 0 → b ≢ 1 → lowestRow hits (p + 1) ≡ p + 1
-  unfolding lowestRow
-  lowest-one-more p b e r apart = first-one-more p _ e (ap not (ne-eqb _ 1 (λ z. apart (r ∙ z))))
 
   pub lowest-found : (N p b : ℕ) → p < N → lowestRow hits p ≡ p → b ≡ rowBit hits p 0 → b ≡ 1 → lowestRow hits N ≡ p
   unfolding lowestRow
@@ -81,7 +81,8 @@ module _ (hits : List ℕ) where
           ]
 
   -- a byte of a word that has a row above it lies in the word
-  pub lowest-byte : (p rest : ℕ) → getD hits (p / 64) 0 < 2 ^ 64 → rest ≡ getD hits (p / 64) 0 / 2 ^ (p % 64) → rest ≢ 0 → rest % 256 ≡ 0 → p % 64 + 8 ≤ 64
+  pub lowest-byte : (p rest : ℕ) → getD hits (p / 64) 0 < 2 ^ 64 → rest ≡ getD hits (p / 64) 0 / 2 ^ (p % 64) → rest ≢ 0 → rest % 256 ≡ 0
+      → p % 64 + 8 ≤ 64
   lowest-byte p rest wide is some none =
       elim (decLe (p % 64 + 8) 64) [
         | yes fits ↦ fits
@@ -104,10 +105,7 @@ pub lowest-empty : lowestRow noRows 512 ≡ 512
 unfolding lowestRow
 lowest-empty = first-all 512 _ (λ q l. ap (λ (b : ℕ). not (eqb b 1)) (rows-empty q))
 
--- ---- the rows that fail the check of a vertex
-
-pub record HitsSoFar (residues : List ℕ) (j : ℕ) (columns : List ℕ) (bit : ℕ → ℕ) (base i : ℕ) (hits : List ℕ) : Type 0 where
-  pub bits : (p : ℕ) → p < 512 → rowBit hits p 0 ≡ parity i (λ x. digit (getD residues x 0) j) (λ x. rowBit columns p (bit (base + x)))
+-- ---- the rows that fail a check
 
 -- a bit that counts or does not
 pub term-lt : (a x : ℕ) → a < 2 → x < 2 → a * x < 2
@@ -115,90 +113,145 @@ term-lt zero x h l = omega arith
 term-lt (suc zero) x h l = omega arith
 term-lt (suc (suc a)) x h l = absurd (omega arith)
 
-module _ (residues : List ℕ) (j : ℕ) (columns : List ℕ) (bit : ℕ → ℕ) (base : ℕ) where
-  pub hits-none : HitsSoFar residues j columns bit base 0 noRows
+module _ (check : Check) (wiring residues columns : List ℕ) where
+  pub hits-none : FailSet 0 check wiring residues columns noRows
   hits-none = record { bits = λ p l. rows-empty p ∙ sym (parity-zero _ _) }
 
-  module _ (i : ℕ) (hits : List ℕ) (so-far : HitsSoFar residues j columns bit base i hits) where
-    one-more : (p : ℕ) → p < 512
-        → parity (i + 1) (λ x. digit (getD residues x 0) j) (λ x. rowBit columns p (bit (base + x)))
-        ≡ bitXor (rowBit hits p 0) (digit (getD residues i 0) j * rowBit columns p (bit (base + i)))
-    one-more p l =
-        parity-one-more i _ _ (term-lt _ _ (digit-lt _ j) (rowBit-lt columns p _))
-        ∙ ap (λ (x : ℕ). bitXor x (digit (getD residues i 0) j * rowBit columns p (bit (base + i)))) (sym (so-far .bits p l))
+  -- bit i of the vertex, and whether it counts
+  abbrev bit : ℕ → ℕ
+  bit i = sideBit (check .side) wiring (check .base + i)
 
-    pub hits-put : (e : ℕ) (left : List ℕ) → digit (getD residues i 0) j ≡ 1 → e ≡ bit (base + i) → ColumnPut columns e hits 0 left
-        → HitsSoFar residues j columns bit base (i + 1) left
+  abbrev counts : ℕ → ℕ
+  counts i = digit (getD residues i 0) (check .digit)
+
+  module _ (i : ℕ) (hits : List ℕ) (so-far : FailSet i check wiring residues columns hits) where
+    one-more : (p : ℕ) → p < 512
+        → parity (i + 1) counts (λ x. rowBit columns p (bit x)) ≡ bitXor (rowBit hits p 0) (counts i * rowBit columns p (bit i))
+    one-more p l =
+        parity-one-more i _ _ (term-lt _ _ (digit-lt _ (check .digit)) (rowBit-lt columns p _))
+        ∙ ap (λ (x : ℕ). bitXor x (counts i * rowBit columns p (bit i))) (sym (so-far .bits p l))
+
+    pub hits-put : (e : ℕ) (left : List ℕ) → counts i ≡ 1 → e ≡ bit i → ColumnPut columns e hits 0 left
+        → FailSet (i + 1) check wiring residues columns left
     hits-put e left one at-e put =
         record {
           bits = λ p l.
               put .put p l
-              ∙ ap (bitXor (rowBit hits p 0)) (ap (rowBit columns p) at-e ∙ sym (one-mul _) ∙ ap (λ (a : ℕ). a * rowBit columns p (bit (base + i))) (sym one))
+              ∙ ap (bitXor (rowBit hits p 0))
+              (ap (rowBit columns p) at-e ∙ sym (one-mul _) ∙ ap (λ (a : ℕ). a * rowBit columns p (bit i)) (sym one))
               ∙ sym (one-more p l);
         }
 
-    pub hits-kept : digit (getD residues i 0) j ≢ 1 → HitsSoFar residues j columns bit base (i + 1) hits
+    pub hits-kept : counts i ≢ 1 → FailSet (i + 1) check wiring residues columns hits
     hits-kept other =
-        let none : digit (getD residues i 0) j ≡ 0 = omega (arith, digit-lt (getD residues i 0) j) in
+        let none : counts i ≡ 0 = omega (arith, digit-lt (getD residues i 0) (check .digit)) in
         record {
           bits = λ p l.
-              sym (one-more p l ∙ ap (λ (a : ℕ). bitXor (rowBit hits p 0) (a * rowBit columns p (bit (base + i)))) none
+              sym (one-more p l ∙ ap (λ (a : ℕ). bitXor (rowBit hits p 0) (a * rowBit columns p (bit i))) none
               ∙ ap (bitXor (rowBit hits p 0)) (zero-mul _) ∙ xor-zero-r _);
         }
 
--- the edges of the vertex of check m
-module _ {d n : ℕ} {wiring : List ℕ} (s : Short d n wiring) (m : ℕ) where
-  pub vertex-digit : m % d < 16
-  vertex-digit = omega (arith, mod-lt m (s .some), s .narrow)
+-- ---- check m
 
-  pub vertex-base : m / d % n * d + d ≤ n * d
-  vertex-base = omega (arith, mul-le-mul-right d (mod-lt (m / d) (s .wired .n-low)))
+-- check i of a side, as the code holds it
+abbrev checkOf : ℕ → SideName → ℕ → Check
+checkOf d name i = record { side = name; base = i / d * d; digit = i % d }
 
-  pub vertex-bit : (right : Bool) (i : ℕ) → i < d → sideBit right (edgeOf wiring) (m / d % n * d + i) < n * d
-  vertex-bit right i l = side-lt (s .wired) right (m / d % n * d + i) (digits-lt (mod-lt (m / d) (s .wired .n-low)) l)
+module _ (d n m : ℕ) where
+  pub check-on-left : m < n * d → checkAt d n m ≡ checkOf d left m
+  unfolding checkAt
+  check-on-left l = rw (lt-ltb m (n * d) l)
 
--- all of them
-pub hits-last : {d n : ℕ} {wiring : List ℕ} (s : Short d n wiring) (residues : List ℕ) (m : ℕ) (columns hits : List ℕ) (i : ℕ)
-    → HitsSoFar residues (m % d) columns (sideBit (leb n (m / d)) (edgeOf wiring)) (m / d % n * d) i hits → i ≡ d
-    → HitSet d n wiring residues m columns hits
-unfolding graphCheck mask
-hits-last {d} {n} {wiring} s residues m columns hits i so-far last =
-    record {
-      rows = λ row k masks p l.
-          so-far .bits p l
-          ∙ ap (λ (x : ℕ). parity x (λ y. digit (getD residues y 0) (m % d)) (λ y. rowBit columns p (bit (v * d + y)))) last
-          ∙ parity-ext d _ (mask row k d (m % d)) _ _ (λ y b. ap (λ (a : ℕ). a * rowBit columns p (bit (v * d + y))) (masked row k masks y b))
-          ∙ sym (vertex-parity row k d (n * d) bit (rowBit columns p) v (m % d) (vertex-bit s m (leb n (m / d))));
-    }
-  where
-    bit : ℕ → ℕ
-    bit = sideBit (leb n (m / d)) (edgeOf wiring)
+  pub check-on-right : n * d ≤ m → checkAt d n m ≡ checkOf d right (m - n * d)
+  unfolding checkAt
+  check-on-right h = rw (le-ltb m (n * d) h)
 
-    v : ℕ
-    v = m / d % n
+  -- the digit is the same as if the sides' checks were counted through
+  pub check-digit : checkAt d n m .digit ≡ m % d
+  check-digit =
+      elim (decLe (suc m) (n * d)) [
+        | yes l ↦ ap (λ (c : Check). c .digit) (check-on-left l)
+        | no h ↦
+            let whole : m - n * d + n * d ≡ m = omega arith in
+            ap (λ (c : Check). c .digit) (check-on-right (omega arith))
+            ∙ sym (add-mul-mod-self-right (m - n * d) n d) ∙ ap (λ (x : ℕ). x % d) whole
+      ]
 
-    masked : (row : ℕ → ℕ) (k : ℕ) → Masks row k d residues → (y : ℕ) → y < d → digit (getD residues y 0) (m % d) ≡ mask row k d (m % d) y
-    masked row k masks y b = ap (λ (x : ℕ). digit x (m % d)) (masks .each y b)
+module _ {d n : ℕ} {wiring : List ℕ} (w : Wired d n wiring) where
+  pub check-digit-lt : (m : ℕ) → m % d < 16
+  check-digit-lt m = omega (arith, mod-lt m (w .d-low), w .d-high)
 
--- none, where no residue has the digit of the check
-pub hits-unused : {d n : ℕ} {wiring : List ℕ} (s : Short d n wiring) (residues : List ℕ) (m : ℕ) (columns : List ℕ) (used : ℕ) → Uses d residues used
-    → digit used (m % d) ≡ 0 → HitSet d n wiring residues m columns noRows
-hits-unused {d} {n} {wiring} s residues m columns used uses unused = hits-last s residues m columns noRows d (go d (le-refl d)) refl
-  where
-    go : (i : ℕ) → i ≤ d → HitsSoFar residues (m % d) columns (sideBit (leb n (m / d)) (edgeOf wiring)) (m / d % n * d) i noRows
-    go zero h = hits-none residues (m % d) columns _ _
-    go (suc i) h =
-        let next = hits-kept residues (m % d) columns _ _ i noRows (go i (omega arith)) (λ one. absurd (omega (arith, one, uses .none i (m % d) h unused))) in
-        rw add-one at next
+  vertex-low : (i : ℕ) → i < n * d → i / d < n
+  vertex-low i l = div-lt-iff-lt-mul (w .d-low) .1 l
+
+  bit-low : (name : SideName) (i x : ℕ) → i < n * d → x < d → sideBit name wiring (i / d * d + x) < n * d
+  bit-low name i x l b = side-lt w name _ (digits-lt (vertex-low i l) b)
+
+  -- check i of a side
+  side-within : n * d ≤ 512 → (name : SideName) (i : ℕ) → i < n * d → Within d wiring (checkOf d name i)
+  side-within short name i l =
+      record {
+        narrow = w .d-high;
+        digit-lt = check-digit-lt i;
+        sized = wired-fits w (i / d) (vertex-low i l);
+        bit-lt = λ x b. lt-of-lt-of-le (bit-low name i x l b) short;
+      }
+
+  side-hits : (residues columns hits : List ℕ) (name : SideName) (i : ℕ) → i < n * d → FailSet d (checkOf d name i) wiring residues columns hits
+      → (row : ℕ → ℕ) (k : ℕ) → Masks row k d residues → (p : ℕ) → p < 512
+      → rowBit hits p 0 ≡ parity (n * d) (sideCheck (sidesBy row k d n wiring name) i) (rowBit columns p)
+  unfolding mask
+  side-hits residues columns hits name i l all row k masks p b =
+      let side = sidesBy row k d n wiring name in
+      all .bits p b
+      ∙ parity-ext d _ (mask side (i % d)) _ _
+      (λ y h. ap (λ (x : ℕ). digit x (i % d) * rowBit columns p (sideBit name wiring (i / d * d + y))) (masks .each y h))
+      ∙ sym (vertex-parity side (n * d) (rowBit columns p) (i / d) (i % d) (λ y h. bit-low name i y l h))
+
+  module _ (m : ℕ) (low : m < 2 * (n * d)) where
+    pub check-within : n * d ≤ 512 → Within d wiring (checkAt d n m)
+    check-within short =
+        elim (decLe (suc m) (n * d)) [
+          | yes l ↦ rw (check-on-left d n m l) (side-within short left m l)
+          | no h ↦ rw (check-on-right d n m (omega arith)) (side-within short right (m - n * d) (omega arith))
+        ]
+
+    -- the rows that fail it are those that fail check m of the graph
+    pub hits-last : (residues columns hits : List ℕ) → FailSet d (checkAt d n m) wiring residues columns hits
+        → HitSet d n wiring residues m columns hits
+    hits-last residues columns hits all = record { rows = rows }
+      where
+        rows : (row : ℕ → ℕ) (k : ℕ) → Masks row k d residues → (p : ℕ) → p < 512
+            → rowBit hits p 0 ≡ parity (n * d) (graphCheck (sidesBy row k d n wiring) m) (rowBit columns p)
+        rows row k masks p b =
+            elim (decLe (suc m) (n * d)) [
+              | yes l ↦
+                  side-hits residues columns hits left m l (rw (check-on-left d n m l) at all) row k masks p b
+                  ∙ ap (λ (a : ℕ → ℕ). parity (n * d) a (rowBit columns p)) (sym (check-left (sidesBy row k d n wiring) m l))
+              | no h ↦
+                  side-hits residues columns hits right (m - n * d) (omega arith) (rw (check-on-right d n m (omega arith)) at all) row k masks p b
+                  ∙ ap (λ (a : ℕ → ℕ). parity (n * d) a (rowBit columns p)) (sym (check-right (sidesBy row k d n wiring) m (omega arith)))
+            ]
+
+    -- none, where no residue has the digit of the check
+    pub hits-unused : (residues columns : List ℕ) (used : ℕ) → Uses d residues used → digit used (m % d) ≡ 0
+        → HitSet d n wiring residues m columns noRows
+    hits-unused residues columns used uses unused = hits-last residues columns noRows (go d (le-refl d))
+      where
+        check : Check
+        check = checkAt d n m
+
+        go : (i : ℕ) → i ≤ d → FailSet i check wiring residues columns noRows
+        go zero h = hits-none check wiring residues columns
+        go (suc i) h =
+            let none : digit (getD residues i 0) (check .digit) ≡ 0 = rw (check-digit d n m) (uses .none i (m % d) h unused) in
+            rw add-one at (hits-kept check wiring residues columns i noRows (go i (omega arith)) (λ one. absurd (omega arith)))
 
 -- ---- a row put on the rows of a set
 
 pub record SpreadSoFar (p : ℕ) (hits columns : List ℕ) (i : ℕ) (left : List ℕ) : Type 0 where
   pub passed : (q e : ℕ) → q < 512 → e < i → rowBit left q e ≡ bitXor (rowBit columns q e) (rowBit hits q 0 * rowBit columns p e)
   pub rest : (q e : ℕ) → q < 512 → i ≤ e → rowBit left q e ≡ rowBit columns q e
-
-pub spread-none : (p : ℕ) (hits columns : List ℕ) → SpreadSoFar p hits columns 0 columns
-spread-none p hits columns = record { passed = λ q e l k. absurd (not-suc-le-zero k); rest = λ q e l k. refl }
 
 module _ (p : ℕ) (inside : p < 512) (hits columns : List ℕ) (i : ℕ) (left : List ℕ) (so-far : SpreadSoFar p hits columns i left)
     (b : ℕ) (read : b ≡ rowBit left p i) where
@@ -219,7 +272,9 @@ module _ (p : ℕ) (inside : p < 512) (hits columns : List ℕ) (i : ℕ) (left 
 
   pub spread-put : (next : List ℕ) → b ≡ 1 → ColumnPut hits 0 left i next → SpreadSoFar p hits columns (i + 1) next
   spread-put next one put =
-      turn next (λ q l. put .put q l ∙ ap (bitXor (rowBit left q i)) (sym (mul-one _) ∙ ap (λ (x : ℕ). rowBit hits q 0 * x) (sym one))) (λ q e l apart. put .others q e l apart)
+      turn next
+      (λ q l. put .put q l ∙ ap (bitXor (rowBit left q i)) (sym (mul-one _) ∙ ap (λ (x : ℕ). rowBit hits q 0 * x) (sym one)))
+      (λ q e l apart. put .others q e l apart)
 
   pub spread-kept : b ≢ 1 → SpreadSoFar p hits columns (i + 1) left
   spread-kept other =
@@ -319,4 +374,5 @@ module _ (N : ℕ) (few : N ≤ 512) (checks : ℕ → ℕ → ℕ) (m : ℕ) (c
       missed q l true h =
           let inside : q < N = after-reduced N checks m .live-lt q (hit-live N (checks m) now q h) in
           let all : lowestRow hits N ≡ N = le-antisymm (first-le N _) none in
-          absurd (true≢false (sym h ∙ sym (flag-test _) ∙ ap (λ (x : ℕ). eqb x 1) (sym (hits-flag q l)) ∙ not-true _ (first-all-each N _ all q inside)))
+          let clear = not-true _ (first-all-each N _ all q inside) in
+          absurd (true≢false (sym h ∙ sym (flag-test _) ∙ ap (λ (x : ℕ). eqb x 1) (sym (hits-flag q l)) ∙ clear))

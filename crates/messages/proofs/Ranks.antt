@@ -1,11 +1,11 @@
 -- Ranks: the numbers that pass a test, counted from below.
 --   rank t j   how many numbers below j pass the test t
--- The rank of a number that passes is its place among those that pass: different numbers have different ranks (rank-once), and the ranks
+-- The rank of a number that passes is its place among those that pass: later numbers have larger ranks (rank-lt), and the ranks
 -- fill the numbers below their count (rank-onto).
 use Prim.Native.Nat.{ℕ, zero, suc, _+_, _-_, _≤_, _<_}
 use mathlib.Core.Bool.{Bool, true, false}
-use mathlib.Core.Path.{_≡_, refl, sym, _∙_}
-use native.Mathlib.Nat.{lt-suc-self, le-step, le-antisymm, add-sub-of-le}
+use mathlib.Core.Path.{_≡_, refl, _∙_}
+use native.Mathlib.Nat.{lt-suc-self, le-step, add-sub-of-le}
 use native.Mathlib.Decide.{decLe}
 use native.Mathlib.Omega.{arith}
 use Rattle.bits.specs.Sum.{sum, flag}
@@ -35,12 +35,6 @@ module _ (t : ℕ → Bool) where
 
   pub rank-lt : (p q : ℕ) → t p ≡ true → p < q → rank t p < rank t q
   rank-lt p q e l = omega (arith, rank-passed p e, rank-mono (suc p) q l)
-
-  pub rank-once : (p q : ℕ) → t p ≡ true → t q ≡ true → rank t p ≡ rank t q → p ≡ q
-  rank-once p q ep eq same = le-antisymm (before p q eq (sym same)) (before q p ep same)
-    where
-      before : (p q : ℕ) → t q ≡ true → rank t q ≡ rank t p → p ≤ q
-      before p q e same = elim (decLe p q) [ yes l ↦ l | no h ↦ absurd (omega (arith, rank-lt q p e (omega arith))) ]
 
   pub rank-onto : (n i : ℕ) → i < rank t n → (p : ℕ) × (p < n) × (t p ≡ true) × (rank t p ≡ i)
   rank-onto zero i l = absurd (omega (arith, rank-zero))

@@ -1,36 +1,38 @@
 -- The rows of a plan once all its checks are done, as the code keeps them, and the message positions among them.
 --   UnitResidues basis k d residues  entry i is what the basis leaves of the word whose one digit is at edge i (specs Columns)
 --   Masks row k d residues           the same by the rows of a sheet (specs Columns)
---   Short d n wiring                 an accepted wiring of at most 512 edges (specs Columns)
+--   Uses d residues used             a digit that `used` does not have is in none of the first d residues (specs Columns)
 --   Eliminated .. m columns          the columns hold the rows after m checks (specs Columns)
 --   Solved basis k .. columns        the columns hold the rows after all checks (specs Columns)
---   StoredPlan .. N columns          the columns hold the final rows of an accepted plan of N edges (specs Columns)
---   PlanAccepted ..                  what a caller learns from a plan's check that accepts (wiring Plans)
--- Laws are named by their subject, then by the fact: `residues-` is about the masks, `uses-` about the digits in use, `eliminated-` about the checks in turn, `plan-` about
--- an accepted plan, `stored-` about the columns of its final rows.
-use Prim.Native.Nat.{ℕ, zero, suc, _+_, _-_, _*_, _/_, _%_, _^_, _≤_, _<_, min}
-use mathlib.Core.Bool.{Bool, true, false}
-use mathlib.Core.List.{List, []}
+--   StoredPlan plan N columns        the columns hold the final rows of an accepted plan of N edges (specs Columns)
+--   Wired d n wiring                 an accepted wiring (wiring specs Checking)
+--   PlanAccepted plan r d k          what a caller learns from a plan's check that accepts (wiring Plans)
+-- Laws are named by their subject, then by the fact: `residues-` is about the masks, `uses-` about the digits in use, `eliminated-` about
+-- the checks in turn, `plan-` about an accepted plan.
+use Prim.Native.Nat.{ℕ, _+_, _-_, _*_, _/_, _%_, _^_, _≤_, _<_, min}
+use mathlib.Core.List.{List}
 use mathlib.Core.Logic.{_≢_}
-use mathlib.Core.Path.{_≡_, refl, sym, ap, ap₂, _∙_}
+use mathlib.Core.Path.{_≡_, sym, ap, ap₂, _∙_}
 use native.Mathlib.Nat.{min-eq-left, ne-of-lt, le-refl}
 use native.Mathlib.Decide.{ℕ-discrete}
 use native.Mathlib.Omega.{arith}
 use lib.Bits.{bitOr, or-add-and, and-le-l, and-le-r, or-shr, or-mod}
-use lib.Dec.{eqb}
 use lib.ListN.{length, getD, set, replicate}
 use lib.Seq.{getD-set-same, getD-set-other}
 use borrow.Author.Count.{below-more}
-use Rattle.bits.specs.Bit.{at, digit}
+use Rattle.bits.specs.Window.{at}
+use Rattle.bits.specs.Bit.{digit}
 use Rattle.bits.proofs.Xor.{digit-lt}
-use Rattle.inner_code.specs.Reduction.{reduced, reducedBy, withEchelon}
-use Rattle.inner_code.specs.Sheet.{degree, rowCount, rowOf}
+use Rattle.inner_code.specs.Reduction.{reducedBy, withEchelon}
+use Rattle.inner_code.specs.Sheet.{rowOf}
 use Rattle.inner_code.specs.declared.sheet.CheckedSheet.{CheckedSheet}
 use Rattle.inner_code.proofs.EchelonForm.{reducedBy-stored}
-use Rattle.wiring.specs.Wiring.{edgeOf}
+use Rattle.wiring.specs.Plan.{Plan, edgeCount}
+use Rattle.wiring.specs.Checking.{Wired}
 use Rattle.wiring.proofs.Plans.{PlanAccepted}
 use Rattle.messages.specs.Elimination.{after, start, graphCheck, planChecks, finalState}
-use Rattle.messages.specs.Columns.{noRows, UnitResidues, Masks, Uses, Short, Stores, HitSet, lowestRow, Spread, Eliminated, Solved, StoredPlan}
+use Rattle.messages.specs.Columns.{noRows, UnitResidues, Masks, Uses, sidesBy, Stores, HitSet}
+use Rattle.messages.specs.Columns.{lowestRow, Spread, Eliminated, Solved, StoredPlan}
 use Rattle.messages.proofs.Elimination.{after-zero}
 use Rattle.messages.proofs.Pivots.{lowest-empty, lowest-past, hits-unused, step-spread, step-none}
 
@@ -86,17 +88,18 @@ uses-one-more i residues used so-far = record { none = go }
 
 -- ---- the checks in turn
 
-module _ {d n : ℕ} {wiring : List ℕ} (s : Short d n wiring) (residues : List ℕ) where
+module _ {d n : ℕ} {wiring : List ℕ} (w : Wired d n wiring) (short : n * d ≤ 512) (residues : List ℕ) where
   pub eliminated-start : (columns : List ℕ) → Stores (n * d) (start (n * d)) columns → Eliminated d n wiring residues 0 columns
   eliminated-start columns stored = record { rows = λ row k masks. rw after-zero stored }
 
-  module _ (m : ℕ) (columns hits : List ℕ) (earlier : Eliminated d n wiring residues m columns) (fails : HitSet d n wiring residues m columns hits) where
+  module _ (m : ℕ) (columns hits : List ℕ) (earlier : Eliminated d n wiring residues m columns)
+      (fails : HitSet d n wiring residues m columns hits) where
     pub eliminated-spread : (p : ℕ) (left : List ℕ) → p ≡ lowestRow hits (n * d) → p < n * d → Spread (n * d) p hits columns left
         → Eliminated d n wiring residues (m + 1) left
     eliminated-spread p left low inside spread =
         record {
           rows = λ row k masks.
-              step-spread (n * d) (s .short) (graphCheck row k d n (edgeOf wiring)) m columns hits (earlier .rows row k masks) (fails .rows row k masks)
+              step-spread (n * d) short (graphCheck (sidesBy row k d n wiring)) m columns hits (earlier .rows row k masks) (fails .rows row k masks)
               p left low inside spread;
         }
 
@@ -104,17 +107,17 @@ module _ {d n : ℕ} {wiring : List ℕ} (s : Short d n wiring) (residues : List
     eliminated-none p low none =
         record {
           rows = λ row k masks.
-              step-none (n * d) (s .short) (graphCheck row k d n (edgeOf wiring)) m columns hits (earlier .rows row k masks) (fails .rows row k masks)
+              step-none (n * d) short (graphCheck (sidesBy row k d n wiring)) m columns hits (earlier .rows row k masks) (fails .rows row k masks)
               (rw low at none);
         }
 
   -- no row fails a check whose digit is in no residue
-  pub eliminated-unused : (m : ℕ) (columns : List ℕ) (used : ℕ) → Uses d residues used → (used / 2 ^ (m % d)) % 2 ≢ 1
+  pub eliminated-unused : (m : ℕ) → m < 2 * (n * d) → (columns : List ℕ) (used : ℕ) → Uses d residues used → (used / 2 ^ (m % d)) % 2 ≢ 1
       → Eliminated d n wiring residues m columns → Eliminated d n wiring residues (m + 1) columns
   unfolding digit
-  eliminated-unused m columns used uses apart earlier =
-      eliminated-none m columns noRows earlier (hits-unused s residues m columns used uses (omega (arith, digit-lt used (m % d)))) (n * d)
-      (sym (lowest-past noRows (n * d) 512 (s .short) lowest-empty)) (le-refl (n * d))
+  eliminated-unused m low columns used uses apart earlier =
+      eliminated-none m columns noRows earlier (hits-unused w m low residues columns used uses (omega (arith, digit-lt used (m % d)))) (n * d)
+      (sym (lowest-past noRows (n * d) 512 short lowest-empty)) (le-refl (n * d))
 
   pub eliminated-all : (basis : List ℕ) (k : ℕ) (columns : List ℕ) → UnitResidues basis k d residues
       → Eliminated d n wiring residues (2 * (n * d)) columns → Solved basis k d n wiring columns
@@ -123,28 +126,27 @@ module _ {d n : ℕ} {wiring : List ℕ} (s : Short d n wiring) (residues : List
 
 -- ---- an accepted plan
 
-pub plan-short : (sheet : List ℕ) (n : ℕ) (wiring : List ℕ) (r : CheckedSheet) (d k : ℕ) → PlanAccepted sheet n wiring r d k → n * d ≤ 512 → Short d n wiring
-plan-short sheet n wiring r d k a short =
-    record {
-      wired = rw (a .d-is) (a .plan-wired);
-      some = omega (arith, a .d-is, a .sheet-sound .degree-low);
-      narrow = omega (arith, a .d-is, a .sheet-sound .degree-high);
-      short = short;
-    }
+module _ (plan : Plan) (r : CheckedSheet) (d k : ℕ) (a : PlanAccepted plan r d k) where
+  pub plan-wired-by : Wired d (plan .n) (plan .wiring)
+  plan-wired-by = rw (a .d-is) (a .plan-wired)
 
-pub plan-stored : (sheet : List ℕ) (n : ℕ) (wiring : List ℕ) (r : CheckedSheet) (d k : ℕ) (columns : List ℕ)
-    → PlanAccepted sheet n wiring r d k → n * d ≤ 512 → Solved (r .basis) k d n wiring columns → StoredPlan sheet n wiring (n * d) columns
-unfolding finalState planChecks
-plan-stored sheet n wiring r d k columns a short solved =
-    record {
-      plan = a .plan-done;
-      edges = ap (λ (x : ℕ). n * x) (a .d-is);
-      short = short;
-      stored = rw (a .d-is) (rw (a .d-is, a .k-is) at final);
-    }
-  where
-    echelon : r .basis ≡ withEchelon (rowOf sheet) k (replicate 11 0)
-    echelon = a .basis-is ∙ ap (λ (m : ℕ). withEchelon (rowOf sheet) m (replicate 11 0)) (sym (a .k-is))
+  pub plan-edges : plan .n * d ≡ edgeCount plan
+  plan-edges = ap (λ (x : ℕ). plan .n * x) (a .d-is)
 
-    final : Stores (n * d) (after (n * d) (graphCheck (rowOf sheet) k d n (edgeOf wiring)) (2 * (n * d))) columns
-    final = solved .rows (rowOf sheet) echelon (rw (a .k-is) (a .sheet-sound .count-high))
+  pub plan-stored : (columns : List ℕ) → plan .n * d ≤ 512 → Solved (r .basis) k d (plan .n) (plan .wiring) columns
+      → StoredPlan plan (plan .n * d) columns
+  unfolding finalState planChecks
+  plan-stored columns short solved =
+      record {
+        accepted = a .plan-done;
+        edges = plan-edges;
+        short = short;
+        stored = rw (a .d-is) (rw (a .d-is, a .k-is) at final);
+      }
+    where
+      echelon : r .basis ≡ withEchelon (rowOf (plan .sheet)) k (replicate 11 0)
+      echelon = a .basis-is ∙ ap (λ (m : ℕ). withEchelon (rowOf (plan .sheet)) m (replicate 11 0)) (sym (a .k-is))
+
+      final : Stores (plan .n * d)
+          (after (plan .n * d) (graphCheck (sidesBy (rowOf (plan .sheet)) k d (plan .n) (plan .wiring))) (2 * (plan .n * d))) columns
+      final = solved .rows (rowOf (plan .sheet)) echelon (rw (a .k-is) (a .sheet-sound .count-high))

@@ -1,19 +1,19 @@
--- Bits that are wrote to the front of an output: those of the encoded block, and those of the message that is read.
+-- Bits that are written to the front of an output: those of the encoded block, and those of the message that is read.
 --   written front l                 the list l with `front` at its beginning (bits specs Bit)
 --   bitsPut x m l                   the byte string l with its bits 0 .. m - 1 made the digits of x (specs Position)
 --   BitsPut N chosen columns l left `left` is l with the bits of the chosen rows put together at its places 0 .. N - 1 (specs Columns)
 --   bitsTaken columns block j l     the byte string l with the block's bits at the rows left below j put at its front (specs Columns)
 --   liveBefore columns j            how many rows below j have a 1 at their own place (specs Columns)
---   StoredPlan .. N columns         the columns hold the final rows of an accepted plan of N edges (specs Columns)
+--   StoredPlan plan N columns       the columns hold the final rows of an accepted plan of N edges (specs Columns)
 -- Laws are named by their subject, then by the fact: `put-` is about the encoded bits, `taken-` about the bits that are read. At the end
 -- of a name, `-none` is the beginning of a loop, `-one-more` and `-kept` a turn that writes and one that does not, `-written` says that
--- only the front is wrote, `-encoded` and `-read` what stands there at the end.
+-- only the front is written, `-encoded` and `-read` what stands there at the end.
 use Prim.Native.Nat.{ℕ, zero, suc, _+_, _*_, _%_, _≤_, _<_}
-use mathlib.Core.Bool.{Bool, true, false, cond}
-use mathlib.Core.List.{List, []}
+use mathlib.Core.Bool.{Bool, cond}
+use mathlib.Core.List.{List}
 use mathlib.Core.Logic.{_≢_}
 use mathlib.Core.Path.{_≡_, refl, sym, ap, ap₂, _∙_}
-use native.Mathlib.Nat.{le-of-lt, le-trans, le-step, lt-suc-self, lt-of-lt-of-le, mod-eq-of-lt, add-zero}
+use native.Mathlib.Nat.{le-of-lt, mod-eq-of-lt, add-zero}
 use native.Mathlib.Decide.{ℕ-discrete}
 use native.Mathlib.Numerals.{add-one}
 use native.Mathlib.Omega.{arith}
@@ -21,11 +21,11 @@ use lib.Dec.{eqb}
 use lib.ListN.{length, replicate, length-replicate}
 use borrow.Author.Tests.{eq-eqb, ne-eqb}
 use Rattle.bits.specs.Bit.{digit, bitAt, withBit, written}
-use Rattle.bits.specs.Sum.{flag}
 use Rattle.bits.proofs.Bytes.{bitAt-lt, length-withBit}
-use Rattle.inner_code.specs.Sheet.{degree}
+use Rattle.bits.proofs.Fronts.{written-withBit}
+use Rattle.wiring.specs.Plan.{Plan}
 use Rattle.wiring.specs.Block.{blockBytes}
-use Rattle.messages.specs.Position.{bitsPut, blockOf, isPosition, positionsBefore, messageBits}
+use Rattle.messages.specs.Position.{bitsPut, blockOf, isPosition, messageBits}
 use Rattle.messages.specs.Message.{encodedNumber, encodedBlock, readBefore, readMessage}
 use Rattle.messages.specs.Elimination.{finalState}
 use Rattle.messages.specs.Columns.{rowBit, StoredPlan, liveBefore, Chosen, columnParity, BitsPut, bitsTaken}
@@ -34,7 +34,6 @@ use Rattle.messages.proofs.Numbers.{bitsPut-none, bitsPut-one-more, len
 use Rattle.messages.proofs.Positions.{position-live}
 use Rattle.messages.proofs.Encoding.{encoded-block-is}
 use Rattle.messages.proofs.Reading.{read-none, read-position, read-other}
-use Rattle.messages.proofs.Fronts.{written-withBit}
 use Rattle.messages.proofs.StoredRows.{rowBit-lt}
 use Rattle.messages.proofs.Pivots.{flag-test}
 use Rattle.messages.proofs.LiveRows.{live-one-more, stored-live, stored-count, stored-bits, stored-digit}
@@ -49,7 +48,7 @@ module _ (chosen columns l : List ℕ) where
   pub put-none : BitsPut 0 chosen columns l l
   put-none = record { is = λ x same. sym (bitsPut-none x l) }
 
-  -- b is the bit that is wrote
+  -- b is the bit that is written
   pub put-one-more : (e b : ℕ) (output next : List ℕ) → BitsPut e chosen columns l output → b ≡ columnParity chosen columns e
       → next ≡ withBit output e (b % 2) → BitsPut (e + 1) chosen columns l next
   put-one-more e b output next so-far is-b wrote =
@@ -70,17 +69,17 @@ put-written x (suc m) front l fits =
     ∙ written-withBit (bitsPut x m front) l m (digit x m) (rw length-bitsPut fits)
 
 -- the whole encoded block
-pub put-encoded : {sheet : List ℕ} {n : ℕ} {wiring : List ℕ} {N : ℕ} {columns : List ℕ} (s : StoredPlan sheet n wiring N columns)
+pub put-encoded : {plan : Plan} {N : ℕ} {columns : List ℕ} (s : StoredPlan plan N columns)
     (message chosen output left : List ℕ) → Chosen N columns message chosen
-    → BitsPut N chosen columns (written (replicate (blockBytes N) 0) output) left → left ≡ written (encodedBlock sheet n wiring message) output
-put-encoded {sheet} {n} {wiring} {N} {columns} s message chosen output left c put =
+    → BitsPut N chosen columns (written (replicate (blockBytes N) 0) output) left → left ≡ written (encodedBlock plan message) output
+put-encoded {plan} {N} {columns} s message chosen output left c put =
     put .is x (stored-digit s message chosen c)
     ∙ put-written x N (replicate (blockBytes N) 0) output (rw length-replicate (bytes-fit N))
     ∙ ap (λ (front : List ℕ). written front output)
-    (sym (blockOf-is N x) ∙ ap (λ (M : ℕ). blockOf M x) (s .edges) ∙ sym (encoded-block-is sheet n wiring message))
+    (sym (blockOf-is N x) ∙ ap (λ (M : ℕ). blockOf M x) (s .edges) ∙ sym (encoded-block-is plan message))
   where
     x : ℕ
-    x = encodedNumber sheet n wiring message
+    x = encodedNumber plan message
 
 -- ---- the bits that are read
 
@@ -93,12 +92,14 @@ module _ (columns block : List ℕ) where
       → bitsTaken columns block (suc j) l ≡ withBit (bitsTaken columns block j l) (liveBefore columns j) (bitAt block j)
   unfolding bitsTaken
   put-position j l one =
-      ap (λ (t : Bool). cond t (withBit (bitsTaken columns block j l) (liveBefore columns j) (bitAt block j)) (bitsTaken columns block j l)) (eq-eqb _ 1 one)
+      ap (λ (t : Bool). cond t (withBit (bitsTaken columns block j l) (liveBefore columns j) (bitAt block j)) (bitsTaken columns block j l))
+      (eq-eqb _ 1 one)
 
   pass-other : (j : ℕ) (l : List ℕ) → rowBit columns j j ≢ 1 → bitsTaken columns block (suc j) l ≡ bitsTaken columns block j l
   unfolding bitsTaken
   pass-other j l other =
-      ap (λ (t : Bool). cond t (withBit (bitsTaken columns block j l) (liveBefore columns j) (bitAt block j)) (bitsTaken columns block j l)) (ne-eqb _ 1 other)
+      ap (λ (t : Bool). cond t (withBit (bitsTaken columns block j l) (liveBefore columns j) (bitAt block j)) (bitsTaken columns block j l))
+      (ne-eqb _ 1 other)
 
   -- one turn: `read` is the row's bit at its own place, b the block's bit
   module _ (p rank read : ℕ) (l output : List ℕ) (counted : rank ≡ liveBefore columns p) (so-far : output ≡ bitsTaken columns block p l)
@@ -148,34 +149,34 @@ module _ (columns block : List ℕ) where
           ∙ ap (λ (r : List ℕ). written r l) (sym (put-position j front one))
       go e (no other) = pass-other j (written front l) other ∙ e ∙ ap (λ (r : List ℕ). written r l) (sym (pass-other j front other))
 
-module _ {sheet : List ℕ} {n : ℕ} {wiring : List ℕ} {N : ℕ} {columns : List ℕ} (s : StoredPlan sheet n wiring N columns) (block : List ℕ) where
-  position-test : (j : ℕ) → j < N → isPosition sheet n wiring j ≡ eqb (rowBit columns j j) 1
+module _ {plan : Plan} {N : ℕ} {columns : List ℕ} (s : StoredPlan plan N columns) (block : List ℕ) where
+  position-test : (j : ℕ) → j < N → isPosition plan j ≡ eqb (rowBit columns j j) 1
   position-test j l =
-      position-live sheet n wiring (s .plan) j ∙ sym (ap (λ (x : ℕ). eqb x 1) (stored-live s j l) ∙ flag-test (finalState sheet n wiring .live j))
+      position-live plan (s .accepted) j ∙ sym (ap (λ (x : ℕ). eqb x 1) (stored-live s j l) ∙ flag-test (finalState plan .live j))
 
   -- on zeros the bits taken are the message read so far
-  taken-before : (j : ℕ) → j ≤ N → bitsTaken columns block j (replicate (blockBytes (messageBits sheet n wiring)) 0) ≡ readBefore sheet n wiring block j
-  taken-before zero h = taken-none columns block _ ∙ sym (read-none sheet n wiring block)
+  taken-before : (j : ℕ) → j ≤ N → bitsTaken columns block j (replicate (blockBytes (messageBits plan)) 0) ≡ readBefore plan block j
+  taken-before zero h = taken-none columns block _ ∙ sym (read-none plan block)
   taken-before (suc j) h = go (taken-before j (le-of-lt h)) (ℕ-discrete (rowBit columns j j) 1)
     where
       zeros : List ℕ
-      zeros = replicate (blockBytes (messageBits sheet n wiring)) 0
+      zeros = replicate (blockBytes (messageBits plan)) 0
 
-      go : bitsTaken columns block j zeros ≡ readBefore sheet n wiring block j → Dec (rowBit columns j j ≡ 1)
-          → bitsTaken columns block (suc j) zeros ≡ readBefore sheet n wiring block (suc j)
+      go : bitsTaken columns block j zeros ≡ readBefore plan block j → Dec (rowBit columns j j ≡ 1)
+          → bitsTaken columns block (suc j) zeros ≡ readBefore plan block (suc j)
       go e (yes one) =
           put-position columns block j zeros one
           ∙ ap₂ (λ (r : List ℕ) (i : ℕ). withBit r i (bitAt block j)) e (stored-count s j (le-of-lt h))
-          ∙ sym (read-position sheet n wiring block j (position-test j h ∙ eq-eqb _ 1 one))
+          ∙ sym (read-position plan block j (position-test j h ∙ eq-eqb _ 1 one))
       go e (no other) =
-          pass-other columns block j zeros other ∙ e ∙ sym (read-other sheet n wiring block j (position-test j h ∙ ne-eqb _ 1 other))
+          pass-other columns block j zeros other ∙ e ∙ sym (read-other plan block j (position-test j h ∙ ne-eqb _ 1 other))
 
   -- the whole message
   pub taken-read : (output left : List ℕ)
-      → left ≡ bitsTaken columns block N (written (replicate (blockBytes (messageBits sheet n wiring)) 0) output)
-      → left ≡ written (readMessage sheet n wiring block) output
+      → left ≡ bitsTaken columns block N (written (replicate (blockBytes (messageBits plan)) 0) output)
+      → left ≡ written (readMessage plan block) output
   unfolding readMessage
   taken-read output left taken =
       taken
-      ∙ taken-written columns block N _ output (rw (stored-bits s, length-replicate) (bytes-fit (messageBits sheet n wiring)))
-      ∙ ap (λ (front : List ℕ). written front output) (taken-before N (omega arith) ∙ ap (readBefore sheet n wiring block) (s .edges))
+      ∙ taken-written columns block N _ output (rw (stored-bits s, length-replicate) (bytes-fit (messageBits plan)))
+      ∙ ap (λ (front : List ℕ). written front output) (taken-before N (omega arith) ∙ ap (readBefore plan block) (s .edges))

@@ -4,16 +4,19 @@
 --   noColumns, noRows               512 columns of no row, and one
 --   ColumnPut from a to b left      `left` is `to` with column a of `from` put on its column b
 --   UnitResidues basis k d residues entry i is what the first k rows of the basis leave of the word whose one digit is at edge i
---   Masks row k d residues          the same by the rows of a sheet: digit j of entry i is `mask row k d j i`
+--   Masks row k d residues          the same by the rows of a sheet: digit j of entry i is the `mask` of a side with these rows
+--   sidesBy row k d n wiring        the sides that the code has by these values
 --   Uses d residues used            a digit that `used` does not have is in none of the first d residues
---   Short d n wiring                an accepted wiring of at most 512 edges
 --   Stores N s columns              the columns hold the rows of the state s
---   HitSet .. m columns hits        column 0 of `hits` is the set of the rows that fail check m
+--   checkAt d n m                   check m of a graph as the code holds it: the side, the first entry of the vertex, and the digit
+--   Within d wiring check           the check's digit and all its bits are within their ranges
+--   FailSet i check wiring residues columns hits  column 0 of `hits` is the set of the rows that fail it on the first i edges of the vertex
+--   HitSet d n wiring residues m columns hits     column 0 of `hits` is the set of the rows that fail check m
 --   lowestRow hits N                the lowest row of column 0, N where it has none below N
 --   Spread N p hits columns left    `left` is `columns` with row p put on every row of `hits`
---   Eliminated .. m columns         the columns hold the rows after m checks of the plan whose masks are `residues`
---   Solved basis k .. columns       the columns hold the rows after all checks of the plan whose echelon form is `basis`
---   StoredPlan sheet n wiring N columns  the columns hold the final rows of an accepted plan of N edges, at most 512
+--   Eliminated d n wiring residues m columns      the columns hold the rows after m checks of the plan whose masks are `residues`
+--   Solved basis k d n wiring columns             the columns hold the rows after all checks of the plan whose echelon form is `basis`
+--   StoredPlan plan N columns       the columns hold the final rows of an accepted plan of N edges, at most 512
 --   liveBefore columns j            how many rows below j have a 1 at their own place: those that are left
 --   Chosen N columns message chosen column 0 of `chosen` is the set of the rows left whose bit in the message is 1
 --   columnParity chosen columns e   the bit e of the rows of a set put together
@@ -24,18 +27,20 @@ use mathlib.Core.Bool.{cond, not}
 use mathlib.Core.List.{List, []}
 use mathlib.Core.Path.{_≡_}
 use lib.Bits.{bitXor}
-use lib.Dec.{eqb}
-use lib.ListN.{getD, replicate}
-use Rattle.bits.specs.Bit.{at, digit, bitAt, withBit}
+use lib.Dec.{ltb, eqb}
+use lib.ListN.{length, getD, replicate}
+use Rattle.bits.specs.Window.{at}
+use Rattle.bits.specs.Bit.{digit, bitAt, withBit}
 use Rattle.bits.specs.Sum.{sum}
+use Rattle.bits.specs.Search.{firstFailing}
 use Rattle.inner_code.specs.Reply.{done}
 use Rattle.inner_code.specs.Reduction.{reduced, reducedBy, withEchelon}
-use Rattle.inner_code.specs.Sheet.{degree}
-use Rattle.wiring.specs.Search.{firstFailing}
-use Rattle.wiring.specs.Wiring.{edgeOf, planCheck}
-use Rattle.wiring.proofs.Permutation.{Wired}
+use Rattle.wiring.specs.Plan.{Plan, Side, edgeCount, left, right, sideBit}
+use Rattle.wiring.specs.Wiring.{planCheck}
+use Rattle.wiring.specs.declared.side.SideName.{SideName}
 use Rattle.messages.specs.Position.{bitsPut}
 use Rattle.messages.specs.Elimination.{parity, State, after, graphCheck, finalState}
+use Rattle.messages.specs.declared.solver.Check.{Check}
 
 unfoldable pub rowBit : List ℕ → ℕ → ℕ → ℕ
 unfolding digit
@@ -54,24 +59,37 @@ pub record ColumnPut (from : List ℕ) (a : ℕ) (to : List ℕ) (b : ℕ) (left
 pub record UnitResidues (basis : List ℕ) (k d : ℕ) (residues : List ℕ) : Type 0 where
   pub each : (i : ℕ) → i < d → getD residues i 0 ≡ reducedBy (at basis) (min k 11) (2 ^ (d - 1 - i))
 
+abbrev pub sidesBy : (ℕ → ℕ) → ℕ → ℕ → ℕ → List ℕ → SideName → Side
+sidesBy rows count degree vertices wiring name =
+    record { n = vertices; d = degree; k = count; row = rows; bit = sideBit name wiring }
+
 pub record Masks (row : ℕ → ℕ) (k d : ℕ) (residues : List ℕ) : Type 0 where
   pub each : (i : ℕ) → i < d → getD residues i 0 ≡ reduced row k (2 ^ (d - 1 - i))
 
 pub record Uses (d : ℕ) (residues : List ℕ) (used : ℕ) : Type 0 where
   pub none : (i j : ℕ) → i < d → digit used j ≡ 0 → digit (getD residues i 0) j ≡ 0
 
-pub record Short (d n : ℕ) (wiring : List ℕ) : Type 0 where
-  pub wired : Wired d n wiring
-  pub some : 1 ≤ d
-  pub narrow : d ≤ 16
-  pub short : n * d ≤ 512
-
 pub record Stores (N : ℕ) (s : State) (columns : List ℕ) : Type 0 where
   pub bits : (p e : ℕ) → p < 512 → e < N → rowBit columns p e ≡ s .row p e
 
+unfoldable pub checkAt : ℕ → ℕ → ℕ → Check
+checkAt d n m =
+    cond (ltb m (n * d)) (record { side = left; base = m / d * d; digit = m % d })
+    (record { side = right; base = (m - n * d) / d * d; digit = (m - n * d) % d })
+
+pub record Within (d : ℕ) (wiring : List ℕ) (check : Check) : Type 0 where
+  pub narrow : d ≤ 16
+  pub digit-lt : check .digit < 16
+  pub sized : 2 * (check .base + d) ≤ length wiring
+  pub bit-lt : (i : ℕ) → i < d → sideBit (check .side) wiring (check .base + i) < 512
+
+pub record FailSet (i : ℕ) (check : Check) (wiring residues columns hits : List ℕ) : Type 0 where
+  pub bits : (p : ℕ) → p < 512 → rowBit hits p 0
+      ≡ parity i (λ x. digit (getD residues x 0) (check .digit)) (λ x. rowBit columns p (sideBit (check .side) wiring (check .base + x)))
+
 pub record HitSet (d n : ℕ) (wiring residues : List ℕ) (m : ℕ) (columns hits : List ℕ) : Type 0 where
   pub rows : (row : ℕ → ℕ) (k : ℕ) → Masks row k d residues
-      → (p : ℕ) → p < 512 → rowBit hits p 0 ≡ parity (n * d) (graphCheck row k d n (edgeOf wiring) m) (rowBit columns p)
+      → (p : ℕ) → p < 512 → rowBit hits p 0 ≡ parity (n * d) (graphCheck (sidesBy row k d n wiring) m) (rowBit columns p)
 
 unfoldable pub lowestRow : List ℕ → ℕ → ℕ
 unfolding firstFailing rowBit
@@ -81,17 +99,17 @@ pub record Spread (N p : ℕ) (hits columns left : List ℕ) : Type 0 where
   pub bits : (q e : ℕ) → q < 512 → e < N → rowBit left q e ≡ bitXor (rowBit columns q e) (rowBit hits q 0 * rowBit columns p e)
 
 pub record Eliminated (d n : ℕ) (wiring residues : List ℕ) (m : ℕ) (columns : List ℕ) : Type 0 where
-  pub rows : (row : ℕ → ℕ) (k : ℕ) → Masks row k d residues → Stores (n * d) (after (n * d) (graphCheck row k d n (edgeOf wiring)) m) columns
+  pub rows : (row : ℕ → ℕ) (k : ℕ) → Masks row k d residues → Stores (n * d) (after (n * d) (graphCheck (sidesBy row k d n wiring)) m) columns
 
 pub record Solved (basis : List ℕ) (k d n : ℕ) (wiring columns : List ℕ) : Type 0 where
   pub rows : (row : ℕ → ℕ) → basis ≡ withEchelon row k (replicate 11 0) → k ≤ 11
-      → Stores (n * d) (after (n * d) (graphCheck row k d n (edgeOf wiring)) (2 * (n * d))) columns
+      → Stores (n * d) (after (n * d) (graphCheck (sidesBy row k d n wiring)) (2 * (n * d))) columns
 
-pub record StoredPlan (sheet : List ℕ) (n : ℕ) (wiring : List ℕ) (N : ℕ) (columns : List ℕ) : Type 0 where
-  pub plan : planCheck sheet n wiring ≡ done []
-  pub edges : N ≡ n * degree sheet
+pub record StoredPlan (plan : Plan) (N : ℕ) (columns : List ℕ) : Type 0 where
+  pub accepted : planCheck plan ≡ done []
+  pub edges : N ≡ edgeCount plan
   pub short : N ≤ 512
-  pub stored : Stores N (finalState sheet n wiring) columns
+  pub stored : Stores N (finalState plan) columns
 
 unfoldable pub liveBefore : List ℕ → ℕ → ℕ
 unfolding sum rowBit

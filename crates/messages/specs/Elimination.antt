@@ -10,24 +10,24 @@
 --   after N checks m             the state after checks 0 .. m - 1
 --   chosen s c p                 c p where row p is live, and else 0
 --   combined N s c e             bit e of the combination of the live rows p with c p = 1
---   mask row k d j i             1 where digit j of a reduced word depends on the word's digit at edge i
---   vertexCheck row k d bit v j  the coefficients of digit j at vertex v of the side with the bits `bit`
---   graphCheck row k d n edge m  check m: digit m % d at vertex m / d, the n left vertices first and then the n right ones
---   planChecks sheet n wiring    the checks of an accepted plan
---   finalState sheet n wiring    the state after all checks of the plan
---   positionBit .. message p     the message's bit for message position p
+--   mask side j i                1 where digit j of a reduced word depends on the word's digit at edge i
+--   vertexCheck side v j         the coefficients of digit j at vertex v of a side
+--   sideCheck side i             check i of a side: digit i % d at vertex i / d
+--   graphCheck sides m           check m of a graph: the checks of the left side first and then those of the right
+--   planChecks plan              the checks of a plan
+--   finalState plan              the state after all checks of a plan
+--   positionBit plan message p   the message's bit for message position p
 use Prim.Native.Nat.{ℕ, zero, suc, _+_, _-_, _*_, _/_, _%_, _^_}
-use mathlib.Core.Bool.{Bool, not, _&&_}
+use mathlib.Core.Bool.{Bool, cond, not, _&&_}
 use mathlib.Core.List.{List}
 use lib.Bits.{bitXor}
-use lib.Dec.{leb, ltb, eqb}
+use lib.Dec.{ltb, eqb}
 use Rattle.bits.specs.Bit.{digit, bitAt}
 use Rattle.bits.specs.Sum.{sum, flag}
+use Rattle.bits.specs.Search.{firstFailing}
 use Rattle.inner_code.specs.Reduction.{reduced}
-use Rattle.inner_code.specs.Sheet.{degree, rowCount, rowOf}
-use Rattle.wiring.specs.Search.{firstFailing}
-use Rattle.wiring.specs.Wiring.{edgeOf}
-use Rattle.wiring.specs.Block.{sideBit}
+use Rattle.wiring.specs.Plan.{Plan, Side, edgeCount, left, right, sideOf}
+use Rattle.wiring.specs.declared.side.SideName.{SideName}
 use Rattle.messages.specs.Position.{positionsBefore}
 
 unfoldable pub parity : ℕ → (ℕ → ℕ) → (ℕ → ℕ) → ℕ
@@ -63,20 +63,24 @@ chosen s c p = flag (s .live p) * c p
 unfoldable pub combined : ℕ → State → (ℕ → ℕ) → ℕ → ℕ
 combined N s c e = parity N (chosen s c) (λ p. s .row p e)
 
-unfoldable pub mask : (ℕ → ℕ) → ℕ → ℕ → ℕ → ℕ → ℕ
-mask row k d j i = digit (reduced row k (2 ^ (d - 1 - i))) j
+unfoldable pub mask : Side → ℕ → ℕ → ℕ
+mask side j i = digit (reduced (side .row) (side .k) (2 ^ (side .d - 1 - i))) j
 
-unfoldable pub vertexCheck : (ℕ → ℕ) → ℕ → ℕ → (ℕ → ℕ) → ℕ → ℕ → ℕ → ℕ
-vertexCheck row k d bit v j e = sum d (λ i. flag (eqb (bit (v * d + i)) e) * mask row k d j i)
+unfoldable pub vertexCheck : Side → ℕ → ℕ → ℕ → ℕ
+vertexCheck side v j e = sum (side .d) (λ i. flag (eqb (side .bit (v * side .d + i)) e) * mask side j i)
 
-unfoldable pub graphCheck : (ℕ → ℕ) → ℕ → ℕ → ℕ → (ℕ → ℕ) → ℕ → ℕ → ℕ
-graphCheck row k d n edge m = vertexCheck row k d (sideBit (leb n (m / d)) edge) (m / d % n) (m % d)
+abbrev pub sideCheck : Side → ℕ → ℕ → ℕ
+sideCheck side i = vertexCheck side (i / side .d) (i % side .d)
 
-unfoldable pub planChecks : List ℕ → ℕ → List ℕ → ℕ → ℕ → ℕ
-planChecks sheet n wiring = graphCheck (rowOf sheet) (rowCount sheet) (degree sheet) n (edgeOf wiring)
+unfoldable pub graphCheck : (SideName → Side) → ℕ → ℕ → ℕ
+graphCheck sides m =
+    cond (ltb m (sides left .n * sides left .d)) (sideCheck (sides left) m) (sideCheck (sides right) (m - sides left .n * sides left .d))
 
-unfoldable pub finalState : List ℕ → ℕ → List ℕ → State
-finalState sheet n wiring = after (n * degree sheet) (planChecks sheet n wiring) (2 * (n * degree sheet))
+unfoldable pub planChecks : Plan → ℕ → ℕ → ℕ
+planChecks plan = graphCheck (sideOf plan)
 
-abbrev pub positionBit : List ℕ → ℕ → List ℕ → List ℕ → ℕ → ℕ
-positionBit sheet n wiring message p = bitAt message (positionsBefore sheet n wiring p)
+unfoldable pub finalState : Plan → State
+finalState plan = after (edgeCount plan) (planChecks plan) (2 * edgeCount plan)
+
+abbrev pub positionBit : Plan → List ℕ → ℕ → ℕ
+positionBit plan message p = bitAt message (positionsBefore plan p)

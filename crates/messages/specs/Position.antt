@@ -1,20 +1,20 @@
 -- Message positions. A block of N bits is searched for as a number below 2^N whose digit i is the block's bit i, so a block's last 1 is
 -- its number's highest digit.
---   blockOf N x                the block of N bits whose bit i is digit i of x
---   codewordNumber sheet n wiring x   the block of that number is a codeword
---   isPosition sheet n wiring j  some codeword has its last 1 at j: bit j is a message position
---   positionsBefore .. j       the number of message positions below j
---   messageBits sheet n wiring the paper's K, the number of message positions
-use Prim.Native.Nat.{ℕ, zero, suc, _*_, _^_}
+--   bitsPut x m block      the block with digits 0 .. m - 1 of x put at its bits
+--   blockOf N x            the block of N bits whose bit i is digit i of x
+--   codewordNumber plan x  the block of that number is a codeword
+--   isPosition plan j      some codeword has its last 1 at j: bit j is a message position
+--   positionsBefore plan j the number of message positions below j
+--   messageBits plan       the paper's K, the number of message positions
+use Prim.Native.Nat.{ℕ, zero, suc, _^_}
 use mathlib.Core.List.{List}
 use mathlib.Core.Bool.{Bool, _&&_}
 use lib.ListN.{replicate}
 use lib.Dec.{leb, ltb}
 use Rattle.bits.specs.Bit.{digit, withBit}
 use Rattle.bits.specs.Sum.{sum, flag}
-use Rattle.inner_code.specs.Code.{someBelow}
-use Rattle.inner_code.specs.Sheet.{degree, rowCount, rowOf}
-use Rattle.wiring.specs.Wiring.{edgeOf}
+use Rattle.bits.specs.Search.{someBelow}
+use Rattle.wiring.specs.Plan.{Plan, edgeCount, sideOf}
 use Rattle.wiring.specs.Block.{blockBytes, isCodewordBlock}
 
 unfoldable pub bitsPut : ℕ → ℕ → List ℕ → List ℕ
@@ -26,20 +26,18 @@ unfoldable pub blockOf : ℕ → ℕ → List ℕ
 unfolding bitsPut blockBytes
 blockOf N x = bitsPut x N (replicate (blockBytes N) 0)
 
-unfoldable pub codewordNumber : List ℕ → ℕ → List ℕ → ℕ → Bool
-unfolding isCodewordBlock blockOf degree rowCount rowOf edgeOf
-codewordNumber sheet n wiring x =
-    isCodewordBlock (rowOf sheet) (rowCount sheet) (degree sheet) n (edgeOf wiring) (blockOf (n * degree sheet) x)
+unfoldable pub codewordNumber : Plan → ℕ → Bool
+unfolding isCodewordBlock blockOf
+codewordNumber plan x = isCodewordBlock (sideOf plan) (blockOf (edgeCount plan) x)
 
-unfoldable pub isPosition : List ℕ → ℕ → List ℕ → ℕ → Bool
-unfolding someBelow codewordNumber degree
-isPosition sheet n wiring j =
-    someBelow (2 ^ (n * degree sheet)) (λ x. codewordNumber sheet n wiring x && (leb (2 ^ j) x && ltb x (2 ^ suc j)))
+unfoldable pub isPosition : Plan → ℕ → Bool
+unfolding someBelow codewordNumber
+isPosition plan j = someBelow (2 ^ edgeCount plan) (λ x. codewordNumber plan x && (leb (2 ^ j) x && ltb x (2 ^ suc j)))
 
-unfoldable pub positionsBefore : List ℕ → ℕ → List ℕ → ℕ → ℕ
+unfoldable pub positionsBefore : Plan → ℕ → ℕ
 unfolding sum flag isPosition
-positionsBefore sheet n wiring j = sum j (λ i. flag (isPosition sheet n wiring i))
+positionsBefore plan j = sum j (λ i. flag (isPosition plan i))
 
-unfoldable pub messageBits : List ℕ → ℕ → List ℕ → ℕ
-unfolding positionsBefore degree
-messageBits sheet n wiring = positionsBefore sheet n wiring (n * degree sheet)
+unfoldable pub messageBits : Plan → ℕ
+unfolding positionsBefore
+messageBits plan = positionsBefore plan (edgeCount plan)

@@ -1,20 +1,23 @@
 // The encoder: the codeword that carries a message.
+use crate::columns::COLUMN_WORDS;
+use crate::columns::MAX_EDGES;
 use crate::columns::count_live;
 use crate::columns::row_bit;
 use crate::output::clear;
 use crate::solver::solve;
 use inner_code::Refusal;
 use inner_code::Sheet;
+use inner_code::refusal;
 use wiring::Checked;
-use wiring::check_block;
+use wiring::check_bits;
 use wiring::check_plan;
 ghost use mathlib.Core.Path.{_≡_};
 ghost use Prim.Native.Nat.{_+_, _*_, _<_, _≤_};
 ghost use lib.ListN.{length};
-ghost use Rattle.wiring.specs.Answer.{checkReply};
-ghost use Rattle.messages.specs.Message.{messageCheck, encodeAnswer, encodeOutput};
+ghost use Rattle.wiring.specs.Plan.{planOf};
+ghost use Rattle.messages.specs.Answer.{encodeReply, encodeAnswer, encodeOutput};
 ghost use Rattle.messages.specs.Columns.{noRows, Chosen, columnParity, BitsPut};
-ghost use Rattle.messages.specs.Service.{encodeReply, EncodedRows};
+ghost use Rattle.messages.specs.Service.{EncodedRows};
 
 // The message is encoded, or turned back.
 pub enum Encoded {
@@ -25,22 +28,22 @@ pub enum Encoded {
 // Writes the one codeword that has the message's bits at the message positions, in rising order, to the front of `output`. The
 // message's first bit has weight 128. Refusals 1 to 10, 19, 20, 21 and 13; a refusal writes nothing.
 pub fn encode(sheet: &[u8], n: usize, wiring: &[u8], message: &[u8], output: &mut [u8]) -> Encoded
-    ensures { λ r. ⌜ encodeReply r ≡ encodeAnswer (now (sheet .entry)) n (now (wiring .entry)) (now (message .entry)) (now (output .entry)) ⌝ }
-    ensures { λ _. ⌜ now (output .exit) ≡ encodeOutput (now (sheet .entry)) n (now (wiring .entry)) (now (message .entry)) (now (output .entry)) ⌝ }
+    ensures { λ r. ⌜ encodeReply r ≡ encodeAnswer (planOf (now (sheet .entry)) n (now (wiring .entry))) (now (message .entry)) (now (output .entry)) ⌝ }
+    ensures { λ _. ⌜ now (output .exit) ≡ encodeOutput (planOf (now (sheet .entry)) n (now (wiring .entry))) (now (message .entry)) (now (output .entry)) ⌝ }
 {
     let checked = check_plan(sheet, n, wiring);
     let values = checked.sheet;
     match values {
         Sheet::Refused(r) => Encoded::Refused(r),
         Sheet::Accepted { d, k } => {
-            if 512 < n * d {
+            if MAX_EDGES < n * d {
                 return Encoded::Refused(Refusal {
-                    number: 19,
+                    number: refusal::PLAN_TOO_LARGE,
                     place: 0,
                 });
             }
             let basis = checked.basis;
-            let mut columns = [0u64; 4096];
+            let mut columns = [0u64; COLUMN_WORDS];
             solve(&basis, k, d, n, wiring, &mut columns[..]);
             encode_rows(n * d, &columns[..], message, output)
         }
@@ -53,13 +56,19 @@ fn encode_rows(edges: usize, columns: &[u64], message: &[u8], output: &mut [u8])
     requires { ⌜ length (now columns) ≡ 4096 ⌝ }
     ensures { λ r. ⌜ EncodedRows edges (now (columns .entry)) (now (message .entry)) (now (output .entry)) r (now (output .exit)) ⌝ }
 {
-    match check_message(count_live(edges, columns), message) {
+    let positions = count_live(edges, columns);
+    match check_bits(
+        positions,
+        message,
+        refusal::MESSAGE_LENGTH_WRONG,
+        refusal::MESSAGE_STRAY_BIT,
+    ) {
         Checked::Refused(r) => Encoded::Refused(r),
         Checked::Passed => {
             let bytes = (edges + 7) / 8;
             if output.len() < bytes {
                 return Encoded::Refused(Refusal {
-                    number: 13,
+                    number: refusal::OUTPUT_SHORT,
                     place: 0,
                 });
             }
@@ -68,28 +77,6 @@ fn encode_rows(edges: usize, columns: &[u64], message: &[u8], output: &mut [u8])
             clear(bytes, output);
             put_bits(edges, columns, &chosen[..], output);
             Encoded::Done
-        }
-    }
-}
-
-// Checks a message of `bits` bits as a block of as many, whose refusals 11 and 12 are a message's 20 and 21.
-fn check_message(bits: usize, message: &[u8]) -> Checked
-    ensures { λ r. ⌜ checkReply r ≡ messageCheck bits (now (message .entry)) ⌝ }
-{
-    match check_block(bits, message) {
-        Checked::Passed => Checked::Passed,
-        Checked::Refused(r) => {
-            let number = r.number;
-            if number == 11 {
-                return Checked::Refused(Refusal {
-                    number: 20,
-                    place: 0,
-                });
-            }
-            Checked::Refused(Refusal {
-                number: 21,
-                place: 0,
-            })
         }
     }
 }

@@ -1,19 +1,25 @@
 // The reader: the message that a codeword carries.
+use crate::columns::COLUMN_WORDS;
+use crate::columns::MAX_EDGES;
 use crate::columns::count_live;
 use crate::columns::row_bit;
 use crate::output::clear;
 use crate::solver::solve;
 use inner_code::Refusal;
 use inner_code::Sheet;
+use inner_code::refusal;
+use wiring::Checked;
 use wiring::Located;
+use wiring::check_block;
 use wiring::check_plan;
-use wiring::locate;
+use wiring::first_unsatisfied;
 ghost use mathlib.Core.Path.{_≡_};
 ghost use Prim.Native.Nat.{_≤_};
 ghost use lib.ListN.{length};
-ghost use Rattle.messages.specs.Message.{readAnswer, readOutput};
+ghost use Rattle.wiring.specs.Plan.{planOf};
+ghost use Rattle.messages.specs.Answer.{takenReply, readAnswer, readOutput};
 ghost use Rattle.messages.specs.Columns.{bitsTaken};
-ghost use Rattle.messages.specs.Service.{takenReply, TakenRows};
+ghost use Rattle.messages.specs.Service.{TakenRows};
 
 // The message is read, or the block is turned back.
 pub enum Taken {
@@ -24,35 +30,35 @@ pub enum Taken {
 // Writes the message that a codeword block carries, its bits at the message positions in rising order, to the front of `output`.
 // Refusals 1 to 10, 19, 11, 12, 22 and 13; a refusal writes nothing.
 pub fn read_block(sheet: &[u8], n: usize, wiring: &[u8], block: &[u8], output: &mut [u8]) -> Taken
-    ensures { λ r. ⌜ takenReply r ≡ readAnswer (now (sheet .entry)) n (now (wiring .entry)) (now (block .entry)) (now (output .entry)) ⌝ }
-    ensures { λ _. ⌜ now (output .exit) ≡ readOutput (now (sheet .entry)) n (now (wiring .entry)) (now (block .entry)) (now (output .entry)) ⌝ }
+    ensures { λ r. ⌜ takenReply r ≡ readAnswer (planOf (now (sheet .entry)) n (now (wiring .entry))) (now (block .entry)) (now (output .entry)) ⌝ }
+    ensures { λ _. ⌜ now (output .exit) ≡ readOutput (planOf (now (sheet .entry)) n (now (wiring .entry))) (now (block .entry)) (now (output .entry)) ⌝ }
 {
     let checked = check_plan(sheet, n, wiring);
     let values = checked.sheet;
     match values {
         Sheet::Refused(r) => Taken::Refused(r),
         Sheet::Accepted { d, k } => {
-            if 512 < n * d {
+            if MAX_EDGES < n * d {
                 return Taken::Refused(Refusal {
-                    number: 19,
+                    number: refusal::PLAN_TOO_LARGE,
                     place: 0,
                 });
             }
-            match locate(sheet, n, wiring, block) {
-                Located::Refused(r) => Taken::Refused(r),
-                Located::At {
-                    right: _,
-                    vertex: _,
-                } => Taken::Refused(Refusal {
-                    number: 22,
-                    place: 0,
-                }),
-                Located::Nowhere => {
-                    let basis = checked.basis;
-                    let mut columns = [0u64; 4096];
-                    solve(&basis, k, d, n, wiring, &mut columns[..]);
-                    take_message(n * d, &columns[..], block, output)
-                }
+            let basis = checked.basis;
+            match check_block(n * d, block) {
+                Checked::Refused(r) => Taken::Refused(r),
+                Checked::Passed => match first_unsatisfied(&basis, k, d, n, wiring, block) {
+                    Located::Refused(r) => Taken::Refused(r),
+                    Located::At { side: _, vertex: _ } => Taken::Refused(Refusal {
+                        number: refusal::NO_CODEWORD,
+                        place: 0,
+                    }),
+                    Located::Nowhere => {
+                        let mut columns = [0u64; COLUMN_WORDS];
+                        solve(&basis, k, d, n, wiring, &mut columns[..]);
+                        take_message(n * d, &columns[..], block, output)
+                    }
+                },
             }
         }
     }
@@ -67,7 +73,7 @@ fn take_message(edges: usize, columns: &[u64], block: &[u8], output: &mut [u8]) 
     let bytes = (count_live(edges, columns) + 7) / 8;
     if output.len() < bytes {
         return Taken::Refused(Refusal {
-            number: 13,
+            number: refusal::OUTPUT_SHORT,
             place: 0,
         });
     }

@@ -2,12 +2,20 @@
 use crate::columns::add_column;
 use crate::columns::row_bit;
 use crate::columns::unit_columns;
+use wiring::SideName;
 ghost use mathlib.Core.Path.{_≡_};
 ghost use Prim.Native.Nat.{_+_, _*_, _<_, _≤_};
 ghost use lib.ListN.{length};
-ghost use Rattle.wiring.specs.Wiring.{edgeOf};
-ghost use Rattle.wiring.specs.Block.{sideBit};
-ghost use Rattle.messages.specs.Columns.{noColumns, noRows, UnitResidues, Uses, Short, HitSet, lowestRow, Spread, Eliminated, Solved};
+ghost use Rattle.wiring.specs.Plan.{sideBit};
+ghost use Rattle.wiring.specs.Checking.{Wired};
+ghost use Rattle.messages.specs.Columns.{noColumns, noRows, UnitResidues, Uses, checkAt, Within, FailSet, lowestRow, Spread, Eliminated, Solved};
+
+// One check: a digit of what the reduction leaves at a vertex, of which `base` is the first entry on its side.
+struct Check {
+    side: SideName,
+    base: usize,
+    digit: usize,
+}
 
 // Finds the rows of an accepted plan of at most 512 edges: a row is left for each message position, and the others are 0.
 pub(crate) fn solve(
@@ -18,7 +26,8 @@ pub(crate) fn solve(
     wiring: &[u8],
     columns: &mut [u64],
 )
-    requires { ⌜ Short d n (now wiring) ⌝ }
+    requires { ⌜ Wired d n (now wiring) ⌝ }
+    requires { ⌜ n * d ≤ 512 ⌝ }
     requires { ⌜ now columns ≡ noColumns ⌝ }
     ensures { λ _. ⌜ Solved (now (basis .entry)) k d n (now (wiring .entry)) (now (columns .exit)) ⌝ }
 {
@@ -43,7 +52,8 @@ fn unit_residues(basis: &[u16; 11], k: usize, d: usize, residues: &mut [u16])
 
 // All checks in order. Where no residue has the check's digit, no row can fail it.
 fn eliminate(residues: &[u16], d: usize, n: usize, wiring: &[u8], columns: &mut [u64])
-    requires { ⌜ Short d n (now wiring) ⌝ }
+    requires { ⌜ Wired d n (now wiring) ⌝ }
+    requires { ⌜ n * d ≤ 512 ⌝ }
     requires { ⌜ length (now residues) ≡ 16 ⌝ }
     requires { ⌜ length (now columns) ≡ 4096 ⌝ }
     requires { ⌜ Eliminated d n (now wiring) (now residues) 0 (now columns) ⌝ }
@@ -75,10 +85,11 @@ fn used_digits(residues: &[u16], d: usize) -> u16
     used
 }
 
-// One check: its pivot, the lowest row that fails it, is put on every row that fails, and so is 0 from then on.
+// Check m done: its pivot, the lowest row that fails it, is put on every row that fails, and so is 0 from then on.
 fn put_check(m: usize, residues: &[u16], d: usize, n: usize, wiring: &[u8], columns: &mut [u64])
     requires { ⌜ m < 2 * (n * d) ⌝ }
-    requires { ⌜ Short d n (now wiring) ⌝ }
+    requires { ⌜ Wired d n (now wiring) ⌝ }
+    requires { ⌜ n * d ≤ 512 ⌝ }
     requires { ⌜ length (now residues) ≡ 16 ⌝ }
     requires { ⌜ length (now columns) ≡ 4096 ⌝ }
     requires { ⌜ Eliminated d n (now wiring) (now residues) m (now columns) ⌝ }
@@ -86,51 +97,82 @@ fn put_check(m: usize, residues: &[u16], d: usize, n: usize, wiring: &[u8], colu
 {
     let edges = n * d;
     let mut hits = [0u64; 8];
-    find_hits(m, residues, d, n, wiring, columns, &mut hits[..]);
+    find_hits(
+        check_at(m, d, n),
+        residues,
+        d,
+        wiring,
+        columns,
+        &mut hits[..],
+    );
     let pivot = lowest(edges, &hits[..]);
     if pivot < edges {
         spread(edges, pivot, &hits[..], columns);
     }
 }
 
-// The rows that fail check m: digit m % d of what the reduction leaves at vertex m / d, the left side first.
+// Check m: the digits of the left vertices in turn, and then those of the right ones.
+fn check_at(m: usize, d: usize, n: usize) -> Check
+    requires { ⌜ 1 ≤ d ⌝ }
+    requires { ⌜ n * d ≤ 512 ⌝ }
+    ensures { λ r. ⌜ r ≡ checkAt d n m ⌝ }
+{
+    let edges = n * d;
+    if m < edges {
+        let base = m / d * d;
+        let digit = m % d;
+        return Check {
+            side: SideName::Left,
+            base,
+            digit,
+        };
+    }
+    let i = m - edges;
+    let base = i / d * d;
+    let digit = i % d;
+    Check {
+        side: SideName::Right,
+        base,
+        digit,
+    }
+}
+
+// The rows that fail a check.
 fn find_hits(
-    m: usize,
+    check: Check,
     residues: &[u16],
     d: usize,
-    n: usize,
     wiring: &[u8],
     columns: &[u64],
     hits: &mut [u64],
 )
-    requires { ⌜ Short d n (now wiring) ⌝ }
+    requires { ⌜ Within d (now wiring) check ⌝ }
     requires { ⌜ length (now residues) ≡ 16 ⌝ }
     requires { ⌜ length (now columns) ≡ 4096 ⌝ }
     requires { ⌜ now hits ≡ noRows ⌝ }
-    ensures { λ _. ⌜ HitSet d n (now (wiring .entry)) (now (residues .entry)) m (now (columns .entry)) (now (hits .exit)) ⌝ }
+    ensures { λ _. ⌜ FailSet d check (now (wiring .entry)) (now (residues .entry)) (now (columns .entry)) (now (hits .exit)) ⌝ }
 {
-    let vertex = m / d;
-    let right = n <= vertex;
-    let base = vertex % n * d;
-    let digit = m % d;
+    let side = check.side;
+    let base = check.base;
+    let digit = check.digit;
     let mut i: usize = 0;
     while i < d {
         if (residues[i] >> digit) % 2 == 1 {
-            add_column(columns, bit_of(right, wiring, base + i), hits, 0);
+            add_column(columns, bit_of(side, wiring, base + i), hits, 0);
         }
         i += 1;
     }
 }
 
 // The bit of the block at entry i of a side.
-fn bit_of(right: bool, wiring: &[u8], i: usize) -> usize
+fn bit_of(side: SideName, wiring: &[u8], i: usize) -> usize
     requires { ⌜ 2 * i + 1 < length (now wiring) ⌝ }
-    ensures { λ r. ⌜ r ≡ sideBit right (edgeOf (now (wiring .entry))) i ⌝ }
+    ensures { λ r. ⌜ r ≡ sideBit side (now (wiring .entry)) i ⌝ }
 {
-    if right {
-        return bits::pair(wiring, 2 * i) as usize;
+    match side {
+        SideName::Left => i,
+        SideName::Right => bits::pair(wiring, 2 * i) as usize,
     }
-    i
 }
 
 // The lowest row in a set, `edges` where none below it is. Words and bytes with no row in them are passed over whole.

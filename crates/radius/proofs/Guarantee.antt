@@ -1,162 +1,154 @@
 -- Demand 3: what the margin promises holds of the decoder.
--- The notions, of specs/Demand.antt and specs/Answer.antt:
+-- The notions, of specs/Demand.antt, specs/Answer.antt and wiring specs/Block.antt:
 --   flips N a b                        the number of bits 0 .. N - 1 in which two blocks differ
 --   Block N block                      a block of N bits
---   Codeword sheet n wiring block      a block of this plan that is a codeword
---   settledAfter .. received i         the received block, swept i times, is a codeword
---   StoppedBefore15 reply              a row before 15 in the table stops the call
---   marginAnswer sheet n wiring F      what the margin answers for F flips
--- and, of the proofs,
---   Covered sheet n wiring F q         the plan is accepted, F flips are covered, and q sweeps are named for them (Answers)
---   isSettled .. received i            settledAfter, as the decoder's laws write it (decoder proofs Settling)
+--   Codeword plan block                a block of this plan that is a codeword
+--   settledAfter plan received i       the received block, swept i times, is a codeword
+--   stoppedBefore15 reply              a row before 15 in the table stops the call
 --   Restored ..                        what a decoder call is promised
+--   marginAnswer plan F                what the margin answers for F flips
+-- and, of the proofs,
+--   Covered plan F q                   the plan is accepted, F flips are covered, and q sweeps are named for them (Answers)
 -- Names: the subject first, then the fact. `swept-` is about the received block after sweeps, `settles-` about the count at which it
 -- settles (settles-by: when; settles-as: on what), `free-` about the tests that a call has passed which no row before 15 stops.
 -- The theorems are demand3, about a decoder call, and demand3-alone, which mentions no call.
-use Prim.Native.Nat.{ℕ, _+_, _*_, _≤_, _<_}
+use Prim.Native.Nat.{ℕ, _+_, _≤_, _<_}
 use mathlib.Core.Path.{_≡_, refl, sym, ap, _∙_}
 use mathlib.Core.List.{List, [], _∷_}
-use mathlib.Core.Bool.{true, false, true≢false}
+use mathlib.Core.Bool.{false, true≢false}
+use mathlib.Core.Logic.{⊎-elim}
 use native.Mathlib.Nat.{le-trans}
 use native.Mathlib.Decide.{decLe}
 use native.Mathlib.Omega.{arith}
 use lib.ListN.{length, getD}
+use borrow.Author.Tests.{eqb-true, not-false}
 use Rattle.bits.specs.Bit.{written}
 use Rattle.inner_code.specs.Reply.{Reply, done, refused}
-use Rattle.inner_code.specs.Sheet.{degree, rowCount, rowOf}
 use Rattle.inner_code.proofs.SheetChecks.{Sound}
 use Rattle.inner_code.proofs.InnerDistance.{distance-pos}
 use Rattle.inner_code.proofs.NearestWord.{nearest-near}
+use Rattle.wiring.specs.Plan.{Plan, edgeCount, sideOf}
 use Rattle.wiring.specs.Wiring.{planCheck}
-use Rattle.wiring.specs.Block.{blockBytes, blockCheck}
-use Rattle.wiring.proofs.Blocks.{block-sized, block-clear, block-back}
-use Rattle.decoder.specs.Decode.{sweptBlock, settlesAt, decodeAnswer, decodeOutput}
-use Rattle.wiring.proofs.Plans.{plan-sound}
-use Rattle.decoder.proofs.Settling.{isSettled, block-number, map-lt, settles-codeword, settles-first, settles-stays, decode-block, decode-short, decode-limit, decode-settled}
-use Rattle.radius.specs.Answer.{distanceOf, spreadOf, marginOf, marginAnswer}
-use Rattle.radius.specs.Demand.{flips, Block, Codeword, codewordOf, settledAfter, StoppedBefore15}
-use Rattle.radius.proofs.Restoring.{after-restores}
+use Rattle.wiring.specs.Block.{blockBytes, blockCheck, Block, Codeword}
+use Rattle.wiring.specs.declared.side.SideName.{SideName}
+use Rattle.wiring.proofs.Blocks.{bits-number, block-sized, block-clear, block-back}
+use Rattle.wiring.proofs.Plans.{plan-sound, plan-joined}
+use Rattle.decoder.specs.Decode.{sweptBlock, settlesAt}
+use Rattle.decoder.specs.Answer.{decodeCheck, decodeAnswer}
+use Rattle.decoder.proofs.Sweeping.{sheet-mends}
+use Rattle.decoder.proofs.Settling.{settles-codeword, settles-first, settles-stays, decode-stopped, decode-settled}
+use Rattle.decoder.proofs.Settling.{check-block, check-short, check-limit, check-passed}
+use Rattle.radius.specs.Answer.{distanceOf, marginAnswer}
+use Rattle.radius.specs.Demand.{flips, stoppedBefore15, Restored}
+use Rattle.radius.proofs.Restoring.{Nears, after-restores}
 use Rattle.radius.proofs.Answers.{Covered, margin-means}
-
--- what a decoder call is promised
-pub record Restored (sheet : List ℕ) (n : ℕ) (wiring sent received output : List ℕ) (H q : ℕ) : Type 0 where
-  pub count : ℕ
-  pub answer : decodeAnswer sheet n wiring received output H ≡ done (count ∷ [])
-  pub within : count ≤ q
-  pub settled : settledAfter sheet n wiring received count ≡ true
-  pub first : (i : ℕ) → i < count → settledAfter sheet n wiring received i ≡ false
-  pub restored : decodeOutput sheet n wiring received output H ≡ written sent output
 
 -- ---- the received block, swept
 
+sheet-nears : (plan : Plan) → Sound (plan .sheet) → (name : SideName) → Nears (sideOf plan name) (distanceOf (sideOf plan name))
+sheet-nears plan s name = record { mends = sheet-mends plan s name; near = nearest-near _ _ _ (s .degree-high) (s .rows-lt) }
+
 -- every codeword within F flips is what the named sweeps make of the received block
-pub swept-restores : (sheet : List ℕ) (n : ℕ) (wiring received : List ℕ) (F q : ℕ) → Covered sheet n wiring F q → Block (n * degree sheet) received
-    → (c : List ℕ) → Codeword sheet n wiring c → flips (n * degree sheet) c received ≤ F → sweptBlock sheet n wiring q received ≡ c
-unfolding marginOf distanceOf spreadOf sweptBlock codewordOf
-swept-restores sheet n wiring received F q covered block c code few =
-    let (s, w) = plan-sound sheet n wiring (covered .plan) in
+pub swept-restores : (plan : Plan) (received : List ℕ) (F q : ℕ) → Covered plan F q → Block (edgeCount plan) received
+    → (c : List ℕ) → Codeword plan c → flips (edgeCount plan) c received ≤ F → sweptBlock plan q received ≡ c
+swept-restores plan received F q covered block c code few =
     rw (covered .named)
-    (after-restores w (rowOf sheet) (rowCount sheet) (distanceOf sheet) _ (map-lt s)
-    (nearest-near (rowOf sheet) (rowCount sheet) (degree sheet) (s .degree-high) (s .rows-lt)) c (code .satisfied)
-    (omega (arith, s .degree-low)) (distance-pos (rowOf sheet) (rowCount sheet)) (code .block-of) received block F few
+    (after-restores (plan-joined plan (covered .accepted)) (λ name. distanceOf (sideOf plan name))
+    (sheet-nears plan (plan-sound plan (covered .accepted) .0)) c (code .satisfied-all) (distance-pos _ _) (code .block-of) received block F few
     (rw (covered .named) at (covered .some)))
 
--- ---- where it settles
+-- ---- where it settles: where q sweeps make it a codeword c, it has settled by then, as c
 
-module _ (sheet : List ℕ) (n : ℕ) (wiring received : List ℕ) where
-  settled-is : (i : ℕ) → settledAfter sheet n wiring received i ≡ isSettled sheet n wiring received i
-  unfolding settledAfter
-  settled-is i = refl
+module _ (plan : Plan) (received : List ℕ) (H q : ℕ) (c : List ℕ) (code : Codeword plan c) (swept : sweptBlock plan q received ≡ c) where
+  settles-by : settlesAt plan received H ≤ q
+  settles-by =
+      elim (decLe (settlesAt plan received H) q) [
+        | yes by ↦ by
+        | no later ↦
+            let not-yet = settles-first plan received H _ refl q (omega arith) in
+            absurd (true≢false (sym (code .satisfied-all) ∙ rw swept at not-yet))
+      ]
 
-  -- where q sweeps make it a codeword c, it has settled by then, as c
-  module _ (H q : ℕ) (c : List ℕ) (code : Codeword sheet n wiring c) (swept : sweptBlock sheet n wiring q received ≡ c) where
-    settles-by : settlesAt sheet n wiring received H ≤ q
-    unfolding codewordOf
-    settles-by =
-        elim (decLe (settlesAt sheet n wiring received H) q) [
-          | yes by ↦ by
-          | no later ↦
-              let not-yet = settles-first sheet n wiring received H _ refl q (omega arith) in
-              absurd (true≢false (sym (code .satisfied) ∙ rw swept at not-yet))
-        ]
-
-    settles-as : Sound sheet → q ≤ H → sweptBlock sheet n wiring (settlesAt sheet n wiring received H) received ≡ c
-    settles-as s enough = sym (settles-stays sheet n wiring received s H (le-trans settles-by enough) q settles-by) ∙ swept
+  settles-as : Sound (plan .sheet) → q ≤ H → sweptBlock plan (settlesAt plan received H) received ≡ c
+  settles-as s enough = sym (settles-stays plan received s H (le-trans settles-by enough) q settles-by) ∙ swept
 
 -- ---- the tests that a call has passed which no row before 15 stops
 
-module _ (sheet : List ℕ) (n : ℕ) (wiring received output : List ℕ) (H : ℕ) (plan : planCheck sheet n wiring ≡ done [])
-    (free : StoppedBefore15 (decodeAnswer sheet n wiring received output H) → ⊥) where
-  not-refused : (number place : ℕ) → number < 15 → decodeAnswer sheet n wiring received output H ≡ refused number place → ⊥
-  not-refused number place early stops = free (record { number = number; place = place; early = early; stops = stops })
+module _ (plan : Plan) (received output : List ℕ) (H : ℕ) (accepted : planCheck plan ≡ done [])
+    (free : stoppedBefore15 (decodeAnswer plan received output H) ≡ false) where
+  not-stopped : {number place : ℕ} → (number ≡ 15 → ⊥) → decodeCheck plan received output H ≡ refused number place → ⊥
+  unfolding stoppedBefore15
+  not-stopped {number} {place} another stops =
+      another (eqb-true number 15 (not-false _ (sym (ap stoppedBefore15 (decode-stopped plan received output H stops .answer)) ∙ free)))
 
-  free-block : blockCheck (n * degree sheet) received ≡ done []
-  free-block = go (blockCheck (n * degree sheet) received) refl
+  free-block : blockCheck (edgeCount plan) received ≡ done []
+  free-block = go (blockCheck (edgeCount plan) received) refl
     where
-      go : (reply : Reply) → blockCheck (n * degree sheet) received ≡ reply → blockCheck (n * degree sheet) received ≡ done []
+      go : (reply : Reply) → blockCheck (edgeCount plan) received ≡ reply → blockCheck (edgeCount plan) received ≡ done []
       go (done values) e = block-back _ received (block-sized _ received e) (block-clear _ received e)
       go (refused number place) e =
-          absurd (not-refused number place (omega (arith, block-number _ received e))
-          (decode-block sheet n wiring received output H plan number place e .answer))
+          absurd (not-stopped
+          (λ q. ⊎-elim (λ (a : number ≡ 11). omega arith) (λ (b : number ≡ 12). omega arith) (bits-number 11 12 _ received e))
+          (check-block plan received output H accepted e))
 
-  free-room : blockBytes (n * degree sheet) ≤ length output
+  free-room : blockBytes (edgeCount plan) ≤ length output
   free-room =
-      elim (decLe (blockBytes (n * degree sheet)) (length output)) [
+      elim (decLe (blockBytes (edgeCount plan)) (length output)) [
         | yes room ↦ room
-        | no short ↦
-            absurd (not-refused 13 0 (omega arith) (decode-short sheet n wiring received output H plan free-block (omega arith) .answer))
+        | no short ↦ absurd (not-stopped (λ q. omega arith) (check-short plan received output H accepted free-block (omega arith)))
       ]
 
   free-limit : H ≤ 4096
   free-limit =
       elim (decLe H 4096) [
         | yes low ↦ low
-        | no high ↦
-            absurd (not-refused 14 0 (omega arith) (decode-limit sheet n wiring received output H plan free-block free-room (omega arith) .answer))
+        | no high ↦ absurd (not-stopped (λ q. omega arith) (check-limit plan received output H accepted free-block free-room (omega arith)))
       ]
+
+  free-check : decodeCheck plan received output H ≡ done []
+  free-check = check-passed plan received output H accepted free-block free-room free-limit
 
 -- ---- demand 3
 
-pub demand3 : (sheet : List ℕ) (n : ℕ) (wiring sent received output : List ℕ) (F q H : ℕ)
-    → Codeword sheet n wiring sent
+pub demand3 : (plan : Plan) (sent received output : List ℕ) (F q H : ℕ)
+    → Codeword plan sent
     → ((k : ℕ) → getD received k 0 < 256)
-    → flips (n * degree sheet) sent received ≤ F
-    → marginAnswer sheet n wiring F ≡ done (q ∷ [])
+    → flips (edgeCount plan) sent received ≤ F
+    → marginAnswer plan F ≡ done (q ∷ [])
     → q ≤ H
-    → (StoppedBefore15 (decodeAnswer sheet n wiring received output H) → ⊥)
-    → Restored sheet n wiring sent received output H q
-demand3 sheet n wiring sent received output F q H code bytes few margin enough free =
-    let covered = margin-means sheet n wiring F q margin in
-    let plan = covered .plan in
-    let pass = free-block sheet n wiring received output H plan free in
-    let room = free-room sheet n wiring received output H plan free in
-    let limit = free-limit sheet n wiring received output H plan free in
-    let swept = swept-restores sheet n wiring received F q covered (record { bytes = bytes; checked = pass }) sent code few in
-    let count : ℕ = settlesAt sheet n wiring received H in
-    let by : count ≤ q = settles-by sheet n wiring received H q sent code swept in
+    → (stoppedBefore15 (decodeAnswer plan received output H) ≡ false)
+    → Restored plan sent received output H q
+demand3 plan sent received output F q H code bytes few margin enough free =
+    let covered = margin-means plan F q margin in
+    let accepted = covered .accepted in
+    let pass = free-block plan received output H accepted free in
+    let check = free-check plan received output H accepted free in
+    let swept = swept-restores plan received F q covered (record { bytes = bytes; checked = pass }) sent code few in
+    let count : ℕ = settlesAt plan received H in
+    let by : count ≤ q = settles-by plan received H q sent code swept in
     let in-time : count ≤ H = le-trans by enough in
-    let as-sent = settles-as sheet n wiring received H q sent code swept (plan-sound sheet n wiring plan .0) enough in
-    let decoded = decode-settled sheet n wiring received output H plan pass room limit count refl in-time in
+    let as-sent = settles-as plan received H q sent code swept (plan-sound plan accepted .0) enough in
+    let decoded = decode-settled plan received output H check count refl in-time in
     record {
       count = count;
       answer = decoded .answer;
       within = by;
-      settled = settled-is sheet n wiring received count ∙ settles-codeword sheet n wiring received H count refl in-time;
-      first = λ i l. settled-is sheet n wiring received i ∙ settles-first sheet n wiring received H count refl i l;
+      settled = settles-codeword plan received H count refl in-time;
+      first = λ i l. settles-first plan received H count refl i l;
       restored = decoded .leaves ∙ ap (λ (block : List ℕ). written block output) as-sent;
     }
 
-pub demand3-alone : (sheet : List ℕ) (n : ℕ) (wiring sent received other : List ℕ) (F q : ℕ)
-    → Codeword sheet n wiring sent
-    → Block (n * degree sheet) received
-    → flips (n * degree sheet) sent received ≤ F
-    → marginAnswer sheet n wiring F ≡ done (q ∷ [])
-    → Codeword sheet n wiring other
+pub demand3-alone : (plan : Plan) (sent received other : List ℕ) (F q : ℕ)
+    → Codeword plan sent
+    → Block (edgeCount plan) received
+    → flips (edgeCount plan) sent received ≤ F
+    → marginAnswer plan F ≡ done (q ∷ [])
+    → Codeword plan other
     → (other ≡ sent → ⊥)
-    → F + 1 ≤ flips (n * degree sheet) other received
-demand3-alone sheet n wiring sent received other F q code block few margin code' differs =
-    let swept = swept-restores sheet n wiring received F q (margin-means sheet n wiring F q margin) block in
-    elim (decLe (F + 1) (flips (n * degree sheet) other received)) [
+    → F + 1 ≤ flips (edgeCount plan) other received
+demand3-alone plan sent received other F q code block few margin code' differs =
+    let swept = swept-restores plan received F q (margin-means plan F q margin) block in
+    elim (decLe (F + 1) (flips (edgeCount plan) other received)) [
       | yes more ↦ more
       | no within ↦ absurd (differs (sym (swept other code' (omega arith)) ∙ swept sent code few))
     ]

@@ -7,6 +7,6 @@ pub mod Answers
 pub mod Guarantee
 pub mod PlanRanges
 pub mod ChainWalk
-pub mod MarginInputs
+pub mod Uncovered
 pub mod Walks
 pub mod PlanNumbers

@@ -1,59 +1,36 @@
 -- The measure of the spread: the walk of a left vertex u counts, at each w, the meeting number of u and w.
 -- The notions, of specs/Walk.antt:
---   Noted, Ends                    the lists of the left vertex of each entry and of the right vertex of each edge
+--   Noted                          the lists of the left vertex of each entry and of the right vertex of each edge (wiring specs Ends)
+--   Ends                           what the walk needs to know of those lists
 --   arrivals, walked               how many of some entries, and of some walks of two edges, end at a vertex
 --   Fresh, Countable, Counted, Walked, Summable  the counts before, during and after a walk
 --   unevenBy, walkedUneven, largestWalked       the sum over the counts, after the walk of u, and the largest of these
 -- Laws are named by their subject, then by the fact: `-none` and `-one-more` are the start of a loop and one turn of it, `-le` and
 -- `-low` are bounds. The theorem is walked-spread: what the walks give is the spread of specs/Spread.antt.
-use Prim.Native.Nat.{ℕ, zero, suc, _+_, _*_, _/_, _-_, _≤_, _<_, max, zero-le}
+use Prim.Native.Nat.{ℕ, zero, suc, _+_, _*_, _-_, _≤_, _<_, max, zero-le}
 use mathlib.Core.List.{List}
 use mathlib.Core.Path.{_≡_, refl, sym, ap, ap₂, _∙_}
-use native.Mathlib.Nat.{mul-le-mul-left, mul-le-mul-right, div-lt-iff-lt-mul, le-refl, le-step, zero-mul}
+use native.Mathlib.Nat.{mul-le-mul-left, mul-le-mul-right, le-refl, le-step}
 use native.Mathlib.Decide.{ℕ-discrete}
 use native.Mathlib.Numerals.{add-one}
 use native.Mathlib.Omega.{arith}
 use lib.Dec.{eqb}
 use lib.ListN.{length, set, length-set}
-use lib.Seq.{getD-set-same, getD-set-other}
-use Rattle.bits.specs.Bit.{at}
+use Rattle.bits.specs.Window.{at}
 use Rattle.bits.specs.Sum.{sum, gap, flag}
 use Rattle.bits.proofs.Sums.{count-le, flag-apart, flag-equal, sum-const, sum-ext, sum-mono, sum-one-more}
-use Rattle.wiring.specs.Wiring.{edgeOf, edgesBetween}
-use Rattle.wiring.proofs.Permutation.{Wired, placeOf, place-lt, place-edge, edge-place}
-use Rattle.radius.specs.Spread.{meeting, unevenness, largest, spread}
-use Rattle.radius.specs.Walk.{Wires, Noted, Ends, arrivals, walked, Countable, Counted, Fresh, Walked, Summable, unevenBy, walkedUneven, largestWalked}
-use Rattle.wiring.proofs.Edges.{entry-below, edges-from}
-
--- ---- a list after a store
-
-at-set-same : (l : List ℕ) (i a : ℕ) → i < length l → at (set l i a) i ≡ a
-unfolding at
-at-set-same l i a h = getD-set-same l i a 0 h
-
-at-set-other : (l : List ℕ) (i j a : ℕ) → (j ≡ i → ⊥) → at (set l i a) j ≡ at l j
-unfolding at
-at-set-other l i j a h = getD-set-other l i j a 0 h
-
--- ---- the lists of vertices
-
-pub noted-none : (edge : ℕ → ℕ) (d : ℕ) (lefts rights : List ℕ) → Noted edge d 0 lefts rights
-noted-none edge d lefts rights = record { left-is = λ i l. absurd (omega arith); right-is = λ i l. absurd (omega arith) }
-
--- entry m is noted at places of its own: no entry before it is m, and none has its edge
-pub noted-one-more : (edge : ℕ → ℕ) (d m : ℕ) (lefts rights : List ℕ) → Noted edge d m lefts rights → m < length lefts → edge m < length rights
-    → ((i : ℕ) → i < m → edge i ≡ edge m → ⊥) → Noted edge d (m + 1) (set lefts m (edge m / d)) (set rights (edge m) (m / d))
-noted-one-more edge d m lefts rights r room room-right fresh =
-    record {
-      left-is = λ i l. elim (ℕ-discrete i m) [
-        | yes e ↦ rw e (at-set-same lefts m _ room)
-        | no h ↦ at-set-other lefts m i _ h ∙ r .left-is i (omega arith)
-      ];
-      right-is = λ i l. elim (ℕ-discrete i m) [
-        | yes e ↦ rw e (at-set-same rights (edge m) _ room-right)
-        | no h ↦ at-set-other rights (edge m) (edge i) _ (fresh i (omega arith)) ∙ r .right-is i (omega arith)
-      ];
-    }
+use Rattle.bits.specs.Search.{largest}
+use Rattle.inner_code.specs.Sheet.{degree}
+use Rattle.wiring.specs.Plan.{Plan, edgeCount, edgeOf, right, sideBit, sideOf}
+use Rattle.wiring.specs.Wiring.{edgesBetween}
+use Rattle.wiring.specs.Checking.{WiredPlan}
+use Rattle.wiring.specs.Ends.{Noted}
+use Rattle.wiring.proofs.Permutation.{wired-joined}
+use Rattle.wiring.proofs.Edges.{vertexOf, vertex-of-lt, edges-from}
+use Rattle.wiring.proofs.EdgeEnds.{at-set-same, at-set-other, noted-right, noted-ends}
+use Rattle.radius.specs.Spread.{meeting, unevenness, spread}
+use Rattle.radius.specs.Walk.{Ends, arrivals, walked, Countable, Counted, Fresh, Walked, Summable, unevenBy, walkedUneven, largestWalked}
+use lib.Arith.{digits-lt}
 
 -- ---- the counts
 
@@ -142,14 +119,15 @@ module _ (lefts rights : List ℕ) (n d : ℕ) where
         → Countable lefts (at rights (u * d + m) * d) d counts
     walk-countable u m counts l k room r =
         let v : ℕ = at rights (u * d + m) in
-        let v-lt : v < n = ends .right-lt _ (entry-below n d u m l k) in
-        let left-lt : (i : ℕ) → i < d → at lefts (v * d + i) < n = λ i h. ends .left-lt _ (entry-below n d v i v-lt h) in
+        let v-lt : v < n = ends .right-lt _ (digits-lt l k) in
+        let left-lt : (i : ℕ) → i < d → at lefts (v * d + i) < n = λ i h. ends .left-lt _ (digits-lt v-lt h) in
         record {
           d-high = ends .d-high;
           inside = omega (arith, ends .lefts-sized, mul-le-mul-right d v-lt);
           left-lt = λ i h. omega (arith, left-lt i h);
           count-low = λ i h.
-              omega (arith, r .count-is _ (left-lt i h), walked-le (at lefts) (at rights) d (u * d) m (at lefts (v * d + i)), mul-le-mul-right d k, square-le d (ends .d-high));
+              let few = walked-le (at lefts) (at rights) d (u * d) m (at lefts (v * d + i)) in
+              omega (arith, r .count-is _ (left-lt i h), few, mul-le-mul-right d k, square-le d (ends .d-high));
         }
 
     pub walked-summable : (u : ℕ) (counts : List ℕ) → n ≤ length counts → Walked lefts rights n d (u * d) d counts → Summable n d counts
@@ -231,44 +209,36 @@ walked-uneven lefts rights n d u counts r = uneven-ext (at counts) _ n d n (r .c
 
 -- ---- the spread
 
-some-vertex : (n d i : ℕ) → i < n * d → 1 ≤ n
-some-vertex zero d i l = absurd (omega (arith, zero-mul d))
-some-vertex (suc n) d i l = omega arith
+module _ (plan : Plan) (w : WiredPlan plan) {lefts rights : List ℕ}
+    (noted : Noted (edgeOf (plan .wiring)) (degree (plan .sheet)) (edgeCount plan) lefts rights) where
+  abbrev d : ℕ
+  d = degree (plan .sheet)
 
-module _ {d n : ℕ} {wiring : List ℕ} (wires : Wires d n wiring) where
-  wired : 1 ≤ n → Wired d n wiring
-  wired l =
-      record { n-low = l; n-high = wires .n-high; sized = wires .sized; edge-lt = wires .edge-lt; edge-once = wires .edge-once }
+  pub noted-walk : edgeCount plan ≤ length lefts → edgeCount plan ≤ length rights → Ends d (plan .n) lefts rights
+  noted-walk room room-right =
+      record {
+        d-high = w .d-high;
+        n-high = w .n-high;
+        lefts-sized = room;
+        rights-sized = room-right;
+        left-lt = λ i l. noted-ends w noted i l .0;
+        right-lt = λ e l. noted-ends w noted e l .1;
+      }
 
-  module _ {lefts rights : List ℕ} (noted : Noted (edgeOf wiring) d (n * d) lefts rights) where
-    edge-right : (e : ℕ) → e < n * d → at rights e ≡ placeOf wiring (n * d) e / d
-    edge-right e l =
-        let w = wired (some-vertex n d e l) in
-        ap (at rights) (sym (edge-place w e l)) ∙ noted .right-is _ (place-lt w e l)
+  -- the walk goes by edge u·d + j to the right vertex of that edge, and from there to w as often as edges run between them
+  walked-meeting : (u : ℕ) → u < plan .n → (x : ℕ) → walked (at lefts) (at rights) d (u * d) d x ≡ meeting (sideOf plan) u x
+  unfolding walked arrivals meeting edgesBetween sideBit
+  walked-meeting u l x =
+      let g = wired-joined plan w in
+      let right-of : (e : ℕ) → e < edgeCount plan → at rights e ≡ vertexOf (edgeCount plan) (sideOf plan right) e =
+      noted-right (g .whole right) noted in
+      sum-ext d _ (λ j. edgesBetween (sideOf plan) x (vertexOf (edgeCount plan) (sideOf plan right) (u * d + j)))
+      (λ j h. rw (right-of (u * d + j) (digits-lt l h))
+      (sum-ext d _ _ (λ i k. ap (λ (y : ℕ). flag (eqb y x))
+      (noted .left-is _ (digits-lt (vertex-of-lt (g .whole right) _ (digits-lt l h)) k)))))
+      ∙ sym (edges-from g (edgesBetween (sideOf plan) x) u l)
 
-    pub noted-ends : n * d ≤ length lefts → n * d ≤ length rights → Ends d n lefts rights
-    noted-ends room room-right =
-        record {
-          d-high = wires .d-high;
-          n-high = wires .n-high;
-          lefts-sized = room;
-          rights-sized = room-right;
-          left-lt = λ i l. rw (noted .left-is i l) (div-lt-iff-lt-mul (wires .d-low) .1 (wires .edge-lt i l));
-          right-lt = λ e l. rw (edge-right e l) (div-lt-iff-lt-mul (wires .d-low) .1 (place-lt (wired (some-vertex n d e l)) e l));
-        }
-
-    -- the walk goes by edge u·d + j to the right vertex of that edge's place, and from there to w as often as edges run between them
-    walked-meeting : (u : ℕ) → u < n → (w : ℕ) → walked (at lefts) (at rights) d (u * d) d w ≡ meeting (edgeOf wiring) n d u w
-    unfolding walked arrivals meeting edgesBetween
-    walked-meeting u l w =
-        let known = wired (omega arith) in
-        let place : ℕ → ℕ = placeOf wiring (n * d) in
-        let place-below : (j : ℕ) → j < d → place (u * d + j) / d < n = λ j h. div-lt-iff-lt-mul (wires .d-low) .1 (place-lt known _ (entry-below n d u j l h)) in
-        sum-ext d _ (λ j. edgesBetween (edgeOf wiring) d w (place (u * d + j) / d))
-        (λ j h. rw (edge-right (u * d + j) (entry-below n d u j l h))
-        (sum-ext d _ _ (λ i k. ap (λ (x : ℕ). flag (eqb x w)) (noted .left-is _ (entry-below n d _ i (place-below j h) k)))))
-        ∙ sym (edges-from n d (edgeOf wiring) place (wires .d-low) (wires .edge-lt) (place-lt known) (place-edge known) (edge-place known) (edgesBetween (edgeOf wiring) d w) u l)
-
-    pub walked-spread : (r : ℕ) → r ≡ largestWalked (at lefts) (at rights) n d n → r ≡ spread (edgeOf wiring) n d
-    unfolding largestWalked walkedUneven unevenBy spread unevenness
-    walked-spread r e = e ∙ largest-ext n _ _ (λ u l. uneven-ext _ (meeting (edgeOf wiring) n d u) n d n (λ w k. walked-meeting u l w))
+  pub walked-spread : (r : ℕ) → r ≡ largestWalked (at lefts) (at rights) (plan .n) d (plan .n) → r ≡ spread (sideOf plan)
+  unfolding largestWalked walkedUneven unevenBy spread unevenness
+  walked-spread r e =
+      e ∙ largest-ext (plan .n) _ _ (λ u l. uneven-ext _ (meeting (sideOf plan) u) (plan .n) d (plan .n) (λ x k. walked-meeting u l x))

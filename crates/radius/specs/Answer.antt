@@ -1,38 +1,60 @@
--- What the services spread and margin answer.
---   distanceOf sheet          the inner distance D of the sheet's code
---   spreadOf sheet n wiring   the spread R, measured from the wiring's own entries
---   marginOf sheet n wiring F the sweeps named for F flips, 0 where F is not covered
+-- What the services spread and margin answer, and the numbers of a plan.
+--   distanceOf side           the inner distance D of a side's code
+--   measuresOf plan           the measures of a plan; its spread is measured from the wiring's own entries
+--   marginOf plan F           the sweeps named for F flips, 0 where F is not covered
 --   spreadAnswer, marginAnswer  the services: 1 to 10, and R; 1 to 10, 17, 18, and the sweeps
-use Prim.Native.Nat.{ℕ, _*_}
-use mathlib.Core.List.{List, [], _∷_}
+--   numbersAnswer plan        1 to 10, or d, k, the inner distance D and the spread R
+--   spreadReply, marginReply, numbersReply  the paper's number, place and values for each case of an answer in the code
+use Prim.Native.Nat.{ℕ}
+use mathlib.Core.List.{[], _∷_}
 use lib.Dec.{ltb, eqb}
-use Rattle.inner_code.specs.Reply.{Reply, done, refuseIf, andThen}
+use Rattle.inner_code.specs.Reply.{Reply, done, refused, refuseIf, andThen}
 use Rattle.inner_code.specs.Code.{distance}
-use Rattle.inner_code.specs.Sheet.{degree, rowCount, rowOf}
-use Rattle.wiring.specs.Wiring.{edgeOf, planCheck}
+use Rattle.wiring.specs.Plan.{Plan, Side, edgeCount, left, right, sideOf}
+use Rattle.wiring.specs.Wiring.{planCheck}
+use Rattle.wiring.specs.declared.side.SideName.{SideName}
 use Rattle.radius.specs.Spread.{spread}
-use Rattle.radius.specs.Margin.{sweepsNamed}
+use Rattle.radius.specs.Margin.{Measures, sweepsNamed}
+use Rattle.radius.specs.declared.numbers.Numbers.{Numbers}
+use Rattle.radius.specs.declared.numbers.Spread.{Spread}
+use Rattle.radius.specs.declared.margins.Margin.{Margin}
 
-unfoldable pub distanceOf : List ℕ → ℕ
-unfolding distance rowOf rowCount
-distanceOf sheet = distance (rowOf sheet) (rowCount sheet)
+abbrev pub distanceOf : Side → ℕ
+distanceOf side = distance (side .row) (side .k)
 
-unfoldable pub spreadOf : List ℕ → ℕ → List ℕ → ℕ
-unfolding spread edgeOf degree
-spreadOf sheet n wiring = spread (edgeOf wiring) n (degree sheet)
+abbrev pub measuresOf : Plan → Measures
+measuresOf plan =
+    let sides : SideName → Side = sideOf plan in
+    record { edges = edgeCount plan; n = sides right .n; d = sides left .d; distance = λ s. distanceOf (sides s); spread = spread sides }
 
-unfoldable pub marginOf : List ℕ → ℕ → List ℕ → ℕ → ℕ
-unfolding sweepsNamed degree distanceOf spreadOf
-marginOf sheet n wiring F = sweepsNamed n (degree sheet) (distanceOf sheet) (spreadOf sheet n wiring) F
+abbrev pub marginOf : Plan → ℕ → ℕ
+marginOf plan F = sweepsNamed (measuresOf plan) F
 
-unfoldable pub spreadAnswer : List ℕ → ℕ → List ℕ → Reply
-unfolding andThen planCheck spreadOf
-spreadAnswer sheet n wiring = andThen (planCheck sheet n wiring) (done (spreadOf sheet n wiring ∷ []))
+unfoldable pub spreadAnswer : Plan → Reply
+unfolding andThen planCheck spread
+spreadAnswer plan = andThen (planCheck plan) (done (spread (sideOf plan) ∷ []))
 
-unfoldable pub marginAnswer : List ℕ → ℕ → List ℕ → ℕ → Reply
-unfolding andThen refuseIf planCheck marginOf degree
-marginAnswer sheet n wiring F =
-    andThen (planCheck sheet n wiring)
-    (refuseIf (ltb (n * degree sheet) F) 17 0
-    (refuseIf (eqb (marginOf sheet n wiring F) 0) 18 0
-    (done (marginOf sheet n wiring F ∷ []))))
+unfoldable pub marginAnswer : Plan → ℕ → Reply
+unfolding andThen refuseIf planCheck sweepsNamed
+marginAnswer plan F =
+    andThen (planCheck plan)
+    (refuseIf (ltb (edgeCount plan) F) 17 0
+    (refuseIf (eqb (marginOf plan F) 0) 18 0 (done (marginOf plan F ∷ []))))
+
+unfoldable pub numbersAnswer : Plan → Reply
+unfolding andThen planCheck distance spread
+numbersAnswer plan =
+    andThen (planCheck plan)
+    (done (sideOf plan left .d ∷ sideOf plan left .k ∷ distanceOf (sideOf plan left) ∷ spread (sideOf plan) ∷ []))
+
+abbrev pub spreadReply : Spread → Reply
+spreadReply (Spread.Value value) = done (value ∷ [])
+spreadReply (Spread.Refused r) = refused (r .number) (r .place)
+
+abbrev pub marginReply : Margin → Reply
+marginReply (Margin.Sweeps sweeps) = done (sweeps ∷ [])
+marginReply (Margin.Refused r) = refused (r .number) (r .place)
+
+abbrev pub numbersReply : Numbers → Reply
+numbersReply (Numbers.Plan d k D R) = done (d ∷ k ∷ D ∷ R ∷ [])
+numbersReply (Numbers.Refused r) = refused (r .number) (r .place)

@@ -1,45 +1,33 @@
 -- The words of demand 3.
---   flips N a b                     the number of bits 0 .. N - 1 in which two blocks differ
---   Block N block                   a block of N bits: bytes, of the right length, with no bit after N - 1 set
---   Codeword sheet n wiring block   a block of this plan that is a codeword
---   settledAfter sheet n wiring received i   the received block, swept i times, is a codeword
---   StoppedBefore15 reply           a row before 15 in the table stops the call
-use Prim.Native.Nat.{ℕ, _*_, _<_}
+--   flips N a b                the number of bits 0 .. N - 1 in which two blocks differ
+--   stoppedBefore15 reply      a row before 15 in the table stops the call: it is refused, and not with 15
+--   Restored ..                what a decoder call is promised: it settles within q sweeps, at the first count after which the received block
+--                              is a codeword, and its output holds the sent block
+use Prim.Native.Nat.{ℕ, _≤_, _<_}
 use mathlib.Core.Path.{_≡_}
-use mathlib.Core.List.{List, []}
-use mathlib.Core.Bool.{Bool, true}
-use lib.ListN.{getD}
+use mathlib.Core.List.{List, [], _∷_}
+use mathlib.Core.Bool.{Bool, true, false, not}
 use lib.Bits.{bitXor}
-use Rattle.bits.specs.Bit.{bitAt}
+use lib.Dec.{eqb}
+use Rattle.bits.specs.Bit.{bitAt, written}
 use Rattle.bits.specs.Sum.{sum}
 use Rattle.inner_code.specs.Reply.{Reply, done, refused}
-use Rattle.inner_code.specs.Sheet.{degree, rowCount, rowOf}
-use Rattle.wiring.specs.Wiring.{edgeOf}
-use Rattle.wiring.specs.Block.{blockCheck, isCodewordBlock}
-use Rattle.decoder.specs.Decode.{sweptBlock}
+use Rattle.wiring.specs.Plan.{Plan}
+use Rattle.decoder.specs.Decode.{settledAfter}
+use Rattle.decoder.specs.Answer.{decodeAnswer, decodeOutput}
 
 unfoldable pub flips : ℕ → List ℕ → List ℕ → ℕ
 unfolding sum bitAt
 flips N a b = sum N (λ i. bitXor (bitAt a i) (bitAt b i))
 
-pub record Block (N : ℕ) (block : List ℕ) : Type 0 where
-  pub bytes : (k : ℕ) → getD block k 0 < 256
-  pub checked : blockCheck N block ≡ done []
+unfoldable pub stoppedBefore15 : Reply → Bool
+stoppedBefore15 (done values) = false
+stoppedBefore15 (refused number place) = not (eqb number 15)
 
-unfoldable pub codewordOf : List ℕ → ℕ → List ℕ → List ℕ → Bool
-unfolding isCodewordBlock degree rowCount rowOf edgeOf
-codewordOf sheet n wiring block = isCodewordBlock (rowOf sheet) (rowCount sheet) (degree sheet) n (edgeOf wiring) block
-
-pub record Codeword (sheet : List ℕ) (n : ℕ) (wiring block : List ℕ) : Type 0 where
-  pub block-of : Block (n * degree sheet) block
-  pub satisfied : codewordOf sheet n wiring block ≡ true
-
-unfoldable pub settledAfter : List ℕ → ℕ → List ℕ → List ℕ → ℕ → Bool
-unfolding codewordOf sweptBlock
-settledAfter sheet n wiring received i = codewordOf sheet n wiring (sweptBlock sheet n wiring i received)
-
-pub record StoppedBefore15 (reply : Reply) : Type 0 where
-  pub number : ℕ
-  pub place : ℕ
-  pub early : number < 15
-  pub stops : reply ≡ refused number place
+pub record Restored (plan : Plan) (sent received output : List ℕ) (H q : ℕ) : Type 0 where
+  pub count : ℕ
+  pub answer : decodeAnswer plan received output H ≡ done (count ∷ [])
+  pub within : count ≤ q
+  pub settled : settledAfter plan received count ≡ true
+  pub first : (i : ℕ) → i < count → settledAfter plan received i ≡ false
+  pub restored : decodeOutput plan received output H ≡ written sent output

@@ -1,37 +1,53 @@
--- The margin's numbers alone: how many flipped bits F a plan covers, and the sweeps named for them. D is the inner distance, R the spread.
---   slack n d D b            the paper's A: D·n - 2·d·b (0 where that is below 0)
---   stepCovered n d D R b    A is above 0 and its square above 4·n·R
---   nextBound n d D R b      the next b: 4·n·R·b divided by the square of A, rounded down
---   chainSweeps n d D R m b  the place of the first zero in the chain that begins with b, counted from 1;
---                            0 where a step on the way is not covered. m bounds the chain's length; b + 1 is always enough.
---   sweepsNamed n d D R F    the sweeps named for F flips, 0 where F is not covered
-use Prim.Native.Nat.{ℕ, zero, suc, _-_, _*_, _/_}
+-- The margin's numbers alone: how many flipped bits F a plan covers, and the sweeps named for them.
+--   Measures                 the numbers of a plan that the margin rests on: N, n of the right side, d of the left side, the inner distance D of each side, and the spread R
+--   slack m to b             the paper's A for a step to a side: D·n - 2·d·b (0 where that is below 0)
+--   stepCovered m to b       A is above 0 and its square above 4·n·R
+--   nextBound m to b         the next b: 4·n·R·b divided by the square of A, rounded down
+--   oneMore q                one sweep more, where the rest is covered
+--   chainSweeps m to t b     the place of the first zero in the chain that begins with b and steps to a side next, counted from 1;
+--                            0 where a step on the way is not covered. t bounds the chain's length; b + 1 is always enough.
+--   sweepsNamed m F          the sweeps named for F flips, 0 where F is not covered: the first b is 2F/D, rounded down, and the first step goes right
+--   beyond m                 the first F, from 0 up, that is not covered; N + 1 never is
+use Prim.Native.Nat.{ℕ, zero, suc, _+_, _-_, _*_, _/_}
 use mathlib.Core.Bool.{Bool, cond, _&&_}
 use lib.Dec.{ltb, leb}
+use Rattle.bits.specs.Search.{firstFailing}
+use Rattle.wiring.specs.Plan.{left, right}
+use Rattle.wiring.specs.declared.side.SideName.{SideName}
+use Rattle.decoder.specs.Sweep.{other}
 
-unfoldable pub slack : ℕ → ℕ → ℕ → ℕ → ℕ
-slack n d D b = D * n - 2 * d * b
+pub record Measures : Type 0 where
+  pub edges : ℕ
+  pub n : ℕ
+  pub d : ℕ
+  pub distance : SideName → ℕ
+  pub spread : ℕ
 
-unfoldable pub stepCovered : ℕ → ℕ → ℕ → ℕ → ℕ → Bool
+unfoldable pub slack : Measures → SideName → ℕ → ℕ
+slack m to b = m .distance to * m .n - 2 * m .d * b
+
+unfoldable pub stepCovered : Measures → SideName → ℕ → Bool
 unfolding slack
-stepCovered n d D R b = ltb 0 (slack n d D b) && ltb (4 * n * R) (slack n d D b * slack n d D b)
+stepCovered m to b = ltb 0 (slack m to b) && ltb (4 * m .n * m .spread) (slack m to b * slack m to b)
 
-unfoldable pub nextBound : ℕ → ℕ → ℕ → ℕ → ℕ → ℕ
+unfoldable pub nextBound : Measures → SideName → ℕ → ℕ
 unfolding slack
-nextBound n d D R b = 4 * n * R * b / (slack n d D b * slack n d D b)
+nextBound m to b = 4 * m .n * m .spread * b / (slack m to b * slack m to b)
 
--- one sweep more, where the rest is covered
 unfoldable pub oneMore : ℕ → ℕ
 oneMore zero = 0
 oneMore (suc q) = suc (suc q)
 
-unfoldable pub chainSweeps : ℕ → ℕ → ℕ → ℕ → ℕ → ℕ → ℕ
-unfolding stepCovered nextBound oneMore
-chainSweeps n d D R zero b = 0
-chainSweeps n d D R (suc m) zero = 1
-chainSweeps n d D R (suc m) (suc b) =
-    cond (stepCovered n d D R (suc b)) (oneMore (chainSweeps n d D R m (nextBound n d D R (suc b)))) 0
+unfoldable pub chainSweeps : Measures → SideName → ℕ → ℕ → ℕ
+unfolding stepCovered nextBound oneMore other
+chainSweeps m to zero b = 0
+chainSweeps m to (suc t) zero = 1
+chainSweeps m to (suc t) (suc b) = cond (stepCovered m to (suc b)) (oneMore (chainSweeps m (other to) t (nextBound m to (suc b)))) 0
 
-unfoldable pub sweepsNamed : ℕ → ℕ → ℕ → ℕ → ℕ → ℕ
+unfoldable pub sweepsNamed : Measures → ℕ → ℕ
 unfolding chainSweeps
-sweepsNamed n d D R F = cond (leb F (n * d)) (chainSweeps n d D R (suc (2 * F / D)) (2 * F / D)) 0
+sweepsNamed m F = let b : ℕ = 2 * F / m .distance left in cond (leb F (m .edges)) (chainSweeps m right (suc b) b) 0
+
+unfoldable pub beyond : Measures → ℕ
+unfolding firstFailing sweepsNamed
+beyond m = firstFailing (m .edges + 1) (λ F. ltb 0 (sweepsNamed m F))

@@ -1,7 +1,5 @@
 -- How the code measures the spread: none of this is needed to believe a contract of a service.
 -- `left i` is the left vertex of the edge at entry i, `right e` the right vertex of edge e. Entry i is at right vertex i / d.
---   Wires d n wiring              what the measure needs to know of an accepted wiring
---   Noted edge d m lefts rights   the lists of vertices, as far as the first m entries say
 --   Ends d n lefts rights         what the walk needs to know of those lists: n·d vertices each, all below n
 --   arrivals left from m w        how many of the m entries from `from` on have the left vertex w
 --   walked left right d base m w  how many walks end at w that go by one of the m edges from `base` on, and then by any edge of the
@@ -12,27 +10,14 @@
 --   Summable n d counts           what the sum over the counts needs to know
 --   unevenBy count n d m          the sum over the first m vertices of |n·count - d·d|
 --   walkedUneven, largestWalked   that sum over all n vertices after the walk of u, and the largest for u below m
-use Prim.Native.Nat.{ℕ, _+_, _*_, _/_, _≤_, _<_}
+use Prim.Native.Nat.{ℕ, _+_, _*_, _≤_, _<_}
 use mathlib.Core.Path.{_≡_}
 use mathlib.Core.List.{List}
 use lib.Dec.{eqb}
 use lib.ListN.{length}
-use Rattle.bits.specs.Bit.{at}
+use Rattle.bits.specs.Window.{at}
 use Rattle.bits.specs.Sum.{sum, gap, flag}
-use Rattle.wiring.specs.Wiring.{edgeOf}
-use Rattle.radius.specs.Spread.{largest}
-
-pub record Wires (d n : ℕ) (wiring : List ℕ) : Type 0 where
-  pub d-low : 1 ≤ d
-  pub d-high : d ≤ 16
-  pub n-high : n ≤ 2048
-  pub sized : length wiring ≡ 2 * (n * d)
-  pub edge-lt : (i : ℕ) → i < n * d → edgeOf wiring i < n * d
-  pub edge-once : (i j : ℕ) → i < n * d → j < n * d → edgeOf wiring i ≡ edgeOf wiring j → i ≡ j
-
-pub record Noted (edge : ℕ → ℕ) (d m : ℕ) (lefts rights : List ℕ) : Type 0 where
-  pub left-is : (i : ℕ) → i < m → at lefts i ≡ edge i / d
-  pub right-is : (i : ℕ) → i < m → at rights (edge i) ≡ i / d
+use Rattle.bits.specs.Search.{largest}
 
 pub record Ends (d n : ℕ) (lefts rights : List ℕ) : Type 0 where
   pub d-high : d ≤ 16

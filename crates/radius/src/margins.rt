@@ -3,9 +3,10 @@ use crate::numbers::Numbers;
 use crate::numbers::plan_numbers;
 use crate::sweeps::sweeps_named;
 use inner_code::Refusal;
+use inner_code::refusal;
 ghost use mathlib.Core.Path.{_≡_};
-ghost use Rattle.radius.specs.Answer.{marginAnswer};
-ghost use Rattle.radius.specs.PlanAnswer.{marginReply};
+ghost use Rattle.wiring.specs.Plan.{planOf};
+ghost use Rattle.radius.specs.Answer.{marginAnswer, marginReply};
 
 // The sweeps named for a number of flips, or the refusal.
 pub enum Margin {
@@ -16,7 +17,7 @@ pub enum Margin {
 // The sweeps within which so many flipped bits are mended, whichever they are. Refusals 1 to 10, 17 for more flips than the block has
 // bits, 18 for flips that are not covered.
 pub fn margin_sweeps(sheet: &[u8], n: usize, wiring: &[u8], flips: u64) -> Margin
-    ensures { λ r. ⌜ marginReply r ≡ marginAnswer (now (sheet .entry)) n (now (wiring .entry)) flips ⌝ }
+    ensures { λ r. ⌜ marginReply r ≡ marginAnswer (planOf (now (sheet .entry)) n (now (wiring .entry))) flips ⌝ }
 {
     match plan_numbers(sheet, n, wiring) {
         Numbers::Refused(r) => Margin::Refused(r),
@@ -29,14 +30,14 @@ pub fn margin_sweeps(sheet: &[u8], n: usize, wiring: &[u8], flips: u64) -> Margi
             let vertices = n as u64;
             if vertices * d < flips {
                 return Margin::Refused(Refusal {
-                    number: 17,
+                    number: refusal::FLIPS_TOO_MANY,
                     place: 0,
                 });
             }
             let sweeps = sweeps_named(vertices, d, distance, spread, flips);
             if sweeps == 0 {
                 return Margin::Refused(Refusal {
-                    number: 18,
+                    number: refusal::FLIPS_NOT_COVERED,
                     place: 0,
                 });
             }

@@ -1,5 +1,6 @@
 // A plan's numbers: the sheet's d and k, its inner distance D, and the spread R of the wiring.
 use crate::spread::measured_spread;
+use inner_code::MAX_CODEWORDS;
 use inner_code::Refusal;
 use inner_code::Sheet;
 use wiring::check_plan;
@@ -7,8 +8,8 @@ ghost use mathlib.Core.Path.{_≡_};
 ghost use Prim.Native.Nat.{min};
 ghost use Rattle.inner_code.specs.Code.{distance};
 ghost use Rattle.inner_code.specs.Sheet.{rowOf};
-ghost use Rattle.radius.specs.Answer.{spreadAnswer};
-ghost use Rattle.radius.specs.PlanAnswer.{numbersAnswer, numbersReply, spreadReply};
+ghost use Rattle.wiring.specs.Plan.{planOf};
+ghost use Rattle.radius.specs.Answer.{spreadAnswer, numbersAnswer, numbersReply, spreadReply};
 
 // The spread of a plan, or the refusal.
 pub enum Spread {
@@ -29,7 +30,7 @@ pub enum Numbers {
 
 // Checks a plan and answers its d and k, the inner distance of its sheet and the spread of its wiring. Refusals 1 to 10.
 pub fn plan_numbers(sheet: &[u8], n: usize, wiring: &[u8]) -> Numbers
-    ensures { λ r. ⌜ numbersReply r ≡ numbersAnswer (now (sheet .entry)) n (now (wiring .entry)) ⌝ }
+    ensures { λ r. ⌜ numbersReply r ≡ numbersAnswer (planOf (now (sheet .entry)) n (now (wiring .entry))) ⌝ }
 {
     let checked = check_plan(sheet, n, wiring);
     let values = checked.sheet;
@@ -39,20 +40,20 @@ pub fn plan_numbers(sheet: &[u8], n: usize, wiring: &[u8]) -> Numbers
             d: d as u64,
             k: k as u64,
             distance: measured_distance(sheet, k),
-            spread: measured_spread(wiring, n, d),
+            spread: measured_spread(sheet, n, wiring),
         },
     }
 }
 
 // Checks a plan and answers the spread of its wiring: the smaller, the more evenly its left vertices meet. Refusals 1 to 10.
 pub fn plan_spread(sheet: &[u8], n: usize, wiring: &[u8]) -> Spread
-    ensures { λ r. ⌜ spreadReply r ≡ spreadAnswer (now (sheet .entry)) n (now (wiring .entry)) ⌝ }
+    ensures { λ r. ⌜ spreadReply r ≡ spreadAnswer (planOf (now (sheet .entry)) n (now (wiring .entry))) ⌝ }
 {
     let checked = check_plan(sheet, n, wiring);
     let values = checked.sheet;
     match values {
         Sheet::Refused(r) => Spread::Refused(r),
-        Sheet::Accepted { d, k: _ } => Spread::Value(measured_spread(wiring, n, d)),
+        Sheet::Accepted { d: _, k: _ } => Spread::Value(measured_spread(sheet, n, wiring)),
     }
 }
 
@@ -60,7 +61,7 @@ pub fn plan_spread(sheet: &[u8], n: usize, wiring: &[u8]) -> Spread
 fn measured_distance(sheet: &[u8], k: usize) -> u64
     ensures { λ r. ⌜ r ≡ distance (rowOf (now (sheet .entry))) (min k 11) ⌝ }
 {
-    let mut words = [0u16; 2048];
+    let mut words = [0u16; MAX_CODEWORDS];
     let count = inner_code::list_codewords(sheet, k, &mut words);
     inner_code::distance(&words[0..count]) as u64
 }

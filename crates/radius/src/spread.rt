@@ -3,37 +3,22 @@
 ghost use mathlib.Core.Path.{_≡_};
 ghost use Prim.Native.Nat.{_*_, _≤_, _<_};
 ghost use lib.ListN.{length};
-ghost use Rattle.bits.specs.Bit.{at};
-ghost use Rattle.wiring.specs.Wiring.{edgeOf};
+ghost use Rattle.bits.specs.Window.{at};
+ghost use Rattle.wiring.specs.Plan.{planOf, sideOf};
+ghost use Rattle.wiring.specs.Checking.{WiredPlan};
 ghost use Rattle.radius.specs.Spread.{spread};
-ghost use Rattle.radius.specs.Walk.{Wires, Noted, Ends, arrivals, Countable, Counted, Fresh, Walked, Summable, unevenBy, largestWalked};
+ghost use Rattle.radius.specs.Walk.{Ends, arrivals, Countable, Counted, Fresh, Walked, Summable, unevenBy, largestWalked};
 
-// The spread R of an accepted wiring.
-pub(crate) fn measured_spread(wiring: &[u8], n: usize, d: usize) -> u64
-    requires { ⌜ Wires d n (now wiring) ⌝ }
-    ensures { λ r. ⌜ r ≡ spread (edgeOf (now (wiring .entry))) n d ⌝ }
+// The spread R of an accepted plan.
+pub(crate) fn measured_spread(sheet: &[u8], n: usize, wiring: &[u8]) -> u64
+    requires { ⌜ WiredPlan (planOf (now sheet) n (now wiring)) ⌝ }
+    ensures { λ r. ⌜ r ≡ spread (sideOf (planOf (now (sheet .entry)) n (now (wiring .entry)))) ⌝ }
 {
+    let d = sheet[0] as usize;
     let mut lefts = [0u16; 32768];
     let mut rights = [0u16; 32768];
-    note_vertices(wiring, n, d, &mut lefts, &mut rights);
+    wiring::note_ends(wiring, n, d, &mut lefts, &mut rights);
     largest_unevenness(&lefts, &rights, n, d)
-}
-
-// For each entry its edge's left vertex, and for each edge its right vertex.
-fn note_vertices(wiring: &[u8], n: usize, d: usize, lefts: &mut [u16], rights: &mut [u16])
-    requires { ⌜ Wires d n (now wiring) ⌝ }
-    requires { ⌜ n * d ≤ length (now lefts) ⌝ }
-    requires { ⌜ n * d ≤ length (now rights) ⌝ }
-    ensures { λ _. ⌜ Noted (edgeOf (now (wiring .entry))) d (n * d) (now (lefts .exit)) (now (rights .exit)) ⌝ }
-{
-    let edges = n * d;
-    let mut i: usize = 0;
-    while i < edges {
-        let edge = (wiring[2 * i] as usize) * 256 + (wiring[2 * i + 1] as usize);
-        lefts[i] = (edge / d) as u16;
-        rights[edge] = (i / d) as u16;
-        i += 1;
-    }
 }
 
 // The largest sum that the walk of a left vertex gives.

@@ -1,2 +1,3 @@
 pub mod Flips
 pub mod SquarePlan
+pub mod Decoding

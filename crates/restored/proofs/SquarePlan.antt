@@ -1,143 +1,119 @@
--- The square plan with the house code: it is accepted, the sent block is a codeword of it, its margin covers three flips within two
--- sweeps, and so the guarantee restores the sent block.
-use mathlib.Core.Path.{_≡_, refl, sym, ap, ap₂, _∙_}
-use mathlib.Core.Logic.{_⊎_, inl, inr, ⊎-elim}
+-- The square plan with the house code: it is accepted, its margin covers three flips within two sweeps, and it has the codewords that the
+-- program needs.
+--   squarePlan            the plan (wiring specs Square)
+--   sentBlock             the codeword that is sent (specs Sent)
+--   zeroBlock             eight bytes of zeros: another codeword, and what an output holds before a call
+--   Received received     what is received of the sent block (specs Sent)
+-- Names: the subject first, then the fact. `square-` is about the plan, `sent-` and `zero-` about the two codewords, `received-` about a
+-- received block, `bytes-` about the bytes of a block.
+use mathlib.Core.Path.{_≡_, refl, _∙_}
 use mathlib.Core.List.{List, [], _∷_}
-use mathlib.Core.Bool.{Bool, true}
-use Prim.Native.Nat.{ℕ, zero, suc, _*_, _≤_, _<_}
+use mathlib.Core.Bool.{true}
+use Prim.Native.Nat.{ℕ, _≤_, _<_}
 use native.Mathlib.Nat.{le-refl}
 use native.Mathlib.Decide.{decLe}
 use native.Mathlib.Omega.{arith}
-use borrow.Author.Tests.{le-leb}
-use lib.Count.{ones, onesIn}
-use lib.Dec.{lit<, eqb, ltb}
-use lib.ListN.{length, getD}
-use Rattle.bits.specs.Bit.{digit, word, bitAt, pairAt, written}
-use Rattle.bits.specs.Sum.{sum, gap, flag}
-use Rattle.inner_code.specs.Reply.{Reply, done, refused, refuseIf, andThen}
-use Rattle.inner_code.specs.Code.{combination, least, someBelow, isCodeword, onesUnlessZero, fewestOnes, distance}
-use Rattle.inner_code.specs.Sheet.{degree, rowCount, rowOf, rowCheck, rowsCheck, sheetCheck}
-use Rattle.inner_code.specs.House.{houseSheet}
-use Rattle.wiring.specs.Search.{firstFailing}
-use Rattle.wiring.specs.Wiring.{edgeOf, entryCheck, entriesCheck, wiringCheck, planCheck, edgesBetween}
-use Rattle.wiring.specs.Block.{blockBytes, blockCheck, sideBit, vertexWord, satisfied, firstUnsatisfied, isCodewordBlock}
-use Rattle.wiring.proofs.Blocks.{block-back}
+use lib.Count.{ones}
+use lib.Dec.{lit<}
+use lib.ListN.{length, getD, List·getD-eq-default}
+use Rattle.bits.specs.Bit.{written}
+use Rattle.bits.specs.Search.{largest}
+use Rattle.bits.proofs.Searches.{largest-bounds}
 use Rattle.bits.proofs.Bytes.{bitAt-past}
-use Rattle.decoder.specs.Decode.{settlesAt, decodeAnswer, decodeOutput}
-use Rattle.decoder.specs.Answer.{decodeReply}
-use Rattle.decoder.specs.declared.decoding.Decoded.{Decoded}
-use Rattle.decoder.proofs.Settling.{decode-settled, decode-unsettled}
-use Rattle.radius.specs.Spread.{meeting, unevenness, largest, spread}
-use Rattle.radius.specs.Margin.{slack, stepCovered, nextBound, oneMore, chainSweeps, sweepsNamed}
-use Rattle.radius.specs.Answer.{distanceOf, spreadOf, marginOf, marginAnswer}
-use Rattle.radius.specs.Demand.{flips, Block, codewordOf, Codeword, StoppedBefore15}
-use Rattle.radius.proofs.Guarantee.{Restored, demand3}
-use Rattle.restored.specs.Plan.{squareWiring, sentBlock, settledWithin}
+use Rattle.inner_code.specs.Reply.{done}
+use Rattle.inner_code.specs.Code.{distance}
+use Rattle.inner_code.specs.Sheet.{degree, rowCount, rowOf}
+use Rattle.inner_code.specs.House.{houseSheet}
+use Rattle.wiring.specs.Plan.{edgeCount, sideOf, sideBit}
+use Rattle.wiring.specs.Wiring.{planCheck}
+use Rattle.wiring.specs.Block.{blockBytes, isCodewordBlock, Block, Codeword}
+use Rattle.wiring.specs.Square.{squareWiring, squarePlan}
+use Rattle.wiring.proofs.Blocks.{block-back}
+use Rattle.radius.specs.Spread.{spread}
+use Rattle.radius.specs.Answer.{marginAnswer}
+use Rattle.radius.specs.Demand.{flips}
+use Rattle.restored.specs.Flip.{Flipped}
+use Rattle.restored.specs.Sent.{sentBlock, Received}
+use Rattle.restored.proofs.Flips.{flips-none}
 
-square-accepted : planCheck houseSheet 8 squareWiring ≡ done []
-unfolding planCheck sheetCheck refuseIf andThen rowsCheck rowCheck isCodeword someBelow combination digit degree rowCount rowOf pairAt houseSheet wiringCheck entriesCheck entryCheck edgeOf squareWiring
+-- ---- the plan
+
+pub square-accepted : planCheck squarePlan ≡ done []
+unfolding planCheck houseSheet squareWiring
 square-accepted = refl
 
-square-margin : marginAnswer houseSheet 8 squareWiring 3 ≡ done (2 ∷ [])
-unfolding marginAnswer marginOf distanceOf spreadOf distance fewestOnes least onesUnlessZero ones onesIn sum gap flag edgesBetween meeting unevenness largest spread slack stepCovered nextBound oneMore chainSweeps sweepsNamed planCheck sheetCheck refuseIf andThen rowsCheck rowCheck isCodeword someBelow combination digit degree rowCount rowOf pairAt houseSheet wiringCheck entriesCheck entryCheck edgeOf squareWiring
+pub square-margin : marginAnswer squarePlan 3 ≡ done (2 ∷ [])
+unfolding marginAnswer distance ones spread houseSheet squareWiring sideBit degree rowCount rowOf
 square-margin = refl
 
-square-degree : 8 * degree houseSheet ≡ 64
+pub square-edges : edgeCount squarePlan ≡ 64
 unfolding degree houseSheet
-square-degree = refl
+square-edges = refl
 
--- eight bytes are a block of 64 bits
-block-of-eight : (block : List ℕ) → length block ≡ 8 → blockCheck 64 block ≡ done []
+pub square-room : (output : List ℕ) → length output ≡ 8 → blockBytes (edgeCount squarePlan) ≤ length output
 unfolding blockBytes
-block-of-eight block e = block-back 64 block e (λ i h. bitAt-past block i (omega arith))
+square-room output e = rw (square-edges, e) (le-refl 8)
 
-pub sent-bytes : (k : ℕ) → getD sentBlock k 0 < 256
+-- eight bytes are a block of the plan
+square-block : (block : List ℕ) → length block ≡ 8 → ((k : ℕ) → getD block k 0 < 256) → Block (edgeCount squarePlan) block
+unfolding blockBytes
+square-block block e bytes = record { bytes = bytes; checked = rw square-edges (block-back 64 block e (λ i h. bitAt-past block i (omega arith))) }
+
+-- ---- its codewords
+
+abbrev pub zeroBlock : List ℕ
+zeroBlock = 0 ∷ 0 ∷ 0 ∷ 0 ∷ 0 ∷ 0 ∷ 0 ∷ 0 ∷ []
+
+-- every byte is below 256 if the largest is
+bytes-below : (block : List ℕ) → largest (length block) (λ k. getD block k 0) < 256 → (k : ℕ) → getD block k 0 < 256
+bytes-below block l k =
+    elim (decLe (length block) k) [
+      | yes past ↦ omega (arith, List·getD-eq-default block 0 past)
+      | no inside ↦ omega (arith, largest-bounds (length block) (λ (j : ℕ). getD block j 0) k (omega arith))
+    ]
+
+sent-sized : length sentBlock ≡ 8
 unfolding sentBlock
-sent-bytes zero = lit< tt
-sent-bytes (suc zero) = lit< tt
-sent-bytes (suc (suc zero)) = lit< tt
-sent-bytes (suc (suc (suc zero))) = lit< tt
-sent-bytes (suc (suc (suc (suc zero)))) = lit< tt
-sent-bytes (suc (suc (suc (suc (suc zero))))) = lit< tt
-sent-bytes (suc (suc (suc (suc (suc (suc zero)))))) = lit< tt
-sent-bytes (suc (suc (suc (suc (suc (suc (suc zero))))))) = lit< tt
-sent-bytes (suc (suc (suc (suc (suc (suc (suc (suc k)))))))) = lit< tt
+sent-sized = refl
 
-sent-satisfied : codewordOf houseSheet 8 squareWiring sentBlock ≡ true
-unfolding codewordOf isCodewordBlock firstUnsatisfied firstFailing satisfied isCodeword someBelow combination vertexWord word bitAt digit sideBit edgeOf pairAt degree rowCount rowOf houseSheet squareWiring sentBlock
+sent-bytes : (k : ℕ) → getD sentBlock k 0 < 256
+unfolding sentBlock largest
+sent-bytes = bytes-below sentBlock (lit< tt)
+
+zero-bytes : (k : ℕ) → getD zeroBlock k 0 < 256
+unfolding largest
+zero-bytes = bytes-below zeroBlock (lit< tt)
+
+sent-satisfied : isCodewordBlock (sideOf squarePlan) sentBlock ≡ true
+unfolding isCodewordBlock houseSheet squareWiring sideBit degree rowCount rowOf sentBlock
 sent-satisfied = refl
 
-sent-codeword : Codeword houseSheet 8 squareWiring sentBlock
-unfolding sentBlock
-sent-codeword =
-    record {
-      block-of = record { bytes = sent-bytes; checked = rw square-degree (block-of-eight sentBlock refl) };
-      satisfied = sent-satisfied;
-    }
+pub sent-codeword : Codeword squarePlan sentBlock
+sent-codeword = record { block-of = square-block sentBlock sent-sized sent-bytes; satisfied-all = sent-satisfied }
 
-eight-bytes : blockBytes 64 ≤ 8
-unfolding blockBytes
-eight-bytes = le-refl 8
-
--- the decoder is called with nothing that a row before 15 stops
-never-stopped : (received output : List ℕ) → length received ≡ 8 → length output ≡ 8
-    → StoppedBefore15 (decodeAnswer houseSheet 8 squareWiring received output 2) → ⊥
-never-stopped received output er eo s =
-    elim (decLe (settlesAt houseSheet 8 squareWiring received 2) 2) [
-      | yes h ↦ settles (decode-settled houseSheet 8 squareWiring received output 2 square-accepted pass room (omega arith) _ refl h .answer)
-      | no h ↦ stays (decode-unsettled houseSheet 8 squareWiring received output 2 square-accepted pass room (omega arith) (omega arith) .answer)
-    ]
-  where
-    pass : blockCheck (8 * degree houseSheet) received ≡ done []
-    pass = rw square-degree (block-of-eight received er)
-
-    room : blockBytes (8 * degree houseSheet) ≤ length output
-    room = rw (square-degree, eo) eight-bytes
-
-    settles : {count : ℕ} → decodeAnswer houseSheet 8 squareWiring received output 2 ≡ done (count ∷ []) → ⊥
-    settles e = let q = s .stops in let z : _≡_ {A = ℕ} 0 1 = cc in omega arith
-
-    stays : decodeAnswer houseSheet 8 squareWiring received output 2 ≡ refused 15 0 → ⊥
-    stays e = let q = s .stops in let z : s .number ≡ 15 = cc in omega (arith, s .early)
-
-pub square-restored : (received output : List ℕ) → length received ≡ 8 → length output ≡ 8 → ((k : ℕ) → getD received k 0 < 256)
-    → flips 64 sentBlock received ≤ 3 → Restored houseSheet 8 squareWiring sentBlock received output 2 2
-square-restored received output er eo bytes few =
-    demand3 houseSheet 8 squareWiring sentBlock received output 3 2 2 sent-codeword bytes (rw square-degree few) square-margin (omega arith)
-    (never-stopped received output er eo)
-
--- ---- what the program expects
-
-pub settled-within : (r : Decoded) (count q : ℕ) → decodeReply r ≡ done (count ∷ []) → count ≤ q → settledWithin r q ≡ true
-settled-within (Decoded.Settled s) count q e l = let same : s ≡ count = cc in le-leb s q (omega arith)
-settled-within (Decoded.Refused f) count q e l = let z : _≡_ {A = ℕ} 0 1 = cc in absurd (omega arith)
-
-pub written-eight : (front : List ℕ) → front ≡ sentBlock → written front (0 ∷ 0 ∷ 0 ∷ 0 ∷ 0 ∷ 0 ∷ 0 ∷ 0 ∷ []) ≡ sentBlock
+pub sent-written : written sentBlock zeroBlock ≡ sentBlock
 unfolding written sentBlock
-written-eight front e = ap (λ (l : List ℕ). written l (0 ∷ 0 ∷ 0 ∷ 0 ∷ 0 ∷ 0 ∷ 0 ∷ 0 ∷ [])) e
+sent-written = refl
 
--- a decoder call on the built-in plan, with at most three bits flipped
-pub record Called (sheet wiring sent received output : List ℕ) (r : Decoded) (left : List ℕ) : Type 0 where
-  pub sheet-is : sheet ≡ houseSheet
-  pub wiring-is : wiring ≡ squareWiring
-  pub sent-is : sent ≡ sentBlock
-  pub sized : length received ≡ 8
-  pub room : length output ≡ 8
-  pub bytes : (k : ℕ) → getD received k 0 < 256
-  pub few : flips 64 sent received ≤ 3
-  pub answer : decodeReply r ≡ decodeAnswer sheet 8 wiring received output 2
-  pub leaves : left ≡ decodeOutput sheet 8 wiring received output 2
+zero-satisfied : isCodewordBlock (sideOf squarePlan) zeroBlock ≡ true
+unfolding isCodewordBlock houseSheet squareWiring sideBit degree rowCount rowOf
+zero-satisfied = refl
 
-module _ {sheet wiring sent received output : List ℕ} {r : Decoded} {left : List ℕ} (call : Called sheet wiring sent received output r left) where
-  restored-call : Restored houseSheet 8 squareWiring sentBlock received output 2 2
-  restored-call = square-restored received output (call .sized) (call .room) (call .bytes) (rw (← call .sent-is) (call .few))
+pub zero-codeword : Codeword squarePlan zeroBlock
+zero-codeword = record { block-of = square-block zeroBlock refl zero-bytes; satisfied-all = zero-satisfied }
 
-  pub call-within : settledWithin r 2 ≡ true
-  call-within =
-      settled-within r (restored-call .count) 2
-      (call .answer ∙ ap₂ (λ (s w : List ℕ). decodeAnswer s 8 w received output 2) (call .sheet-is) (call .wiring-is) ∙ restored-call .answer)
-      (restored-call .within)
+pub zero-another : zeroBlock ≡ sentBlock → ⊥
+unfolding sentBlock
+zero-another e = let z : _≡_ {A = ℕ} 0 15 = cc in omega arith
 
-  pub call-restores : left ≡ written sentBlock output
-  call-restores =
-      call .leaves ∙ ap₂ (λ (s w : List ℕ). decodeOutput s 8 w received output 2) (call .sheet-is) (call .wiring-is) ∙ restored-call .restored
+-- ---- a received block
+
+pub received-flipped : {received : List ℕ} → length received ≡ length sentBlock → Flipped sentBlock sentBlock received 3 → Received received
+received-flipped kept flipped =
+    record { sized = kept ∙ sent-sized; bytes = flipped .bytes sent-bytes; few = omega (arith, flipped .few, flips-none 64 sentBlock) }
+
+pub received-block : {received : List ℕ} → Received received → Block (edgeCount squarePlan) received
+received-block {received} r = square-block received (r .sized) (r .bytes)
+
+pub received-few : {received : List ℕ} → Received received → flips (edgeCount squarePlan) sentBlock received ≤ 3
+received-few r = rw square-edges (r .few)

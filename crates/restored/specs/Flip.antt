@@ -1,4 +1,4 @@
--- What flipping does to a block of 64 bits.
+-- What flipping does to a block of 64 bits: none of this is needed to believe a contract of a service.
 --   Flipped sent before after most   the block is at most `most` bits further from the sent one, and bytes stay bytes
 use Prim.Native.Nat.{ℕ, _+_, _≤_, _<_}
 use mathlib.Core.List.{List}

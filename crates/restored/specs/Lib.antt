@@ -1,2 +1,3 @@
-pub mod Plan
 pub mod Flip
+pub mod Sent
+pub mod Outcome

@@ -1,9 +1,22 @@
-// The built-in plan.
+// The square plan with the house code, and a codeword of it.
+use decoder::Decoded;
 ghost use mathlib.Core.Path.{_≡_};
-ghost use Rattle.restored.specs.Plan.{squareWiring, sentBlock};
+ghost use Rattle.wiring.specs.Square.{squareWiring, squarePlan};
+ghost use Rattle.decoder.specs.Answer.{decodeAnswer, decodeOutput, decodeReply};
+ghost use Rattle.restored.specs.Sent.{sentBlock};
+
+// The decoder on the square plan.
+pub fn decode(received: &[u8], output: &mut [u8], limit: usize) -> Decoded
+    ensures { λ r. ⌜ decodeReply r ≡ decodeAnswer squarePlan (now (received .entry)) (now (output .entry)) limit ⌝ }
+    ensures { λ _. ⌜ now (output .exit) ≡ decodeOutput squarePlan (now (received .entry)) (now (output .entry)) limit ⌝ }
+{
+    let sheet = inner_code::HouseCode::sheet();
+    let wiring = square_wiring();
+    decoder::decode(&sheet, 8, &wiring, received, output, limit)
+}
 
 // The square plan's wiring: n = d = 8, entry v * 8 + j is edge 8 * j + v.
-pub fn square_wiring() -> [u8; 128]
+fn square_wiring() -> [u8; 128]
     ensures { λ r. ⌜ r ≡ squareWiring ⌝ }
 {
     [

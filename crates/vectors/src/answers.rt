@@ -9,6 +9,7 @@ use messages::Taken;
 use radius::Margin;
 use radius::Spread;
 use wiring::Located;
+use wiring::SideName;
 
 // Reads the fields of a record and writes what the service answers.
 pub fn answer(service: u8) {
@@ -102,11 +103,10 @@ fn locate(sheet: &[u8], n: usize, wiring: &[u8], block: &[u8]) {
         Located::Nowhere => {
             output::text(b"ok none");
         }
-        Located::At { right, vertex } => {
-            if right {
-                output::text(b"ok right ");
-            } else {
-                output::text(b"ok left ");
+        Located::At { side, vertex } => {
+            match side {
+                SideName::Left => output::text(b"ok left "),
+                SideName::Right => output::text(b"ok right "),
             }
             output::number(vertex as u64);
         }

@@ -1,11 +1,12 @@
--- Blocks: what refusals 11 and 12 leave.
---   blockBytes N          the length of a block of N bits (specs Block)
---   blockCheck N block    11 and 12, or done with no value (specs Block)
---   bitAt block i         bit i of the block, 0 past its end (bits specs Bit)
---   strayBit N block      some bit of the block's bytes at N or after is 1: the test of 12
--- Laws are named by their subject, then by the fact: `block-` is about the outcome of the check and a block that
--- passes it, `bytes-` about the number of bytes, `stray-` about the test of 12 as the code makes it, on the last byte alone. At the end of a name, `-back`
--- leads from the facts to the check, `-ext` is equality from the bits.
+-- Strings of N bits, blocks among them: what their two refusals leave.
+--   blockBytes N               the length of a block of N bits (specs Block)
+--   bitsCheck a b N bytes      refused a for another length, b for a bit after N - 1 that is set, or done with no value (specs Block)
+--   blockCheck N block         the same with 11 and 12 (specs Block)
+--   bitAt bytes i              bit i, 0 past the end (bits specs Bit)
+--   strayBit N bytes           some bit of the bytes at N or after is 1: the test of the second refusal
+-- Laws are named by their subject, then by the fact: `bits-` is about the outcome of the check and a string that passes it, `block-` about
+-- a block, `bytes-` about the number of bytes, `stray-` about the second test as the code makes it, on the last byte alone. At the end of
+-- a name, `-back` leads from the facts to the check, `-ext` is equality from the bits.
 use Prim.Native.Nat.{ℕ, _+_, _-_, _*_, _/_, _%_, _^_, _≤_, _<_}
 use mathlib.Core.Bool.{Bool, true, false, not, _&&_, and-false}
 use mathlib.Core.List.{List, []}
@@ -23,33 +24,23 @@ use Rattle.bits.proofs.Xor.{digit-ext, digit-zero}
 use Rattle.bits.proofs.Windows.{digit-low}
 use Rattle.bits.proofs.Bytes.{bitAt-lt, bitAt-past, bitAt-byte, bitAt-ext}
 use Rattle.inner_code.specs.Reply.{done, refused, refuseIf}
-use Rattle.inner_code.specs.Code.{someBelow}
+use Rattle.bits.specs.Search.{someBelow}
 use Rattle.inner_code.proofs.Replies.{refuse-taken, refuse-passed, refuse-done}
-use Rattle.wiring.specs.Block.{blockBytes, blockCheck}
-use Rattle.inner_code.proofs.Least.{none-below, none-below-each}
+use Rattle.wiring.specs.Block.{blockBytes, bitsCheck, blockCheck, Block}
+use Rattle.bits.proofs.Searches.{none-below, none-below-each}
 
 abbrev pub strayBit : ℕ → List ℕ → Bool
-strayBit N block = someBelow (length block * 8) (λ i. leb N i && eqb (bitAt block i) 1)
-
-block-tests : (N : ℕ) (block : List ℕ)
-    → blockCheck N block ≡ refuseIf (not (eqb (length block) (blockBytes N))) 11 0 (refuseIf (strayBit N block) 12 0 (done []))
-unfolding blockCheck
-block-tests N block = refl
+strayBit N bytes = someBelow (length bytes * 8) (λ i. leb N i && eqb (bitAt bytes i) 1)
 
 pub bytes-cover : (N i : ℕ) → i < N → i < blockBytes N * 8
 unfolding blockBytes
 bytes-cover N i l = omega arith
 
--- ---- the check
+pub bytes-hold : (N : ℕ) → N ≤ blockBytes N * 8
+unfolding blockBytes
+bytes-hold N = omega arith
 
-passed : {values : List ℕ} (N : ℕ) (block : List ℕ) → blockCheck N block ≡ done values
-    → (length block ≡ blockBytes N) × (strayBit N block ≡ false)
-passed {values} N block e =
-    let (fits, rest) = refuse-done _ 11 0 _ values (sym (block-tests N block) ∙ e) in
-    (eqb-true _ _ (not-false _ fits), refuse-done _ 12 0 _ values rest .0)
-
-pub block-sized : {values : List ℕ} (N : ℕ) (block : List ℕ) → blockCheck N block ≡ done values → length block ≡ blockBytes N
-block-sized N block e = passed N block e .0
+-- ---- the second test
 
 -- the test of 12 fails exactly if every bit at N or after is 0
 stray-clear : (N : ℕ) (block : List ℕ) → strayBit N block ≡ false → (i : ℕ) → N ≤ i → bitAt block i ≡ 0
@@ -64,31 +55,6 @@ stray-clear N block e i h =
 clear-stray : (N : ℕ) (block : List ℕ) → ((i : ℕ) → N ≤ i → i < length block * 8 → bitAt block i ≡ 0) → strayBit N block ≡ false
 clear-stray N block clear =
     none-below _ _ (λ i l. elim (decLe N i) [ yes h ↦ rw (clear i h l) (and-false (leb N i)) | no h ↦ rw (lt-leb N i (omega arith)) ])
-
-pub block-clear : {values : List ℕ} (N : ℕ) (block : List ℕ) → blockCheck N block ≡ done values → (i : ℕ) → N ≤ i → bitAt block i ≡ 0
-block-clear N block e = stray-clear N block (passed N block e .1)
-
-pub block-unsized : (N : ℕ) (block : List ℕ) → length block ≢ blockBytes N → blockCheck N block ≡ refused 11 0
-block-unsized N block other = block-tests N block ∙ refuse-taken _ 11 0 _ (ap not (ne-eqb _ _ other))
-
--- a block of the right length is refused or passes by the test of 12
-past-length : (N : ℕ) (block : List ℕ) → length block ≡ blockBytes N → blockCheck N block ≡ refuseIf (strayBit N block) 12 0 (done [])
-past-length N block fits = block-tests N block ∙ refuse-passed _ 11 0 _ (ap not (eq-eqb _ _ fits))
-
-pub block-stray : (N : ℕ) (block : List ℕ) → length block ≡ blockBytes N → strayBit N block ≡ true → blockCheck N block ≡ refused 12 0
-block-stray N block fits some = past-length N block fits ∙ refuse-taken _ 12 0 _ some
-
-pub block-passed : (N : ℕ) (block : List ℕ) → length block ≡ blockBytes N → strayBit N block ≡ false → blockCheck N block ≡ done []
-block-passed N block fits none = past-length N block fits ∙ refuse-passed _ 12 0 _ none
-
-pub block-back : (N : ℕ) (block : List ℕ) → length block ≡ blockBytes N → ((i : ℕ) → N ≤ i → bitAt block i ≡ 0) → blockCheck N block ≡ done []
-block-back N block fits clear = block-passed N block fits (clear-stray N block (λ i h l. clear i h))
-
-pub block-ext : (N : ℕ) (a b : List ℕ) → blockCheck N a ≡ done [] → blockCheck N b ≡ done []
-    → ((k : ℕ) → getD a k 0 < 256) → ((k : ℕ) → getD b k 0 < 256) → ((i : ℕ) → i < N → bitAt a i ≡ bitAt b i) → a ≡ b
-block-ext N a b pass-a pass-b small-a small-b same =
-    bitAt-ext a b (block-sized N a pass-a ∙ sym (block-sized N b pass-b)) small-a small-b
-    (λ i l. elim (decLe N i) [ yes h ↦ block-clear N a pass-a i h ∙ sym (block-clear N b pass-b i h) | no h ↦ same i (omega arith) ])
 
 -- ---- the test of 12 on the last byte
 
@@ -112,15 +78,76 @@ stray-some N block low = go (strayBit N block) refl
         (λ j l. digit-low _ (8 - N % 8) j l ∙ sym (bitAt-byte block (N / 8) j (omega arith))
         ∙ stray-clear N block e (N / 8 * 8 + (7 - j)) (omega arith) ∙ sym (digit-zero j))))
 
--- ---- the outcome by the last byte, of which `spare` is the weight of bit N - 1: what lies below it comes after that bit
+-- ---- the check
 
-module _ (N : ℕ) (block : List ℕ) (fits : length block ≡ blockBytes N) where
-  pub block-whole : N % 8 ≡ 0 → blockCheck N block ≡ done []
-  block-whole whole = block-passed N block fits (stray-none N block fits (inl whole))
+module _ (a b N : ℕ) (bytes : List ℕ) where
+  bits-tests : bitsCheck a b N bytes ≡ refuseIf (not (eqb (length bytes) (blockBytes N))) a 0 (refuseIf (strayBit N bytes) b 0 (done []))
+  unfolding bitsCheck
+  bits-tests = refl
 
-  pub block-low-clear : (spare : ℕ) → spare ≡ 2 ^ (8 - N % 8) → getD block (N / 8) 0 % spare ≡ 0 → blockCheck N block ≡ done []
-  block-low-clear spare s low =
-      block-passed N block fits (stray-none N block fits (inr (ap (λ (m : ℕ). getD block (N / 8) 0 % m) (sym s) ∙ low)))
+  bits-passed : {values : List ℕ} → bitsCheck a b N bytes ≡ done values → (length bytes ≡ blockBytes N) × (strayBit N bytes ≡ false)
+  bits-passed {values} e =
+      let (fits, rest) = refuse-done _ a 0 _ values (sym bits-tests ∙ e) in
+      (eqb-true _ _ (not-false _ fits), refuse-done _ b 0 _ values rest .0)
 
-  pub block-low-set : (spare : ℕ) → spare ≡ 2 ^ (8 - N % 8) → getD block (N / 8) 0 % spare ≢ 0 → blockCheck N block ≡ refused 12 0
-  block-low-set spare s low = block-stray N block fits (stray-some N block (λ z. low (ap (λ (m : ℕ). getD block (N / 8) 0 % m) s ∙ z)))
+  pub bits-sized : {values : List ℕ} → bitsCheck a b N bytes ≡ done values → length bytes ≡ blockBytes N
+  bits-sized e = bits-passed e .0
+
+  pub bits-clear : {values : List ℕ} → bitsCheck a b N bytes ≡ done values → (i : ℕ) → N ≤ i → bitAt bytes i ≡ 0
+  bits-clear e = stray-clear N bytes (bits-passed e .1)
+
+  pub bits-unsized : length bytes ≢ blockBytes N → bitsCheck a b N bytes ≡ refused a 0
+  bits-unsized other = bits-tests ∙ refuse-taken _ a 0 _ (ap not (ne-eqb _ _ other))
+
+  -- a string of the right length is refused or passes by the second test
+  past-length : length bytes ≡ blockBytes N → bitsCheck a b N bytes ≡ refuseIf (strayBit N bytes) b 0 (done [])
+  past-length fits = bits-tests ∙ refuse-passed _ a 0 _ (ap not (eq-eqb _ _ fits))
+
+  bits-stray : length bytes ≡ blockBytes N → strayBit N bytes ≡ true → bitsCheck a b N bytes ≡ refused b 0
+  bits-stray fits some = past-length fits ∙ refuse-taken _ b 0 _ some
+
+  bits-plain : length bytes ≡ blockBytes N → strayBit N bytes ≡ false → bitsCheck a b N bytes ≡ done []
+  bits-plain fits none = past-length fits ∙ refuse-passed _ b 0 _ none
+
+  pub bits-back : length bytes ≡ blockBytes N → ((i : ℕ) → N ≤ i → bitAt bytes i ≡ 0) → bitsCheck a b N bytes ≡ done []
+  bits-back fits clear = bits-plain fits (clear-stray N bytes (λ i h l. clear i h))
+
+  -- ---- the outcome by the last byte, of which `spare` is the weight of bit N - 1: what lies below it comes after that bit
+
+  module _ (fits : length bytes ≡ blockBytes N) where
+    pub bits-whole : N % 8 ≡ 0 → bitsCheck a b N bytes ≡ done []
+    bits-whole whole = bits-plain fits (stray-none N bytes fits (inl whole))
+
+    pub bits-low-clear : (spare : ℕ) → spare ≡ 2 ^ (8 - N % 8) → getD bytes (N / 8) 0 % spare ≡ 0 → bitsCheck a b N bytes ≡ done []
+    bits-low-clear spare s low =
+        bits-plain fits (stray-none N bytes fits (inr (ap (λ (m : ℕ). getD bytes (N / 8) 0 % m) (sym s) ∙ low)))
+
+    pub bits-low-set : (spare : ℕ) → spare ≡ 2 ^ (8 - N % 8) → getD bytes (N / 8) 0 % spare ≢ 0 → bitsCheck a b N bytes ≡ refused b 0
+    bits-low-set spare s low = bits-stray fits (stray-some N bytes (λ z. low (ap (λ (m : ℕ). getD bytes (N / 8) 0 % m) s ∙ z)))
+
+-- a refusal of the check is one of its two
+pub bits-number : (a b N : ℕ) (bytes : List ℕ) {number place : ℕ} → bitsCheck a b N bytes ≡ refused number place → (number ≡ a) ⊎ (number ≡ b)
+unfolding bitsCheck refuseIf
+bits-number a b N bytes = go (not (eqb (length bytes) (blockBytes N))) (strayBit N bytes)
+  where
+    go : (s t : Bool) {number place : ℕ} → refuseIf s a 0 (refuseIf t b 0 (done [])) ≡ refused number place → (number ≡ a) ⊎ (number ≡ b)
+    go true t e = inl (cc)
+    go false true e = inr (cc)
+    go false false e = let z : _≡_ {A = ℕ} 0 1 = cc in absurd (omega arith)
+
+-- ---- blocks
+
+module _ (N : ℕ) (block : List ℕ) where
+  pub block-sized : {values : List ℕ} → blockCheck N block ≡ done values → length block ≡ blockBytes N
+  block-sized = bits-sized 11 12 N block
+
+  pub block-clear : {values : List ℕ} → blockCheck N block ≡ done values → (i : ℕ) → N ≤ i → bitAt block i ≡ 0
+  block-clear = bits-clear 11 12 N block
+
+  pub block-back : length block ≡ blockBytes N → ((i : ℕ) → N ≤ i → bitAt block i ≡ 0) → blockCheck N block ≡ done []
+  block-back = bits-back 11 12 N block
+
+pub block-ext : (N : ℕ) (a b : List ℕ) → Block N a → Block N b → ((i : ℕ) → i < N → bitAt a i ≡ bitAt b i) → a ≡ b
+block-ext N a b r s same =
+    bitAt-ext a b (block-sized N a (r .checked) ∙ sym (block-sized N b (s .checked))) (r .bytes) (s .bytes)
+    (λ i l. elim (decLe N i) [ yes h ↦ block-clear N a (r .checked) i h ∙ sym (block-clear N b (s .checked) i h) | no h ↦ same i (omega arith) ])

@@ -1,103 +1,111 @@
 -- Codeword blocks: every vertex of both sides reads an inner codeword.
---   satisfied row k bit d block v          vertex v reads an inner codeword (specs Block)
---   firstUnsatisfied row k bit d n block   the first vertex of a side that does not, n where all do (specs Block)
---   isCodewordBlock row k d n edge block   every vertex, left and right, reads one (specs Block)
---   located row k d n edge block           the locator: no value, or the side and the first unsatisfied vertex (specs Block)
---   sideBit right edge                     the bits of the left side (right is false) or the right side (specs Block)
+--   satisfied side block v        vertex v reads an inner codeword (specs Block)
+--   firstUnsatisfied side block   the first vertex of a side that does not, n where all do (specs Block)
+--   isCodewordBlock sides block   every vertex, left and right, reads one (specs Block)
+--   located sides block           the locator: no value, or the side and the first unsatisfied vertex (specs Block)
+--   Whole N side                  the entries of a side are the bits 0 .. N - 1, each once (Permutation)
 -- Laws are named by their subject, then by the fact: `unsatisfied-` is about the first vertex of one side, `codeword-block-` about
 -- the test of a block, `located-` about the locator. At the end of a name, `-each` leads from the test to every vertex, `-back`
 -- from every vertex to the test, `-ext` says that equal bits give equal answers, `-tests` writes a definition out.
-use Prim.Native.Nat.{ℕ, _+_, _*_, _≤_, _<_}
-use mathlib.Core.Bool.{Bool, true, false, cond, _&&_, false≢true}
+use Prim.Native.Nat.{ℕ, _≤_, _<_}
+use mathlib.Core.Bool.{Bool, true, false, cond, _&&_}
 use mathlib.Core.List.{List, [], _∷_}
 use mathlib.Core.Path.{_≡_, refl, sym, ap, ap₂, _∙_}
 use native.Mathlib.Nat.{le-antisymm}
 use native.Mathlib.Omega.{arith}
-use lib.Arith.{digits-lt}
 use lib.Dec.{ltb, eqb}
 use borrow.Author.Tests.{le-ltb, ltb-false, eqb-true, eq-eqb}
 use Rattle.bits.specs.Bit.{bitAt}
 use Rattle.inner_code.specs.Code.{isCodeword}
-use Rattle.wiring.specs.Block.{sideBit, satisfied, firstUnsatisfied, isCodewordBlock, located}
-use Rattle.wiring.proofs.Searches.{first-le, first-all, first-all-each, first-ext}
-use Rattle.wiring.proofs.Permutation.{side-below}
+use Rattle.bits.proofs.Tests.{and-both}
+use Rattle.wiring.specs.Plan.{Side, left, right}
+use Rattle.wiring.specs.Block.{satisfied, firstUnsatisfied, isCodewordBlock, located}
+use Rattle.wiring.specs.declared.side.SideName.{SideName}
+use Rattle.bits.proofs.Searches.{first-le, first-all, first-all-each, first-ext}
+use Rattle.wiring.proofs.Permutation.{Whole, entry-lt}
 use Rattle.wiring.proofs.VertexWords.{vertex-ext}
 
 -- ---- one side
 
-pub unsatisfied-ext : (row : ℕ → ℕ) (k : ℕ) (bit : ℕ → ℕ) (d n : ℕ) (a b : List ℕ)
-    → ((i : ℕ) → i < n * d → bitAt a (bit i) ≡ bitAt b (bit i)) → firstUnsatisfied row k bit d n a ≡ firstUnsatisfied row k bit d n b
+pub unsatisfied-ext : {N : ℕ} {side : Side} → Whole N side → (a b : List ℕ) → ((e : ℕ) → e < N → bitAt a e ≡ bitAt b e)
+    → firstUnsatisfied side a ≡ firstUnsatisfied side b
 unfolding firstUnsatisfied satisfied
-unsatisfied-ext row k bit d n a b same =
-    first-ext n _ _ (λ v l. ap (isCodeword row k) (vertex-ext bit d a b v (λ j h. same (v * d + j) (digits-lt l h))))
+unsatisfied-ext {side = side} w a b same =
+    first-ext (side .n) _ _
+    (λ v l. ap (isCodeword (side .row) (side .k)) (vertex-ext side a b v (λ j h. same _ (w .bit-lt _ (entry-lt w v j l h)))))
 
 -- ---- both sides
 
-both : (a b : Bool) → (a && b) ≡ true → (a ≡ true) × (b ≡ true)
-both true b e = (refl, e)
-both false b e = absurd (false≢true e)
-
--- a locator that gives no value has found no vertex f on the left and no vertex g on the right
-located-empty : (f g n : ℕ) → cond (ltb f n) (0 ∷ f ∷ []) (cond (ltb g n) (1 ∷ g ∷ []) []) ≡ [] → (n ≤ f) × (n ≤ g)
-located-empty f g n = go (ltb f n) (ltb g n) refl refl
+-- a locator that gives no value has found no vertex f of m on the left and no vertex g of n on the right
+located-empty : (f m g n : ℕ) → cond (ltb f m) (0 ∷ f ∷ []) (cond (ltb g n) (1 ∷ g ∷ []) []) ≡ [] → (m ≤ f) × (n ≤ g)
+located-empty f m g n = go (ltb f m) (ltb g n) refl refl
   where
-    go : (s t : Bool) → ltb f n ≡ s → ltb g n ≡ t → cond s (0 ∷ f ∷ []) (cond t (1 ∷ g ∷ []) []) ≡ [] → (n ≤ f) × (n ≤ g)
+    go : (s t : Bool) → ltb f m ≡ s → ltb g n ≡ t → cond s (0 ∷ f ∷ []) (cond t (1 ∷ g ∷ []) []) ≡ [] → (m ≤ f) × (n ≤ g)
     go true t p q e = let z : _≡_ {A = ℕ} 0 1 = cc in absurd (omega arith)
     go false true p q e = let z : _≡_ {A = ℕ} 0 1 = cc in absurd (omega arith)
-    go false false p q e = (ltb-false f n p, ltb-false g n q)
+    go false false p q e = (ltb-false f m p, ltb-false g n q)
 
-module _ (row : ℕ → ℕ) (k d n : ℕ) (edge : ℕ → ℕ) where
-  abbrev unsatisfied : List ℕ → Bool → ℕ
-  unsatisfied block right = firstUnsatisfied row k (sideBit right edge) d n block
+module _ (sides : SideName → Side) where
+  abbrev unsatisfied : List ℕ → SideName → ℕ
+  unsatisfied block name = firstUnsatisfied (sides name) block
 
   codeword-block-tests : (block : List ℕ)
-      → isCodewordBlock row k d n edge block ≡ (eqb (unsatisfied block false) n && eqb (unsatisfied block true) n)
+      → isCodewordBlock sides block ≡ (eqb (unsatisfied block left) (sides left .n) && eqb (unsatisfied block right) (sides right .n))
   unfolding isCodewordBlock
   codeword-block-tests block = refl
 
   located-tests : (block : List ℕ)
-      → located row k d n edge block
-      ≡ cond (ltb (unsatisfied block false) n) (0 ∷ unsatisfied block false ∷ [])
-      (cond (ltb (unsatisfied block true) n) (1 ∷ unsatisfied block true ∷ []) [])
+      → located sides block
+      ≡ cond (ltb (unsatisfied block left) (sides left .n)) (0 ∷ unsatisfied block left ∷ [])
+      (cond (ltb (unsatisfied block right) (sides right .n)) (1 ∷ unsatisfied block right ∷ []) [])
   unfolding located
   located-tests block = refl
 
   -- a codeword block is one on whose sides no vertex is found
-  none-found : (block : List ℕ) → isCodewordBlock row k d n edge block ≡ true → (right : Bool) → unsatisfied block right ≡ n
-  none-found block e right =
-      let (l, r) = both (eqb (unsatisfied block false) n) _ (sym (codeword-block-tests block) ∙ e) in
-      elim right [ false ↦ eqb-true _ n l | true ↦ eqb-true _ n r ]
-
-  none-found-back : (block : List ℕ) → ((right : Bool) → unsatisfied block right ≡ n) → isCodewordBlock row k d n edge block ≡ true
-  none-found-back block none = codeword-block-tests block ∙ ap₂ _&&_ (eq-eqb _ n (none false)) (eq-eqb _ n (none true))
-
-  pub codeword-block-each : (block : List ℕ) → isCodewordBlock row k d n edge block ≡ true
-      → (right : Bool) (v : ℕ) → v < n → satisfied row k (sideBit right edge) d block v ≡ true
-  unfolding firstUnsatisfied
-  codeword-block-each block e right = first-all-each n _ (none-found block e right)
-
-  pub codeword-block-back : (block : List ℕ)
-      → ((right : Bool) (v : ℕ) → v < n → satisfied row k (sideBit right edge) d block v ≡ true) → isCodewordBlock row k d n edge block ≡ true
-  unfolding firstUnsatisfied
-  codeword-block-back block all = none-found-back block (λ right. first-all n _ (all right))
-
-  pub codeword-block-ext : ((i : ℕ) → i < n * d → edge i < n * d) → (a b : List ℕ) → ((e : ℕ) → e < n * d → bitAt a e ≡ bitAt b e)
-      → isCodewordBlock row k d n edge a ≡ isCodewordBlock row k d n edge b
-  codeword-block-ext below a b same =
-      codeword-block-tests a ∙ ap₂ _&&_ (side false) (side true) ∙ sym (codeword-block-tests b)
+  none-found : (block : List ℕ) → isCodewordBlock sides block ≡ true → (name : SideName) → unsatisfied block name ≡ sides name .n
+  none-found block e = go
     where
-      side : (right : Bool) → eqb (unsatisfied a right) n ≡ eqb (unsatisfied b right) n
-      side right =
-          ap (λ (f : ℕ). eqb f n)
-          (unsatisfied-ext row k (sideBit right edge) d n a b (λ i l. same _ (side-below (n * d) edge below right i l)))
+      both : (eqb (unsatisfied block left) (sides left .n) ≡ true) × (eqb (unsatisfied block right) (sides right .n) ≡ true)
+      both = and-both _ _ (sym (codeword-block-tests block) ∙ e)
 
-  pub located-none : (block : List ℕ) → isCodewordBlock row k d n edge block ≡ true → located row k d n edge block ≡ []
-  located-none block e =
-      let past : (right : Bool) → ltb (unsatisfied block right) n ≡ false = λ right. le-ltb _ n (omega (arith, none-found block e right)) in
-      located-tests block ∙ rw (past false, past true)
+      go : (name : SideName) → unsatisfied block name ≡ sides name .n
+      go SideName.Left = eqb-true _ _ (both .0)
+      go SideName.Right = eqb-true _ _ (both .1)
 
-  pub located-some : (block : List ℕ) → located row k d n edge block ≡ [] → isCodewordBlock row k d n edge block ≡ true
+  none-found-back : (block : List ℕ) → ((name : SideName) → unsatisfied block name ≡ sides name .n) → isCodewordBlock sides block ≡ true
+  none-found-back block none = codeword-block-tests block ∙ ap₂ _&&_ (eq-eqb _ _ (none left)) (eq-eqb _ _ (none right))
+
+  pub codeword-block-each : (block : List ℕ) → isCodewordBlock sides block ≡ true
+      → (name : SideName) (v : ℕ) → v < sides name .n → satisfied (sides name) block v ≡ true
   unfolding firstUnsatisfied
-  located-some block e =
-      let (l, r) = located-empty (unsatisfied block false) _ n (sym (located-tests block) ∙ e) in
-      none-found-back block (λ right. le-antisymm (first-le n _) (elim right [ false ↦ l | true ↦ r ]))
+  codeword-block-each block e name = first-all-each (sides name .n) _ (none-found block e name)
+
+  pub codeword-block-back : (block : List ℕ) → ((name : SideName) (v : ℕ) → v < sides name .n → satisfied (sides name) block v ≡ true)
+      → isCodewordBlock sides block ≡ true
+  unfolding firstUnsatisfied
+  codeword-block-back block all = none-found-back block (λ name. first-all (sides name .n) _ (all name))
+
+  pub codeword-block-ext : {N : ℕ} → ((name : SideName) → Whole N (sides name)) → (a b : List ℕ) → ((e : ℕ) → e < N → bitAt a e ≡ bitAt b e)
+      → isCodewordBlock sides a ≡ isCodewordBlock sides b
+  codeword-block-ext whole a b same =
+      codeword-block-tests a ∙ ap₂ _&&_ (side left) (side right) ∙ sym (codeword-block-tests b)
+    where
+      side : (name : SideName) → eqb (unsatisfied a name) (sides name .n) ≡ eqb (unsatisfied b name) (sides name .n)
+      side name = ap (λ (f : ℕ). eqb f (sides name .n)) (unsatisfied-ext (whole name) a b same)
+
+  pub located-none : (block : List ℕ) → isCodewordBlock sides block ≡ true → located sides block ≡ []
+  located-none block e =
+      let past : (name : SideName) → ltb (unsatisfied block name) (sides name .n) ≡ false =
+      λ name. le-ltb (unsatisfied block name) (sides name .n) (omega (arith, none-found block e name)) in
+      located-tests block ∙ rw (past left, past right)
+
+  pub located-some : (block : List ℕ) → located sides block ≡ [] → isCodewordBlock sides block ≡ true
+  unfolding firstUnsatisfied
+  located-some block e = none-found-back block go
+    where
+      past : (sides left .n ≤ unsatisfied block left) × (sides right .n ≤ unsatisfied block right)
+      past = located-empty _ _ _ _ (sym (located-tests block) ∙ e)
+
+      go : (name : SideName) → unsatisfied block name ≡ sides name .n
+      go SideName.Left = le-antisymm (first-le _ _) (past .0)
+      go SideName.Right = le-antisymm (first-le _ _) (past .1)

@@ -1,55 +1,89 @@
--- The edges between the vertices of a wiring: each vertex has d of them, and sums over a vertex's edges are sums over the vertices at
--- their far ends. A wiring is accepted where `edge` (entry i of the wiring) and `place` (the entry at which an edge stands) renumber
--- the n·d edges and undo each other. Left vertex u has the edges u·d + j, right vertex v the entries v·d + j, j below d.
---   edgesBetween edge d u v      the number of edges between left vertex u and right vertex v (specs Wiring)
---   entry-below, entry-vertex    entry v·d + j is one of the n·d, and at vertex v
+-- The edges between the vertices of a wiring: each vertex has as many as its side's degree, and sums over a vertex's edges are sums over the
+-- vertices at their far ends. The sides may differ.
+--   Joined N sides               both sides have all N bits, the left one in their order (Permutation)
+--   edgesBetween sides u v       the number of edges between left vertex u and right vertex v (specs Wiring)
+--   vertexOf N side e            the vertex of a side that has bit e
+-- Laws are named by their subject, then by the fact:
+--   vertex-of-lt, vertex-of-entry  a bit's vertex is one of the side's n; that of entry v·d + j is v
 --   edges-into, edges-from       edges counted at their far ends: of a right vertex, of a left vertex
---   edges-row, edges-column      the right vertices that one left vertex meets, and the left ones that one right vertex meets: d each
+--   edges-row, edges-column      the right vertices that one left vertex meets, and the left ones that one right vertex meets
 use Prim.Native.Nat.{ℕ, _+_, _*_, _/_, _<_}
-use mathlib.Core.Path.{_≡_, sym, _∙_}
-use native.Mathlib.Nat.{add-zero, div-eq-of-lt, div-lt-iff-lt-mul, mul-add-div-right, mul-comm, mul-le-mul-right, mul-one, one-mul}
-use native.Mathlib.Omega.{arith}
+use mathlib.Core.Path.{_≡_, sym, ap, _∙_}
+use native.Mathlib.Nat.{div-lt-iff-lt-mul, mul-comm, mul-one, one-mul}
+use lib.Arith.{digits-div}
 use lib.Dec.{eqb}
 use Rattle.bits.specs.Sum.{sum, flag}
 use Rattle.bits.proofs.Sums.{flag-same, sum-at, sum-blocks, sum-const, sum-ext, sum-reindex, sum-scale, sum-scale-right, sum-swap}
+use Rattle.wiring.specs.Plan.{Side, left, right}
 use Rattle.wiring.specs.Wiring.{edgesBetween}
+use Rattle.wiring.specs.declared.side.SideName.{SideName}
+use Rattle.wiring.proofs.Permutation.{Whole, Joined, placeOf, place-bit, place-lt, bit-place, entry-lt}
 
--- ---- entries and their vertices
+abbrev pub vertexOf : ℕ → Side → ℕ → ℕ
+vertexOf N side e = placeOf N side e / side .d
 
-pub entry-below : (n d v j : ℕ) → v < n → j < d → v * d + j < n * d
-entry-below n d v j l k = omega (arith, mul-le-mul-right d l)
+module _ {N : ℕ} {side : Side} (w : Whole N side) where
+  pub vertex-of-lt : (e : ℕ) → e < N → vertexOf N side e < side .n
+  vertex-of-lt e l = div-lt-iff-lt-mul (w .degree-pos) .1 (rw (w .entries) (place-lt w e l))
 
-pub entry-vertex : (d v j : ℕ) → j < d → (v * d + j) / d ≡ v
-entry-vertex d v j k = mul-add-div-right (omega arith) v j ∙ rw (div-eq-of-lt k) (add-zero v)
+  pub vertex-of-entry : (v j : ℕ) → v < side .n → j < side .d → vertexOf N side (side .bit (v * side .d + j)) ≡ v
+  vertex-of-entry v j l k = ap (λ (i : ℕ). i / side .d) (place-bit w _ (entry-lt w v j l k)) ∙ digits-div v k
 
--- ---- an accepted wiring
+module _ {N : ℕ} {sides : SideName → Side} (g : Joined N sides) where
+  abbrev dl : ℕ
+  dl = sides left .d
 
-module _ (n d : ℕ) (edge place : ℕ → ℕ) (pos : 0 < d) (edge-below : (i : ℕ) → i < n * d → edge i < n * d) (place-below : (i : ℕ) → i < n * d → place i < n * d) (place-edge : (i : ℕ) → i < n * d → place (edge i) ≡ i) (edge-place : (i : ℕ) → i < n * d → edge (place i) ≡ i) where
+  abbrev dr : ℕ
+  dr = sides right .d
+
+  abbrev edge : ℕ → ℕ
+  edge = sides right .bit
+
+  abbrev place : ℕ → ℕ
+  place = placeOf N (sides right)
+
+  -- a bit's left vertex
+  pub vertex-of-left : (e : ℕ) → e < N → vertexOf N (sides left) e ≡ e / dl
+  vertex-of-left e l =
+      ap (λ (i : ℕ). i / dl) (ap (placeOf N (sides left)) (sym (g .in-order e)) ∙ place-bit (g .whole left) e l)
+
   -- each edge of v is counted at the one left vertex u where it ends
-  pub edges-into : (x : ℕ → ℕ) (v : ℕ) → v < n → sum n (λ u. x u * edgesBetween edge d u v) ≡ sum d (λ j. x (edge (v * d + j) / d))
+  pub edges-into : (x : ℕ → ℕ) (v : ℕ) → v < sides right .n
+      → sum (sides left .n) (λ u. x u * edgesBetween sides u v) ≡ sum dr (λ j. x (edge (v * dr + j) / dl))
   unfolding edgesBetween
   edges-into x v l =
-      let end : ℕ → ℕ = λ j. edge (v * d + j) / d in
-      let end-below : (j : ℕ) → j < d → end j < n = λ j k. div-lt-iff-lt-mul pos .1 (edge-below _ (entry-below n d v j l k)) in
-      sum-ext n _ _ (λ u k. sym (sum-scale d (x u) _))
-      ∙ sum-swap n d (λ u j. x u * flag (eqb (end j) u))
-      ∙ sum-ext d _ _ (λ j k. sum-ext n _ _ (λ u h. rw (flag-same (end j) u u (end j) sym sym) (mul-comm _ _)) ∙ sum-at n (end j) x (end-below j k))
+      let end : ℕ → ℕ = λ j. edge (v * dr + j) / dl in
+      let end-below : (j : ℕ) → j < dr → end j < sides left .n =
+      λ j k. div-lt-iff-lt-mul (g .whole left .degree-pos) .1
+      (rw (g .whole left .entries) (g .whole right .bit-lt _ (entry-lt (g .whole right) v j l k))) in
+      sum-ext (sides left .n) _ _ (λ u k. sym (sum-scale dr (x u) _))
+      ∙ sum-swap (sides left .n) dr (λ u j. x u * flag (eqb (end j) u))
+      ∙ sum-ext dr _ _ (λ j k.
+      sum-ext (sides left .n) _ _ (λ u h. rw (flag-same (end j) u u (end j) sym sym) (mul-comm _ _))
+      ∙ sum-at (sides left .n) (end j) x (end-below j k))
 
   -- the entries of all right vertices, renumbered as edges, are the edges of all left vertices, of which those of u count
-  pub edges-from : (y : ℕ → ℕ) (u : ℕ) → u < n → sum n (λ v. edgesBetween edge d u v * y v) ≡ sum d (λ j. y (place (u * d + j) / d))
+  pub edges-from : (y : ℕ → ℕ) (u : ℕ) → u < sides left .n
+      → sum (sides right .n) (λ v. edgesBetween sides u v * y v) ≡ sum dl (λ j. y (place (u * dl + j) / dr))
   unfolding edgesBetween
   edges-from y u l =
-      let at : ℕ → ℕ = λ i. flag (eqb (edge i / d) u) * y (i / d) in
-      let ends : ℕ → ℕ = λ w. sum d (λ j. y (place (w * d + j) / d)) in
-      sum-ext n _ (λ v. sum d (λ j. at (v * d + j))) (λ v k. sym (sum-scale-right d (y v) _) ∙ sum-ext d _ _ (λ j m. rw (entry-vertex d v j m)))
-      ∙ sym (sum-blocks n d at)
-      ∙ sym (sum-reindex (n * d) place edge place-below edge-below edge-place place-edge at)
-      ∙ sum-blocks n d (λ i. at (place i))
-      ∙ sum-ext n _ (λ w. flag (eqb w u) * ends w) (λ w k. sum-ext d _ _ (λ j m. rw (edge-place _ (entry-below n d w j k m), entry-vertex d w j m)) ∙ sum-scale d (flag (eqb w u)) _)
-      ∙ sum-at n u ends l
+      let r = g .whole right in
+      let at : ℕ → ℕ = λ i. flag (eqb (edge i / dl) u) * y (i / dr) in
+      let ends : ℕ → ℕ = λ w. sum dl (λ j. y (place (w * dl + j) / dr)) in
+      let in-order : (w j : ℕ) → w < sides left .n → j < dl → w * dl + j < N = λ w j. entry-lt (g .whole left) w j in
+      sum-ext (sides right .n) _ (λ v. sum dr (λ j. at (v * dr + j)))
+      (λ v k. sym (sum-scale-right dr (y v) _) ∙ sum-ext dr _ _ (λ j m. rw (digits-div v m)))
+      ∙ sym (sum-blocks (sides right .n) dr at)
+      ∙ ap (λ (m : ℕ). sum m at) (r .entries)
+      ∙ sym (sum-reindex N place edge (place-lt r) (r .bit-lt) (bit-place r) (place-bit r) at)
+      ∙ ap (λ (m : ℕ). sum m (λ i. at (place i))) (sym (g .whole left .entries))
+      ∙ sum-blocks (sides left .n) dl (λ i. at (place i))
+      ∙ sum-ext (sides left .n) _ (λ w. flag (eqb w u) * ends w)
+      (λ w k. sum-ext dl _ _ (λ j m. rw (bit-place r _ (in-order w j k m), digits-div w m)) ∙ sum-scale dl (flag (eqb w u)) _)
+      ∙ sum-at (sides left .n) u ends l
 
-  pub edges-row : (u : ℕ) → u < n → sum n (λ v. edgesBetween edge d u v) ≡ d
+  pub edges-row : (u : ℕ) → u < sides left .n → sum (sides right .n) (λ v. edgesBetween sides u v) ≡ dl
   edges-row u l = simp (sum-const, mul-one) at (edges-from (λ v. 1) u l)
 
-  pub edges-column : (v : ℕ) → v < n → sum n (λ u. edgesBetween edge d u v) ≡ d
+  pub edges-column : (v : ℕ) → v < sides right .n → sum (sides left .n) (λ u. edgesBetween sides u v) ≡ dr
   edges-column v l = simp (one-mul, sum-const, mul-one) at (edges-into (λ u. 1) v l)

@@ -1,4 +1,3 @@
-pub mod Searches
 pub mod Permutation
 pub mod Edges
 pub mod Blocks
@@ -8,3 +7,4 @@ pub mod Plans
 pub mod SeenBits
 pub mod VertexAccess
 pub mod Locating
+pub mod EdgeEnds

@@ -1,24 +1,25 @@
--- Accepted wirings: every edge stands exactly once, and each has a place.
---   edgeOf wiring i         entry i: the edge that stands there (specs Wiring)
+-- Accepted wirings: every edge stands exactly once, so the entries of either side are all bits of a block, each at one place.
+--   edgeOf wiring i         entry i: the edge that stands there (specs Plan)
 --   entryCheck N edge i     entry i alone: its edge at or above N (9), else seen earlier (10) (specs Wiring)
 --   entriesCheck N edge m   the refusal of the first faulty entry below m (specs Wiring)
 --   wiringCheck d n wiring  the wiring's place in the table, 7 to 10 (specs Wiring)
+--   Wired d n wiring        what an accepted wiring is (specs Checking)
 --   Entries N edge m        the entries below m name edges below N, no edge twice
---   Wired d n wiring        what an accepted wiring is: n, the length, and its n·d entries
---   placeOf wiring N e      the entry at which edge e stands
---   sideBit right edge i    the bit at entry i of a side (specs Block)
---   sidePlace right wiring N e  the entry of a side at which bit e stands
+--   Whole N side            the entries of a side are the bits 0 .. N - 1, each once
+--   Joined N sides          both sides have all N bits, the left one in their order
+--   placeOf N side e        the entry of a side at which bit e stands
 -- Laws are named by their subject, then by the fact: `entry-` is about the test of one entry, `entries-` about that of all
 -- entries below m, `edges-` about the number of edges, `wiring-` about the outcome of the whole check, `wired` about a wiring that
--- passes it, `place-` and `edge-` about an edge and its entry, `side-` and `sidePlace-` about the bits of either side. At the end of a
--- name, `-lt` and `-le` are bounds, `-once` says that no two entries have one bit, `-onto` that every bit has an entry, `-passed` leads
--- from a check to the facts and `-back` from the facts to the check, `-tests` writes a check out.
+-- passes it, `place-` and `bit-` about a bit and its entry, `side-` about the bits of either side. At the end of a name, `-lt` and `-le`
+-- are bounds, `-once` says that no two entries have one bit, `-passed` leads from a check to the facts and `-back` from the facts to the
+-- check, `-tests` writes a check out.
 use Prim.Native.Nat.{ℕ, zero, suc, _+_, _*_, _≤_, _<_}
-use mathlib.Core.Bool.{Bool, true, false, not, _||_, true≢false, or-true}
+use mathlib.Core.Bool.{not, _||_, or-true}
 use mathlib.Core.List.{List, []}
 use mathlib.Core.Logic.{⊎-elim}
 use mathlib.Core.Path.{_≡_, refl, sym, ap, _∙_}
-use native.Mathlib.Nat.{le-step, lt-suc-self, not-suc-le-zero, eq-or-lt-of-le, le-of-suc-le-suc, le-antisymm, ne-of-lt, mul-le-mul-left, mul-le-mul-right}
+use native.Mathlib.Nat.{le-step, lt-suc-self, not-suc-le-zero, eq-or-lt-of-le, le-of-suc-le-suc}
+use native.Mathlib.Nat.{le-antisymm, ne-of-lt, mul-le-mul-left, mul-le-mul-right}
 use native.Mathlib.Decide.{decLe}
 use native.Mathlib.Numerals.{add-one}
 use native.Mathlib.Omega.{arith}
@@ -26,14 +27,16 @@ use lib.Dec.{ltb, leb, eqb}
 use lib.ListN.{length}
 use borrow.Author.Tests.{ltb-false, lt-ltb, le-ltb, leb-false, lt-leb, eqb-true, eqb-false, eq-eqb, ne-eqb, not-false}
 use Rattle.bits.proofs.Sums.{injective-onto}
+use Rattle.bits.proofs.Tests.{or-neither}
 use Rattle.inner_code.specs.Reply.{done, refused, refuseIf}
-use Rattle.inner_code.specs.Code.{someBelow}
+use Rattle.bits.specs.Search.{someBelow, firstFailing}
 use Rattle.inner_code.proofs.Replies.{refuse-taken, refuse-passed, refuse-done, andThen-passed, andThen-refused, andThen-done}
-use Rattle.wiring.specs.Search.{firstFailing}
-use Rattle.wiring.specs.Wiring.{edgeOf, entryCheck, entriesCheck, wiringCheck}
-use Rattle.wiring.specs.Block.{sideBit}
-use Rattle.inner_code.proofs.Least.{none-below, none-below-each}
-use Rattle.wiring.proofs.Searches.{first-at}
+use Rattle.wiring.specs.Plan.{Plan, Side, edgeCount, edgeOf, left, sideBit, sideOf}
+use Rattle.wiring.specs.Wiring.{entryCheck, entriesCheck, wiringCheck}
+use Rattle.wiring.specs.Checking.{Wired, WiredPlan}
+use Rattle.wiring.specs.declared.side.SideName.{SideName}
+use lib.Arith.{digits-lt}
+use Rattle.bits.proofs.Searches.{none-below, none-below-each, first-at}
 
 -- ---- the entries' check
 
@@ -83,7 +86,8 @@ unfolding entriesCheck
 entries-back N edge zero r = refl
 entries-back N edge (suc m) r =
     andThen-passed _ _ []
-    (entries-back N edge m (record { entry-lt = λ i l. r .entry-lt i (le-step l); entry-once = λ i j k l. r .entry-once i j (le-step k) (le-step l) }))
+    (entries-back N edge m
+    (record { entry-lt = λ i l. r .entry-lt i (le-step l); entry-once = λ i j k l. r .entry-once i j (le-step k) (le-step l) }))
     ∙ entry-back N edge m (r .entry-lt m (lt-suc-self m)) (λ j l q. ne-of-lt l (r .entry-once j m (le-step l) (lt-suc-self m) q))
 
 -- a loop that stops at entry i has the refusal of the whole
@@ -104,17 +108,6 @@ entries-one-more N edge i e f = rw add-one (andThen-passed _ _ [] e ∙ f)
 
 pub edges-le : (n d : ℕ) → n ≤ 2048 → d ≤ 16 → n * d ≤ 32768
 edges-le n d few narrow = omega (arith, mul-le-mul-right d few, mul-le-mul-left 2048 narrow)
-
-pub record Wired (d n : ℕ) (wiring : List ℕ) : Type 0 where
-  pub n-low : 1 ≤ n
-  pub n-high : n ≤ 2048
-  pub sized : length wiring ≡ 2 * (n * d)
-  pub edge-lt : (i : ℕ) → i < n * d → edgeOf wiring i < n * d
-  pub edge-once : (i j : ℕ) → i < n * d → j < n * d → edgeOf wiring i ≡ edgeOf wiring j → i ≡ j
-
-neither-holds : (a b : Bool) → (a || b) ≡ false → (a ≡ false) × (b ≡ false)
-neither-holds false b e = (refl, e)
-neither-holds true b e = absurd (true≢false e)
 
 wiring-tests : (d n : ℕ) (wiring : List ℕ) → wiringCheck d n wiring
     ≡ refuseIf (ltb n 1 || ltb 2048 n) 7 0 (refuseIf (not (eqb (length wiring) (2 * (n * d)))) 8 0 (entriesCheck (n * d) (edgeOf wiring) (n * d)))
@@ -140,14 +133,16 @@ module _ (d n : ℕ) (wiring : List ℕ) where
     pub wiring-entries : length wiring ≡ 2 * (n * d) → wiringCheck d n wiring ≡ entriesCheck (n * d) (edgeOf wiring) (n * d)
     wiring-entries fits = past-count ∙ refuse-passed _ 8 0 _ (ap not (eq-eqb _ _ fits))
 
-pub wired : {values : List ℕ} (d n : ℕ) (wiring : List ℕ) → wiringCheck d n wiring ≡ done values → Wired d n wiring
-wired {values} d n wiring e =
+pub wired : {values : List ℕ} (d n : ℕ) (wiring : List ℕ) → 1 ≤ d → d ≤ 16 → wiringCheck d n wiring ≡ done values → Wired d n wiring
+wired {values} d n wiring low high e =
     let (counted, rest) = refuse-done _ 7 0 _ values (sym (wiring-tests d n wiring) ∙ e) in
     let (fits, entries) = refuse-done _ 8 0 _ values rest in
     let r = entries-passed (n * d) (edgeOf wiring) (n * d) entries in
     record {
-      n-low = ltb-false n 1 (neither-holds (ltb n 1) _ counted .0);
-      n-high = ltb-false 2048 n (neither-holds (ltb n 1) _ counted .1);
+      d-low = low;
+      d-high = high;
+      n-low = ltb-false n 1 (or-neither (ltb n 1) _ counted .0);
+      n-high = ltb-false 2048 n (or-neither (ltb n 1) _ counted .1);
       sized = eqb-true _ _ (not-false _ fits);
       edge-lt = r .entry-lt;
       edge-once = r .entry-once;
@@ -162,65 +157,64 @@ wired-back d n wiring w =
 pub wired-fits : {d n : ℕ} {wiring : List ℕ} → Wired d n wiring → (v : ℕ) → v < n → 2 * (v * d + d) ≤ length wiring
 wired-fits {d} w v l = omega (arith, w .sized, mul-le-mul-right d l)
 
--- ---- the place of an edge
+-- ---- sides whose entries are all bits
 
-unfoldable pub placeOf : List ℕ → ℕ → ℕ → ℕ
-unfolding firstFailing edgeOf
-placeOf wiring N e = firstFailing N (λ i. not (eqb (edgeOf wiring i) e))
+pub record Whole (N : ℕ) (side : Side) : Type 0 where
+  pub degree-pos : 0 < side .d
+  pub entries : side .n * side .d ≡ N
+  pub bit-lt : (i : ℕ) → i < N → side .bit i < N
+  pub bit-once : (i j : ℕ) → i < N → j < N → side .bit i ≡ side .bit j → i ≡ j
 
-unfoldable pub sidePlace : Bool → List ℕ → ℕ → ℕ → ℕ
-unfolding placeOf
-sidePlace false wiring N e = e
-sidePlace true wiring N e = placeOf wiring N e
+pub record Joined (N : ℕ) (sides : SideName → Side) : Type 0 where
+  pub whole : (name : SideName) → Whole N (sides name)
+  pub in-order : (i : ℕ) → sides left .bit i ≡ i
 
--- where the entries' edges are below N, so are the bits of either side
-pub side-below : (N : ℕ) (edge : ℕ → ℕ) → ((i : ℕ) → i < N → edge i < N) → (right : Bool) (i : ℕ) → i < N → sideBit right edge i < N
-unfolding sideBit
-side-below N edge below false i l = l
-side-below N edge below true i l = below i l
+unfoldable pub placeOf : ℕ → Side → ℕ → ℕ
+unfolding firstFailing
+placeOf N side e = firstFailing N (λ i. not (eqb (side .bit i) e))
 
-module _ {d n : ℕ} {wiring : List ℕ} (w : Wired d n wiring) where
-  pub place-edge : (i : ℕ) → i < n * d → placeOf wiring (n * d) (edgeOf wiring i) ≡ i
+module _ {N : ℕ} {side : Side} (w : Whole N side) where
+  pub place-bit : (i : ℕ) → i < N → placeOf N side (side .bit i) ≡ i
   unfolding placeOf
-  place-edge i l =
-      first-at (n * d) _ i l
-      (λ j k. ap not (ne-eqb (edgeOf wiring j) (edgeOf wiring i) (λ q. ne-of-lt k (w .edge-once j i (omega arith) l q))))
-      (ap not (eq-eqb (edgeOf wiring i) _ refl))
+  place-bit i l =
+      first-at N _ i l
+      (λ j k. ap not (ne-eqb (side .bit j) (side .bit i) (λ q. ne-of-lt k (w .bit-once j i (omega arith) l q))))
+      (ap not (eq-eqb (side .bit i) _ refl))
 
-  -- n·d entries hold n·d edges, none twice, so every edge stands at one
-  placed : (e : ℕ) → e < n * d → (placeOf wiring (n * d) e < n * d) × (edgeOf wiring (placeOf wiring (n * d) e) ≡ e)
+  -- N entries hold N bits, none twice, so every bit stands at one
+  placed : (e : ℕ) → e < N → (placeOf N side e < N) × (side .bit (placeOf N side e) ≡ e)
   placed e l =
-      let (i, k, q) = injective-onto (n * d) (edgeOf wiring) (w .edge-lt) (w .edge-once) e l in
-      let at-i : placeOf wiring (n * d) e ≡ i = ap (placeOf wiring (n * d)) (sym q) ∙ place-edge i k in
+      let (i, k, q) = injective-onto N (side .bit) (w .bit-lt) (w .bit-once) e l in
+      let at-i : placeOf N side e ≡ i = ap (placeOf N side) (sym q) ∙ place-bit i k in
       rw at-i (k, q)
 
-  pub place-lt : (e : ℕ) → e < n * d → placeOf wiring (n * d) e < n * d
+  pub place-lt : (e : ℕ) → e < N → placeOf N side e < N
   place-lt e l = placed e l .0
 
-  pub edge-place : (e : ℕ) → e < n * d → edgeOf wiring (placeOf wiring (n * d) e) ≡ e
-  edge-place e l = placed e l .1
+  pub bit-place : (e : ℕ) → e < N → side .bit (placeOf N side e) ≡ e
+  bit-place e l = placed e l .1
 
-  -- ---- either side
+  -- entry j of vertex v is one of the N
+  pub entry-lt : (v j : ℕ) → v < side .n → j < side .d → v * side .d + j < N
+  entry-lt v j l k = rw (← w .entries) (digits-lt l k)
 
-  pub side-lt : (right : Bool) (i : ℕ) → i < n * d → sideBit right (edgeOf wiring) i < n * d
-  side-lt = side-below (n * d) (edgeOf wiring) (w .edge-lt)
+-- ---- the sides of an accepted wiring
 
-  pub side-once : (right : Bool) (i j : ℕ) → i < n * d → j < n * d → sideBit right (edgeOf wiring) i ≡ sideBit right (edgeOf wiring) j → i ≡ j
-  unfolding sideBit
-  side-once false i j k l q = q
-  side-once true i j k l q = w .edge-once i j k l q
+pub side-lt : {d n : ℕ} {wiring : List ℕ} → Wired d n wiring → (name : SideName) (i : ℕ) → i < n * d → sideBit name wiring i < n * d
+unfolding sideBit
+side-lt w SideName.Left i l = l
+side-lt w SideName.Right i l = w .edge-lt i l
 
-  pub sidePlace-lt : (right : Bool) (e : ℕ) → e < n * d → sidePlace right wiring (n * d) e < n * d
-  unfolding sidePlace
-  sidePlace-lt false e l = l
-  sidePlace-lt true e l = place-lt e l
+pub side-once : {d n : ℕ} {wiring : List ℕ} → Wired d n wiring → (name : SideName) (i j : ℕ) → i < n * d → j < n * d
+    → sideBit name wiring i ≡ sideBit name wiring j → i ≡ j
+unfolding sideBit
+side-once w SideName.Left i j k l q = q
+side-once w SideName.Right i j k l q = w .edge-once i j k l q
 
-  pub sidePlace-side : (right : Bool) (i : ℕ) → i < n * d → sidePlace right wiring (n * d) (sideBit right (edgeOf wiring) i) ≡ i
-  unfolding sideBit sidePlace
-  sidePlace-side false i l = refl
-  sidePlace-side true i l = place-edge i l
-
-  pub side-onto : (right : Bool) (e : ℕ) → e < n * d → sideBit right (edgeOf wiring) (sidePlace right wiring (n * d) e) ≡ e
-  unfolding sideBit sidePlace
-  side-onto false e l = refl
-  side-onto true e l = edge-place e l
+pub wired-joined : (plan : Plan) → WiredPlan plan → Joined (edgeCount plan) (sideOf plan)
+unfolding sideBit
+wired-joined plan w =
+    record {
+      whole = λ name. record { degree-pos = w .d-low; entries = refl; bit-lt = side-lt w name; bit-once = side-once w name };
+      in-order = λ i. refl;
+    }

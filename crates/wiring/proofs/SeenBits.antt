@@ -9,7 +9,7 @@ use Prim.Native.Nat.{ℕ, zero, suc, _+_, _-_, _*_, _/_, _%_, _^_, _≤_, _<_}
 use mathlib.Core.Bool.{Bool, true, false, _||_, or-true, or-false}
 use mathlib.Core.List.{List, [], _∷_}
 use mathlib.Core.Logic.{⊎-elim}
-use mathlib.Core.Path.{_≡_, refl, sym, ap, _∙_}
+use mathlib.Core.Path.{_≡_, refl, sym, ap, ap₂, _∙_}
 use native.Mathlib.Nat.{zero-mul, one-mul, pow-suc, eq-zero-or-pos, mul-le-mul-right}
 use native.Mathlib.Decide.{decLe}
 use native.Mathlib.Numerals.{add-one, one-add}
@@ -20,11 +20,12 @@ use lib.ListN.{length, getD, set, replicate, length-replicate, getD-replicate, L
 use lib.Pow.{pow-pos}
 use borrow.Author.Tests.{le-leb, lt-leb, eqb-true, eqb-false}
 use Rattle.bits.specs.Bit.{digit, bitAt, putDigit, withBit}
+use Rattle.bits.proofs.Tests.{flag-zero}
 use Rattle.bits.specs.Sum.{flag}
 use Rattle.bits.proofs.Xor.{digit-zero}
 use Rattle.bits.proofs.Bytes.{bitAt-same, bitAt-other, length-withBit}
 use Rattle.inner_code.specs.Reply.{done, refused, refuseIf}
-use Rattle.inner_code.specs.Code.{someBelow}
+use Rattle.bits.specs.Search.{someBelow}
 use Rattle.inner_code.proofs.Replies.{refuse-taken, refuse-passed}
 use Rattle.wiring.specs.Wiring.{entryCheck}
 use Rattle.wiring.specs.Access.{noneSeen, seenAfter}
@@ -128,34 +129,31 @@ unfolding flag
 flag-some true some = refl
 flag-some false some = absurd (some refl)
 
-flag-none : (t : Bool) → flag t ≡ 0 → t ≡ false
-unfolding flag
-flag-none true none = absurd (omega arith)
-flag-none false none = refl
-
-pub entry-high : (N : ℕ) (edge : ℕ → ℕ) (i : ℕ) → N ≤ edge i → entryCheck N edge i ≡ refused 9 i
-unfolding entryCheck
-entry-high N edge i h = refuse-taken _ 9 i _ (le-leb N (edge i) h)
-
--- an entry whose edge is below N, once the edges of the entries before it are marked
-module _ (N : ℕ) (edge : ℕ → ℕ) (i : ℕ) (seen : List ℕ) (marked : seen ≡ seenAfter edge i noneSeen) (low : edge i < N) (fits : N ≤ 32768) where
-  bit-is : bitAt seen (edge i) ≡ flag (someBelow i (λ j. eqb (edge j) (edge i)))
-  bit-is =
-      ap (λ (l : List ℕ). bitAt l (edge i)) marked
-      ∙ seen-bit edge i noneSeen (edge i) (omega (arith, length-none)) (seen-none (edge i))
-
-  past-high : entryCheck N edge i ≡ refuseIf (someBelow i (λ j. eqb (edge j) (edge i))) 10 i (done [])
+-- entry i, whose edge the code has read as e
+module _ (N : ℕ) (edge : ℕ → ℕ) (i e : ℕ) (is : e ≡ edge i) where
+  pub entry-high : N ≤ e → entryCheck N edge i ≡ refused 9 i
   unfolding entryCheck
-  past-high = refuse-passed _ 9 i _ (lt-leb N (edge i) low)
+  entry-high h = refuse-taken _ 9 i _ (le-leb N (edge i) (rw is at h))
 
-  pub entry-seen : (bitAnd (getD seen (edge i / 8) 0) (getD masks (edge i % 8) 0) ≡ 0 → ⊥) → entryCheck N edge i ≡ refused 10 i
-  entry-seen set = past-high ∙ refuse-taken _ 10 i _ (flag-some _ (λ z. set (mask-clear seen (edge i) (bit-is ∙ z))))
+  -- where the edge is below N, once the edges of the entries before it are marked
+  module _ (seen : List ℕ) (marked : seen ≡ seenAfter edge i noneSeen) (low : e < N) (fits : N ≤ 32768) where
+    bit-is : bitAt seen e ≡ flag (someBelow i (λ j. eqb (edge j) (edge i)))
+    bit-is =
+        ap₂ (λ (l : List ℕ) (x : ℕ). bitAt l x) marked is
+        ∙ seen-bit edge i noneSeen (edge i) (omega (arith, length-none)) (seen-none (edge i))
 
-  module _ (clear : bitAnd (getD seen (edge i / 8) 0) (getD masks (edge i % 8) 0) ≡ 0) where
-    pub entry-fresh : entryCheck N edge i ≡ done []
-    entry-fresh = past-high ∙ refuse-passed _ 10 i _ (flag-none _ (sym bit-is ∙ mask-clear-back seen (edge i) clear))
+    past-high : entryCheck N edge i ≡ refuseIf (someBelow i (λ j. eqb (edge j) (edge i))) 10 i (done [])
+    unfolding entryCheck
+    past-high = refuse-passed _ 9 i _ (lt-leb N (edge i) (rw is at low))
 
-    pub seen-stored : set seen (edge i / 8) (bitXor (getD seen (edge i / 8) 0) (getD masks (edge i % 8) 0)) ≡ seenAfter edge (i + 1) noneSeen
-    seen-stored =
-        mask-store seen (edge i) (mask-clear-back seen (edge i) clear)
-        ∙ ap (λ (l : List ℕ). withBit l (edge i) 1) marked ∙ sym (seen-one-more edge i noneSeen)
+    pub entry-seen : (bitAnd (getD seen (e / 8) 0) (getD masks (e % 8) 0) ≡ 0 → ⊥) → entryCheck N edge i ≡ refused 10 i
+    entry-seen set = past-high ∙ refuse-taken _ 10 i _ (flag-some _ (λ z. set (mask-clear seen e (bit-is ∙ z))))
+
+    module _ (clear : bitAnd (getD seen (e / 8) 0) (getD masks (e % 8) 0) ≡ 0) where
+      pub entry-fresh : entryCheck N edge i ≡ done []
+      entry-fresh = past-high ∙ refuse-passed _ 10 i _ (flag-zero _ (sym bit-is ∙ mask-clear-back seen e clear))
+
+      pub seen-stored : set seen (e / 8) (bitXor (getD seen (e / 8) 0) (getD masks (e % 8) 0)) ≡ seenAfter edge (i + 1) noneSeen
+      seen-stored =
+          mask-store seen e (mask-clear-back seen e clear)
+          ∙ ap₂ (λ (l : List ℕ) (x : ℕ). withBit l x 1) marked is ∙ sym (seen-one-more edge i noneSeen)

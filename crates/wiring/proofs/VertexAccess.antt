@@ -1,16 +1,16 @@
 -- The word of one vertex as the code reads and writes it: with tests for a vertex that is not inside, which an accepted wiring
 -- never needs.
---   inside d wiring v                     vertex v has all its d entries in the wiring, and d and v are in their ranges (specs Access)
---   readWord right wiring d block v       the word that vertex v of a side reads; 0 where it is not inside (specs Access)
---   writtenWord right wiring d v w block  the block with w put at the entries of vertex v; unchanged where it is not inside (specs Access)
---   vertexWord, scattered                 the same with no tests (specs Block)
---   wordSoFar bit block base j            the word of the first j entries from `base` on
---   Wired d n wiring                      the wiring is accepted for n vertices of d edges on each side (Permutation)
+--   inside d wiring v                    vertex v has all its d entries in the wiring, and d and v are in their ranges (specs Access)
+--   wordFrom bit block base d            the word of d digits at the entries from `base` on (specs Access)
+--   readWord side wiring d block v       the word that vertex v of a side reads; 0 where it is not inside (specs Access)
+--   writtenWord side wiring d v w block  the block with w put at the entries of vertex v; unchanged where it is not inside (specs Access)
+--   vertexWord, withWord                 the same with no tests (specs Block)
+--   WiredPlan plan                       the plan's wiring is accepted (specs Checking)
 -- Laws are named by their subject, then by the fact: `inside-` and `outside-` are about the tests, `read-` and `write-` about the
--- two ways of access, `so-far-` about a word of which some digits are read. At the end of a name, `-inside` is a vertex of an
--- accepted wiring, `-outside` one that the tests turn away, `-one-more` one more digit, `-last` the end of a loop over all digits.
+-- two ways of access, `word-from-` about a word of which some digits are read. At the end of a name, `-inside` is a vertex of an
+-- accepted plan, `-outside` one that the tests turn away, `-one-more` one more digit, `-last` the end of a loop over all digits.
 use Prim.Native.Nat.{ℕ, _+_, _*_, _≤_, _<_, min}
-use mathlib.Core.Bool.{Bool, true, false, and-false}
+use mathlib.Core.Bool.{true, false, and-false}
 use mathlib.Core.List.{List}
 use mathlib.Core.Path.{_≡_, refl, sym, ap, ap₂, _∙_}
 use native.Mathlib.Nat.{min-eq-left}
@@ -19,13 +19,17 @@ use lib.Dec.{ltb, leb}
 use lib.ListN.{length}
 use lib.Pow.{pow-mono}
 use borrow.Author.Tests.{lt-ltb, le-ltb, le-leb, lt-leb}
-use Rattle.bits.specs.Bit.{word, bitAt, wordAt}
+use Rattle.bits.specs.Window.{wordAt}
+use Rattle.bits.specs.Bit.{word, bitAt}
 use Rattle.bits.proofs.Words.{word-lt, word-one-more}
 use Rattle.bits.proofs.Bytes.{bitAt-lt}
-use Rattle.wiring.specs.Wiring.{edgeOf}
-use Rattle.wiring.specs.Block.{sideBit, vertexWord, scattered}
-use Rattle.wiring.specs.Access.{inside, readWord, writtenWord}
-use Rattle.wiring.proofs.Permutation.{Wired, wired-fits}
+use Rattle.inner_code.specs.Sheet.{degree}
+use Rattle.wiring.specs.Plan.{Plan, edgeOf, left, right, sideBit, sideOf}
+use Rattle.wiring.specs.Block.{vertexWord, scattered, withWord}
+use Rattle.wiring.specs.Access.{inside, wordFrom, readWord, writtenWord}
+use Rattle.wiring.specs.Checking.{WiredPlan}
+use Rattle.wiring.specs.declared.side.SideName.{SideName}
+use Rattle.wiring.proofs.Permutation.{wired-fits}
 
 -- ---- the tests
 
@@ -48,74 +52,69 @@ module _ (d : ℕ) (wiring : List ℕ) (v : ℕ) where
 
 -- ---- reading
 
-unfoldable pub wordSoFar : (ℕ → ℕ) → List ℕ → ℕ → ℕ → ℕ
-unfolding word bitAt
-wordSoFar bit block base j = word j (λ i. bitAt block (bit (base + i)))
-
 module _ (bit : ℕ → ℕ) (block : List ℕ) (base : ℕ) where
-  pub so-far-none : wordSoFar bit block base 0 ≡ 0
-  unfolding wordSoFar word
-  so-far-none = refl
+  pub word-from-none : wordFrom bit block base 0 ≡ 0
+  unfolding wordFrom word
+  word-from-none = refl
 
-  pub so-far-one-more : (j so-far b e : ℕ) → so-far ≡ wordSoFar bit block base j → b ≡ bitAt block e → e ≡ bit (base + j)
-      → so-far * 2 + b ≡ wordSoFar bit block base (j + 1)
-  unfolding wordSoFar
-  so-far-one-more j so-far b e s r p =
+  pub word-from-one-more : (j so-far b e : ℕ) → so-far ≡ wordFrom bit block base j → b ≡ bitAt block e → e ≡ bit (base + j)
+      → so-far * 2 + b ≡ wordFrom bit block base (j + 1)
+  unfolding wordFrom
+  word-from-one-more j so-far b e s r p =
       ap₂ (λ (x y : ℕ). x * 2 + y) s (r ∙ ap (bitAt block) p) ∙ sym (word-one-more j (λ i. bitAt block (bit (base + i))))
 
-  pub so-far-lt : (j so-far : ℕ) → so-far ≡ wordSoFar bit block base j → j ≤ 16 → so-far < 65536
-  unfolding wordSoFar
-  so-far-lt j so-far s h =
+  pub word-from-lt : (j so-far : ℕ) → so-far ≡ wordFrom bit block base j → j ≤ 16 → so-far < 65536
+  unfolding wordFrom
+  word-from-lt j so-far s h =
       omega (arith, pow-mono {j = 16} h, word-lt j (λ i. bitAt block (bit (base + i))) (λ i l. bitAt-lt block (bit (base + i))))
 
 -- a left vertex's bits stand in a row
 pub read-left : (wiring : List ℕ) (d : ℕ) (block : List ℕ) (v : ℕ) → d ≤ 16 → inside d wiring v ≡ true
-    → wordAt block (v * d) (min d 16) ≡ readWord false wiring d block v
-unfolding readWord vertexWord sideBit wordAt
+    → wordAt block (v * d) (min d 16) ≡ readWord left wiring d block v
+unfolding readWord wordFrom sideBit wordAt
 read-left wiring d block v narrow e = rw (e, min-eq-left narrow)
 
-module _ (right : Bool) (wiring : List ℕ) (d : ℕ) where
-  pub read-outside : (block : List ℕ) (v : ℕ) → inside d wiring v ≡ false → readWord right wiring d block v ≡ 0
+pub read-right : (wiring : List ℕ) (d : ℕ) (block : List ℕ) (v : ℕ) → inside d wiring v ≡ true
+    → wordFrom (edgeOf wiring) block (v * d) d ≡ readWord right wiring d block v
+unfolding readWord wordFrom sideBit
+read-right wiring d block v e = rw e
+
+module _ (side : SideName) (wiring : List ℕ) (d : ℕ) where
+  pub read-outside : (block : List ℕ) (v : ℕ) → inside d wiring v ≡ false → readWord side wiring d block v ≡ 0
   unfolding readWord
   read-outside block v e = rw e
 
-  pub read-all : (block : List ℕ) (v : ℕ) → inside d wiring v ≡ true
-      → readWord right wiring d block v ≡ vertexWord (sideBit right (edgeOf wiring)) d block v
+  pub read-all : (block : List ℕ) (v : ℕ) → inside d wiring v ≡ true → readWord side wiring d block v ≡ wordFrom (sideBit side wiring) block (v * d) d
   unfolding readWord
   read-all block v e = rw e
 
-  pub read-last : (block : List ℕ) (v j so-far : ℕ) → inside d wiring v ≡ true
-      → so-far ≡ wordSoFar (sideBit right (edgeOf wiring)) block (v * d) j → j ≡ d → so-far ≡ readWord right wiring d block v
-  unfolding wordSoFar vertexWord
-  read-last block v j so-far e s last =
-      s ∙ ap (wordSoFar (sideBit right (edgeOf wiring)) block (v * d)) last ∙ sym (read-all block v e)
-
   -- ---- writing
 
-  pub write-outside : (v w : ℕ) (block : List ℕ) → inside d wiring v ≡ false → writtenWord right wiring d v w block ≡ block
+  pub write-outside : (v w : ℕ) (block : List ℕ) → inside d wiring v ≡ false → writtenWord side wiring d v w block ≡ block
   unfolding writtenWord
   write-outside v w block e = rw e
 
   pub write-all : (v w : ℕ) (block : List ℕ) → inside d wiring v ≡ true
-      → writtenWord right wiring d v w block ≡ scattered (sideBit right (edgeOf wiring)) d (v * d) w d block
+      → writtenWord side wiring d v w block ≡ scattered (sideBit side wiring) d (v * d) w d block
   unfolding writtenWord
   write-all v w block e = rw e
 
   pub write-last : (v w : ℕ) (block : List ℕ) (j : ℕ) (so-far : List ℕ) → inside d wiring v ≡ true
-      → so-far ≡ scattered (sideBit right (edgeOf wiring)) d (v * d) w j block → j ≡ d → so-far ≡ writtenWord right wiring d v w block
+      → so-far ≡ scattered (sideBit side wiring) d (v * d) w j block → j ≡ d → so-far ≡ writtenWord side wiring d v w block
   write-last v w block j so-far e s last =
-      s ∙ ap (λ (m : ℕ). scattered (sideBit right (edgeOf wiring)) d (v * d) w m block) last ∙ sym (write-all v w block e)
+      s ∙ ap (λ (m : ℕ). scattered (sideBit side wiring) d (v * d) w m block) last ∙ sym (write-all v w block e)
 
--- ---- an accepted wiring
+-- ---- an accepted plan
 
-module _ {d n : ℕ} {wiring : List ℕ} (w : Wired d n wiring) (narrow : d ≤ 16) where
-  pub wired-inside : (v : ℕ) → v < n → inside d wiring v ≡ true
-  wired-inside v l = inside-all d wiring v narrow (omega (arith, w .n-high)) (wired-fits w v l)
+module _ (plan : Plan) (w : WiredPlan plan) (name : SideName) where
+  inside-plan : (v : ℕ) → v < plan .n → inside (degree (plan .sheet)) (plan .wiring) v ≡ true
+  inside-plan v l = inside-all _ (plan .wiring) v (w .d-high) (omega (arith, w .n-high)) (wired-fits w v l)
 
-  pub read-inside : (right : Bool) (block : List ℕ) (v : ℕ) → v < n
-      → readWord right wiring d block v ≡ vertexWord (sideBit right (edgeOf wiring)) d block v
-  read-inside right block v l = read-all right wiring d block v (wired-inside v l)
+  pub read-inside : (block : List ℕ) (v : ℕ) → v < plan .n
+      → readWord name (plan .wiring) (degree (plan .sheet)) block v ≡ vertexWord (sideOf plan name) block v
+  unfolding vertexWord wordFrom
+  read-inside block v l = read-all name (plan .wiring) _ block v (inside-plan v l)
 
-  pub write-inside : (right : Bool) (v x : ℕ) (block : List ℕ) → v < n
-      → writtenWord right wiring d v x block ≡ scattered (sideBit right (edgeOf wiring)) d (v * d) x d block
-  write-inside right v x block l = write-all right wiring d v x block (wired-inside v l)
+  pub write-inside : (v x : ℕ) (block : List ℕ) → v < plan .n
+      → writtenWord name (plan .wiring) (degree (plan .sheet)) v x block ≡ withWord (sideOf plan name) v x block
+  write-inside v x block l = write-all name (plan .wiring) _ v x block (inside-plan v l)

@@ -1,19 +1,22 @@
 -- The words that vertices read from a block, and a block with a vertex's word put into it.
---   vertexWord bit d block v      the word that vertex v reads, its first edge of the highest weight (specs Block)
+--   vertexWord side block v       the word that vertex v reads, its first edge of the highest weight (specs Block)
 --   scattered bit d at w m block  the block with the first m of the d digits of w put at the entries from `at` on (specs Block)
+--   withWord side v w block       the block with the word w put at vertex v (specs Block)
+--   Whole N side                  the entries of a side are the bits 0 .. N - 1, each once (Permutation)
 --   bitAt block i                 bit i of the block (bits specs Bit)
 --   digit w j                     the binary digit of weight 2^j of the number w (bits specs Bit)
--- `bit i` is the bit of the block at entry i of a side; vertex v has the entries v·d .. v·d + d - 1.
--- Laws are named by their subject, then by the fact: `vertex-` is about one word that is read, `scattered-` about a word that is
--- written, `words-` about all words of a side. At the end of a name, `-lt` is a bound, `-ext` equality from the bits, `-same`
--- and `-other` what is written to and what is not, `-fixed` a write of what stands there, `-one-more` and `-step` one more digit.
-use Prim.Native.Nat.{ℕ, zero, suc, _+_, _-_, _*_, _/_, _^_, _<_}
+-- Laws are named by their subject, then by the fact: `vertex-` is about one word that is read, `scattered-` about digits that are
+-- written, `withWord-` about a word that is, `words-` about all words of a side. At the end of a name, `-lt` is a bound, `-ext` equality
+-- from the bits, `-same` and `-other` what is written to and what is not, `-fixed` a write of what stands there, `-one-more` and `-step` one
+-- more digit.
+use Prim.Native.Nat.{ℕ, zero, suc, _+_, _-_, _*_, _/_, _^_, _≤_, _<_}
 use mathlib.Core.List.{List}
 use mathlib.Core.Logic.{_≢_, ⊎-elim}
 use mathlib.Core.Path.{_≡_, refl, sym, ap, ap₂, _∙_}
-use native.Mathlib.Nat.{le-step, lt-suc-self, not-suc-le-zero, eq-or-lt-of-le, le-of-suc-le-suc, ne-of-lt}
+use native.Mathlib.Omega.{arith}
+use native.Mathlib.Nat.{le-trans, le-step, lt-suc-self, not-suc-le-zero, eq-or-lt-of-le, le-of-suc-le-suc, ne-of-lt}
 use native.Mathlib.Numerals.{add-one}
-use lib.Arith.{digits-lt, digits-div}
+use lib.Arith.{digits-div}
 use lib.Bits.{bitXor, xor-self}
 use lib.Count.{ones}
 use lib.ListN.{length, getD}
@@ -23,34 +26,39 @@ use Rattle.bits.proofs.Sums.{sum-ext, sum-none, sum-none-each, sum-blocks, sum-
 use Rattle.bits.proofs.Xor.{digit-lt, xor-bits-lt, xor-zero-eq, ones-zero}
 use Rattle.bits.proofs.Words.{word-lt, word-ext, word-digit, word-digits, word-xor, ones-word}
 use Rattle.bits.proofs.Bytes.{bitAt-lt, bitAt-same, bitAt-other, length-withBit, withBit-byte, withBit-keeps}
-use Rattle.wiring.specs.Block.{vertexWord, scattered}
+use Rattle.wiring.specs.Plan.{Side}
+use Rattle.wiring.specs.Block.{vertexWord, scattered, withWord}
+use Rattle.wiring.proofs.Permutation.{Whole, placeOf, place-bit, place-lt, bit-place, entry-lt}
 
 -- ---- one word that is read
 
-pub vertex-lt : (bit : ℕ → ℕ) (d : ℕ) (block : List ℕ) (v : ℕ) → vertexWord bit d block v < 2 ^ d
-unfolding vertexWord
-vertex-lt bit d block v = word-lt d _ (λ j l. bitAt-lt block (bit (v * d + j)))
+module _ (side : Side) where
+  pub vertex-lt : (block : List ℕ) (v : ℕ) → vertexWord side block v < 2 ^ side .d
+  unfolding vertexWord
+  vertex-lt block v = word-lt (side .d) _ (λ j l. bitAt-lt block (side .bit (v * side .d + j)))
 
-pub vertex-digit : (bit : ℕ → ℕ) (d : ℕ) (block : List ℕ) (v j : ℕ) → j < d → digit (vertexWord bit d block v) (d - 1 - j) ≡ bitAt block (bit (v * d + j))
-unfolding vertexWord
-vertex-digit bit d block v = word-digit d _ (λ j l. bitAt-lt block (bit (v * d + j)))
+  pub vertex-digit : (block : List ℕ) (v j : ℕ) → j < side .d
+      → digit (vertexWord side block v) (side .d - 1 - j) ≡ bitAt block (side .bit (v * side .d + j))
+  unfolding vertexWord
+  vertex-digit block v = word-digit (side .d) _ (λ j l. bitAt-lt block (side .bit (v * side .d + j)))
 
-pub vertex-ext : (bit : ℕ → ℕ) (d : ℕ) (a b : List ℕ) (v : ℕ) → ((j : ℕ) → j < d → bitAt a (bit (v * d + j)) ≡ bitAt b (bit (v * d + j)))
-    → vertexWord bit d a v ≡ vertexWord bit d b v
-unfolding vertexWord
-vertex-ext bit d a b v same = word-ext d _ _ same
+  module _ (a b : List ℕ) (v : ℕ) where
+    pub vertex-ext : ((j : ℕ) → j < side .d → bitAt a (side .bit (v * side .d + j)) ≡ bitAt b (side .bit (v * side .d + j)))
+        → vertexWord side a v ≡ vertexWord side b v
+    unfolding vertexWord
+    vertex-ext same = word-ext (side .d) _ _ same
 
-pub vertex-bits : (bit : ℕ → ℕ) (d : ℕ) (a b : List ℕ) (v : ℕ) → vertexWord bit d a v ≡ vertexWord bit d b v
-    → (j : ℕ) → j < d → bitAt a (bit (v * d + j)) ≡ bitAt b (bit (v * d + j))
-vertex-bits bit d a b v e j l = sym (vertex-digit bit d a v j l) ∙ ap (λ (w : ℕ). digit w (d - 1 - j)) e ∙ vertex-digit bit d b v j l
+    pub vertex-bits : vertexWord side a v ≡ vertexWord side b v
+        → (j : ℕ) → j < side .d → bitAt a (side .bit (v * side .d + j)) ≡ bitAt b (side .bit (v * side .d + j))
+    vertex-bits e j l = sym (vertex-digit a v j l) ∙ ap (λ (w : ℕ). digit w (side .d - 1 - j)) e ∙ vertex-digit b v j l
 
--- two words differ in as many digits as the blocks differ in bits of the vertex
-pub vertex-differing : (bit : ℕ → ℕ) (d : ℕ) (a b : List ℕ) (v : ℕ)
-    → ones (bitXor (vertexWord bit d a v) (vertexWord bit d b v)) ≡ sum d (λ j. bitXor (bitAt a (bit (v * d + j))) (bitAt b (bit (v * d + j))))
-unfolding vertexWord
-vertex-differing bit d a b v =
-    ap ones (word-xor d _ _ (λ j l. bitAt-lt a (bit (v * d + j))) (λ j l. bitAt-lt b (bit (v * d + j))))
-    ∙ ones-word d _ (λ j l. xor-bits-lt _ _ (bitAt-lt a (bit (v * d + j))) (bitAt-lt b (bit (v * d + j))))
+    -- two words differ in as many digits as the blocks differ in bits of the vertex
+    pub vertex-differing : ones (bitXor (vertexWord side a v) (vertexWord side b v))
+        ≡ sum (side .d) (λ j. bitXor (bitAt a (side .bit (v * side .d + j))) (bitAt b (side .bit (v * side .d + j))))
+    unfolding vertexWord
+    vertex-differing =
+        ap ones (word-xor (side .d) _ _ (λ j l. bitAt-lt a (side .bit (v * side .d + j))) (λ j l. bitAt-lt b (side .bit (v * side .d + j))))
+        ∙ ones-word (side .d) _ (λ j l. xor-bits-lt _ _ (bitAt-lt a (side .bit (v * side .d + j))) (bitAt-lt b (side .bit (v * side .d + j))))
 
 -- ---- one word that is written
 
@@ -74,9 +82,11 @@ module _ (bit : ℕ → ℕ) (d at w : ℕ) where
   pub scattered-bytes : (m : ℕ) (block : List ℕ) → ((k : ℕ) → getD block k 0 < 256) → (k : ℕ) → getD (scattered bit d at w m block) k 0 < 256
   unfolding scattered
   scattered-bytes zero block small = small
-  scattered-bytes (suc m) block small = withBit-byte (scattered bit d at w m block) (bit (at + m)) _ (digit-lt w (d - 1 - m)) (scattered-bytes m block small)
+  scattered-bytes (suc m) block small =
+      withBit-byte (scattered bit d at w m block) (bit (at + m)) _ (digit-lt w (d - 1 - m)) (scattered-bytes m block small)
 
-  pub scattered-other : (m : ℕ) (block : List ℕ) (e : ℕ) → ((j : ℕ) → j < m → bit (at + j) ≢ e) → bitAt (scattered bit d at w m block) e ≡ bitAt block e
+  pub scattered-other : (m : ℕ) (block : List ℕ) (e : ℕ) → ((j : ℕ) → j < m → bit (at + j) ≢ e)
+      → bitAt (scattered bit d at w m block) e ≡ bitAt block e
   unfolding scattered
   scattered-other zero block e none = refl
   scattered-other (suc m) block e none =
@@ -97,7 +107,8 @@ module _ (bit : ℕ → ℕ) (d at w : ℕ) where
       (eq-or-lt-of-le (le-of-suc-le-suc l))
 
   -- a write of the digits that stand there changes nothing
-  scattered-keeps : (m : ℕ) (block : List ℕ) → ((j : ℕ) → j < m → digit w (d - 1 - j) ≡ bitAt block (bit (at + j))) → scattered bit d at w m block ≡ block
+  scattered-keeps : (m : ℕ) (block : List ℕ) → ((j : ℕ) → j < m → digit w (d - 1 - j) ≡ bitAt block (bit (at + j)))
+      → scattered bit d at w m block ≡ block
   unfolding scattered
   scattered-keeps zero block same = refl
   scattered-keeps (suc m) block same =
@@ -105,37 +116,38 @@ module _ (bit : ℕ → ℕ) (d at w : ℕ) where
 
 -- ---- a word that is written and read
 
-pub scattered-word : (bit : ℕ → ℕ) (d w : ℕ) (block : List ℕ) (v : ℕ) → w < 2 ^ d → ((j : ℕ) → j < d → bit (v * d + j) < length block * 8)
-    → ((i j : ℕ) → i < d → j < d → bit (v * d + i) ≡ bit (v * d + j) → i ≡ j)
-    → vertexWord bit d (scattered bit d (v * d) w d block) v ≡ w
-unfolding vertexWord
-scattered-word bit d w block v h inside once =
-    word-ext d _ _ (scattered-same bit d (v * d) w d block inside once) ∙ word-digits d w h
+pub withWord-fixed : (side : Side) (block : List ℕ) (v : ℕ) → withWord side v (vertexWord side block v) block ≡ block
+withWord-fixed side block v = scattered-keeps (side .bit) (side .d) (v * side .d) _ (side .d) block (vertex-digit side block v)
 
-pub scattered-fixed : (bit : ℕ → ℕ) (d : ℕ) (block : List ℕ) (v : ℕ) → scattered bit d (v * d) (vertexWord bit d block v) d block ≡ block
-scattered-fixed bit d block v = scattered-keeps bit d (v * d) _ d block (vertex-digit bit d block v)
+module _ {N : ℕ} {side : Side} (w : Whole N side) (x : ℕ) (block : List ℕ) where
+  pub withWord-same : (v : ℕ) → x < 2 ^ side .d → N ≤ length block * 8 → v < side .n → vertexWord side (withWord side v x block) v ≡ x
+  unfolding vertexWord
+  withWord-same v h room l =
+      word-ext (side .d) _ _
+      (scattered-same (side .bit) (side .d) (v * side .d) x (side .d) block
+      (λ j k. le-trans (w .bit-lt _ (entry-lt w v j l k)) room)
+      (λ i j k q e. let same : v * side .d + i ≡ v * side .d + j = w .bit-once _ _ (entry-lt w v i l k) (entry-lt w v j l q) e in omega arith))
+      ∙ word-digits (side .d) x h
 
-pub scattered-other-word : (bit : ℕ → ℕ) (d n w : ℕ) (block : List ℕ) (u v : ℕ)
-    → ((i j : ℕ) → i < n * d → j < n * d → bit i ≡ bit j → i ≡ j) → u < n → v < n → u ≢ v
-    → vertexWord bit d (scattered bit d (v * d) w d block) u ≡ vertexWord bit d block u
-scattered-other-word bit d n w block u v once hu hv apart =
-    vertex-ext bit d _ block u (λ j l. scattered-other bit d (v * d) w d block (bit (u * d + j))
-    (λ i k e. apart (sym (sym (digits-div v k) ∙ ap (λ (x : ℕ). x / d) (once _ _ (digits-lt hv k) (digits-lt hu l) e) ∙ digits-div u l))))
+  pub withWord-other : (u v : ℕ) → u < side .n → v < side .n → u ≢ v → vertexWord side (withWord side v x block) u ≡ vertexWord side block u
+  withWord-other u v hu hv apart =
+      vertex-ext side _ block u
+      (λ j l. scattered-other (side .bit) (side .d) (v * side .d) x (side .d) block (side .bit (u * side .d + j))
+      (λ i k e. apart (sym (sym (digits-div v k)
+      ∙ ap (λ (y : ℕ). y / side .d) (w .bit-once _ _ (entry-lt w v i hv k) (entry-lt w u j hu l) e) ∙ digits-div u l))))
 
--- ---- all words of a side, whose bits `bit` are a renumbering of all bits and `place` its inverse
+-- ---- all words of a side
 
-module _ (bit place : ℕ → ℕ) (n d : ℕ)
-    (bit-lt : (i : ℕ) → i < n * d → bit i < n * d) (place-lt : (e : ℕ) → e < n * d → place e < n * d)
-    (place-bit : (i : ℕ) → i < n * d → place (bit i) ≡ i) (bit-place : (e : ℕ) → e < n * d → bit (place e) ≡ e) where
-  pub differing : (a b : List ℕ)
-      → sum (n * d) (λ e. bitXor (bitAt a e) (bitAt b e)) ≡ sum n (λ v. ones (bitXor (vertexWord bit d a v) (vertexWord bit d b v)))
-  differing a b =
-      sym (sum-reindex (n * d) bit place bit-lt place-lt place-bit bit-place (λ e. bitXor (bitAt a e) (bitAt b e)))
-      ∙ sum-blocks n d (λ i. bitXor (bitAt a (bit i)) (bitAt b (bit i)))
-      ∙ sum-ext n _ _ (λ v l. sym (vertex-differing bit d a b v))
+module _ {N : ℕ} {side : Side} (w : Whole N side) (a b : List ℕ) where
+  pub differing : sum N (λ e. bitXor (bitAt a e) (bitAt b e))
+      ≡ sum (side .n) (λ v. ones (bitXor (vertexWord side a v) (vertexWord side b v)))
+  differing =
+      sym (sum-reindex N (side .bit) (placeOf N side) (w .bit-lt) (place-lt w) (place-bit w) (bit-place w) (λ e. bitXor (bitAt a e) (bitAt b e)))
+      ∙ ap (λ (m : ℕ). sum m (λ i. bitXor (bitAt a (side .bit i)) (bitAt b (side .bit i)))) (sym (w .entries))
+      ∙ sum-blocks (side .n) (side .d) (λ i. bitXor (bitAt a (side .bit i)) (bitAt b (side .bit i)))
+      ∙ sum-ext (side .n) _ _ (λ v l. sym (vertex-differing side a b v))
 
-  pub words-determine : (a b : List ℕ) → ((v : ℕ) → v < n → vertexWord bit d a v ≡ vertexWord bit d b v)
-      → (e : ℕ) → e < n * d → bitAt a e ≡ bitAt b e
-  words-determine a b same e l =
-      xor-zero-eq _ _ (sum-none-each (n * d) _
-      (differing a b ∙ sum-none n _ (λ v h. rw (same v h) (ap ones (xor-self (vertexWord bit d b v)) ∙ ones-zero))) e l)
+  pub words-determine : ((v : ℕ) → v < side .n → vertexWord side a v ≡ vertexWord side b v) → (e : ℕ) → e < N → bitAt a e ≡ bitAt b e
+  words-determine same e l =
+      xor-zero-eq _ _ (sum-none-each N _
+      (differing ∙ sum-none (side .n) _ (λ v h. rw (same v h) (ap ones (xor-self (vertexWord side b v)) ∙ ones-zero))) e l)

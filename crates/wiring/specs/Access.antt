@@ -1,48 +1,55 @@
 -- How the code reads, writes and tests the word of one vertex, and marks the edges it has seen: none of this is needed to believe a
 -- contract of a service.
---   inside d wiring v                   vertex v has all its d entries in the wiring, and d and v are in their ranges
---   readWord right wiring d block v     the word that vertex v of a side reads; 0 where it is not inside
---   writtenWord right wiring d v w block  the block with w put at the entries of vertex v; unchanged where it is not inside
---   satisfiedBy basis k right wiring d block v  the code's test of vertex v: the first k rows of the basis leave nothing of its word
---   unsatisfiedBy basis k right wiring d n block  the first vertex of a side that fails it, n where all pass
---   locatedBy basis k d n wiring block  no value, or the side (0 left, 1 right) and the first vertex that fails it
---   noneSeen                            one bit for each edge, none set
---   seenAfter edge i seen               the bits with those set whose edges stand among entries 0 .. i - 1
+--   inside d wiring v                     vertex v has all its d entries in the wiring, and d and v are in their ranges
+--   wordFrom bit block base d             the word of d digits at the entries from `base` on
+--   readWord side wiring d block v        the word that vertex v of a side reads; 0 where it is not inside
+--   writtenWord side wiring d v w block   the block with w put at the entries of vertex v; unchanged where it is not inside
+--   satisfiedBy basis k side wiring d block v    the code's test of vertex v: the first k rows of the basis leave nothing of its word
+--   unsatisfiedBy basis k side wiring d n block  the first vertex of a side that fails it, n where all pass
+--   locatedBy basis k d n wiring block    no value, or the side (0 left, 1 right) and the first vertex that fails it
+--   noneSeen                              one bit for each edge, none set
+--   seenAfter edge i seen                 the bits with those set whose edges stand among entries 0 .. i - 1
 use Prim.Native.Nat.{ℕ, zero, suc, _+_, _*_, min}
 use mathlib.Core.List.{List, [], _∷_}
-use mathlib.Core.Bool.{Bool, true, false, cond, _&&_}
+use mathlib.Core.Bool.{Bool, cond, _&&_}
 use lib.ListN.{length, replicate}
 use lib.Dec.{ltb, leb, eqb}
-use Rattle.bits.specs.Bit.{at, withBit}
+use Rattle.bits.specs.Window.{at}
+use Rattle.bits.specs.Bit.{word, bitAt, withBit}
+use Rattle.bits.specs.Search.{firstFailing}
 use Rattle.inner_code.specs.Reduction.{reducedBy}
-use Rattle.wiring.specs.Search.{firstFailing}
-use Rattle.wiring.specs.Wiring.{edgeOf}
-use Rattle.wiring.specs.Block.{sideBit, vertexWord, scattered}
+use Rattle.wiring.specs.Plan.{left, right, sideBit}
+use Rattle.wiring.specs.Block.{scattered}
+use Rattle.wiring.specs.declared.side.SideName.{SideName}
 
 unfoldable pub inside : ℕ → List ℕ → ℕ → Bool
 inside d wiring v = leb d 16 && (ltb v 2048 && leb (2 * (v * d + d)) (length wiring))
 
-unfoldable pub readWord : Bool → List ℕ → ℕ → List ℕ → ℕ → ℕ
-unfolding inside vertexWord sideBit edgeOf
-readWord right wiring d block v = cond (inside d wiring v) (vertexWord (sideBit right (edgeOf wiring)) d block v) 0
+unfoldable pub wordFrom : (ℕ → ℕ) → List ℕ → ℕ → ℕ → ℕ
+unfolding word bitAt
+wordFrom bit block base d = word d (λ j. bitAt block (bit (base + j)))
 
-unfoldable pub writtenWord : Bool → List ℕ → ℕ → ℕ → ℕ → List ℕ → List ℕ
-unfolding inside scattered sideBit edgeOf
-writtenWord right wiring d v w block = cond (inside d wiring v) (scattered (sideBit right (edgeOf wiring)) d (v * d) w d block) block
+unfoldable pub readWord : SideName → List ℕ → ℕ → List ℕ → ℕ → ℕ
+unfolding inside wordFrom sideBit
+readWord side wiring d block v = cond (inside d wiring v) (wordFrom (sideBit side wiring) block (v * d) d) 0
 
-unfoldable pub satisfiedBy : List ℕ → ℕ → Bool → List ℕ → ℕ → List ℕ → ℕ → Bool
+unfoldable pub writtenWord : SideName → List ℕ → ℕ → ℕ → ℕ → List ℕ → List ℕ
+unfolding inside scattered sideBit
+writtenWord side wiring d v w block = cond (inside d wiring v) (scattered (sideBit side wiring) d (v * d) w d block) block
+
+unfoldable pub satisfiedBy : List ℕ → ℕ → SideName → List ℕ → ℕ → List ℕ → ℕ → Bool
 unfolding at reducedBy readWord
-satisfiedBy basis k right wiring d block v = eqb (reducedBy (at basis) (min k 11) (readWord right wiring d block v)) 0
+satisfiedBy basis k side wiring d block v = eqb (reducedBy (at basis) (min k 11) (readWord side wiring d block v)) 0
 
-unfoldable pub unsatisfiedBy : List ℕ → ℕ → Bool → List ℕ → ℕ → ℕ → List ℕ → ℕ
+unfoldable pub unsatisfiedBy : List ℕ → ℕ → SideName → List ℕ → ℕ → ℕ → List ℕ → ℕ
 unfolding firstFailing satisfiedBy
-unsatisfiedBy basis k right wiring d n block = firstFailing n (λ v. satisfiedBy basis k right wiring d block v)
+unsatisfiedBy basis k side wiring d n block = firstFailing n (λ v. satisfiedBy basis k side wiring d block v)
 
 unfoldable pub locatedBy : List ℕ → ℕ → ℕ → ℕ → List ℕ → List ℕ → List ℕ
 unfolding unsatisfiedBy
 locatedBy basis k d n wiring block =
-    cond (ltb (unsatisfiedBy basis k false wiring d n block) n) (0 ∷ unsatisfiedBy basis k false wiring d n block ∷ [])
-    (cond (ltb (unsatisfiedBy basis k true wiring d n block) n) (1 ∷ unsatisfiedBy basis k true wiring d n block ∷ []) [])
+    cond (ltb (unsatisfiedBy basis k left wiring d n block) n) (0 ∷ unsatisfiedBy basis k left wiring d n block ∷ [])
+    (cond (ltb (unsatisfiedBy basis k right wiring d n block) n) (1 ∷ unsatisfiedBy basis k right wiring d n block ∷ []) [])
 
 unfoldable pub noneSeen : List ℕ
 noneSeen = replicate 4096 0

@@ -1,24 +1,20 @@
--- The wiring: which edge each entry is, and its refusals 7 to 10.
---   edgeOf wiring i           entry i: the edge that stands there
---   entriesCheck N edge m     the first faulty entry below m: at or above N (9), else seen earlier (10)
+-- The wiring's refusals 7 to 10, and the edges between vertices.
+--   entryCheck N edge i       entry i alone: at or above N (9), else seen earlier (10)
+--   entriesCheck N edge m     the first faulty entry below m
 --   wiringCheck d n wiring    the wiring's place in the table: the first of 7 to 10, or done with no value
---   planCheck sheet n wiring  sheet and wiring, 1 to 10
---   pieceOf sheet n wiring v  the paper's piece of right vertex v, empty for a faulty plan or a v of n or more
---   edgesBetween edge d u v   the number of edges between left vertex u and right vertex v
+--   planCheck plan            sheet and wiring, 1 to 10
+--   edgesBetween sides u v    the number of edges between left vertex u and right vertex v: of the entries of v, those whose edge is one of u's
 use Prim.Native.Nat.{ℕ, zero, suc, _+_, _*_, _/_}
 use mathlib.Core.List.{List, []}
-use mathlib.Core.Bool.{Bool, true, false, cond, not, _||_}
-use lib.ListN.{length, take, drop}
+use mathlib.Core.Bool.{not, _||_}
+use lib.ListN.{length}
 use lib.Dec.{ltb, leb, eqb}
-use Rattle.bits.specs.Bit.{pairAt}
 use Rattle.bits.specs.Sum.{sum, flag}
-use Rattle.inner_code.specs.Reply.{Reply, done, refused, refuseIf, andThen}
-use Rattle.inner_code.specs.Code.{someBelow}
+use Rattle.bits.specs.Search.{someBelow}
+use Rattle.inner_code.specs.Reply.{Reply, done, refuseIf, andThen}
 use Rattle.inner_code.specs.Sheet.{degree, sheetCheck}
-
-unfoldable pub edgeOf : List ℕ → ℕ → ℕ
-unfolding pairAt
-edgeOf wiring i = pairAt wiring (2 * i)
+use Rattle.wiring.specs.Plan.{Plan, Side, edgeOf, left, right}
+use Rattle.wiring.specs.declared.side.SideName.{SideName}
 
 unfoldable pub entryCheck : ℕ → (ℕ → ℕ) → ℕ → Reply
 unfolding refuseIf someBelow
@@ -36,20 +32,11 @@ wiringCheck d n wiring =
     (refuseIf (not (eqb (length wiring) (2 * (n * d)))) 8 0
     (entriesCheck (n * d) (edgeOf wiring) (n * d)))
 
-unfoldable pub planCheck : List ℕ → ℕ → List ℕ → Reply
+unfoldable pub planCheck : Plan → Reply
 unfolding andThen sheetCheck wiringCheck degree
-planCheck sheet n wiring = andThen (sheetCheck sheet) (wiringCheck (degree sheet) n wiring)
+planCheck plan = andThen (sheetCheck (plan .sheet)) (wiringCheck (degree (plan .sheet)) (plan .n) (plan .wiring))
 
--- what a call that its places let pass gives, and nothing where one refuses
-unfoldable pub whereDone : Reply → List ℕ → List ℕ
-whereDone (done values) part = part
-whereDone (refused number place) part = []
-
-unfoldable pub pieceOf : List ℕ → ℕ → List ℕ → ℕ → List ℕ
-unfolding whereDone planCheck degree
-pieceOf sheet n wiring v =
-    whereDone (planCheck sheet n wiring) (cond (ltb v n) (take (2 * degree sheet) (drop (2 * (v * degree sheet)) wiring)) [])
-
-unfoldable pub edgesBetween : (ℕ → ℕ) → ℕ → ℕ → ℕ → ℕ
+unfoldable pub edgesBetween : (SideName → Side) → ℕ → ℕ → ℕ
 unfolding sum flag
-edgesBetween edge d u v = sum d (λ j. flag (eqb (edge (v * d + j) / d) u))
+edgesBetween sides u v =
+    sum (sides right .d) (λ j. flag (eqb (sides right .bit (v * sides right .d + j) / sides left .d) u))

@@ -1,46 +1,57 @@
 // The word of one vertex, read from a block and written back, on either side by one path.
+use crate::plan::MAX_VERTICES;
+use crate::side::SideName;
+use inner_code::MAX_DEGREE;
 ghost use mathlib.Core.Path.{_≡_};
-ghost use Prim.Native.Nat.{_+_, _*_, _<_};
+ghost use Prim.Native.Nat.{_+_, _*_, _≤_, _<_};
 ghost use lib.ListN.{length};
-ghost use Rattle.wiring.specs.Wiring.{edgeOf};
-ghost use Rattle.wiring.specs.Block.{sideBit};
-ghost use Rattle.wiring.specs.Access.{readWord, writtenWord};
+ghost use Rattle.wiring.specs.Plan.{edgeOf, sideBit};
+ghost use Rattle.wiring.specs.Access.{wordFrom, readWord, writtenWord};
 
-// The word that vertex v of the left or right side reads, its first edge of the highest weight; 0 for a vertex whose d entries are
-// not all in the wiring, a v of 2,048 or more or a d above 16. A left vertex's bits stand in a row and are read at once.
-pub fn read_word(right: bool, wiring: &[u8], d: usize, block: &[u8], v: usize) -> u16
-    ensures { λ r. ⌜ r ≡ readWord right (now (wiring .entry)) d (now (block .entry)) v ⌝ }
+// The word that vertex v of a side reads, its first edge of the highest weight; 0 for a vertex whose d entries are not all in the
+// wiring, a v of 2,048 or more or a d above 16. A left vertex's bits stand in a row and are read at once.
+pub fn read_word(side: SideName, wiring: &[u8], d: usize, block: &[u8], v: usize) -> u16
+    ensures { λ r. ⌜ r ≡ readWord side (now (wiring .entry)) d (now (block .entry)) v ⌝ }
 {
-    if 16 < d {
+    if MAX_DEGREE < d {
         return 0;
     }
-    if 2048 <= v {
+    if MAX_VERTICES <= v {
         return 0;
     }
     let base = v * d;
     if wiring.len() < 2 * (base + d) {
         return 0;
     }
-    if !right {
-        return bits::word_at(block, base, d);
+    match side {
+        SideName::Left => bits::word_at(block, base, d),
+        SideName::Right => gathered(wiring, base, d, block),
     }
+}
+
+// The word at the d entries of the wiring from `base` on, bit by bit.
+fn gathered(wiring: &[u8], base: usize, d: usize, block: &[u8]) -> u16
+    requires { ⌜ d ≤ 16 ⌝ }
+    requires { ⌜ 2 * (base + d) ≤ length (now wiring) ⌝ }
+    ensures { λ r. ⌜ r ≡ wordFrom (edgeOf (now (wiring .entry))) (now (block .entry)) base d ⌝ }
+{
     let mut word: u64 = 0;
     let mut j = 0;
     while j < d {
-        word = word * 2 + bits::bit(block, bit_of(right, wiring, base + j));
+        word = word * 2 + bits::bit(block, edge_at(wiring, base + j));
         j += 1;
     }
     word as u16
 }
 
 // Puts a word at the entries of vertex v, its highest of d digits first; nothing changes where `read_word` would answer 0.
-pub fn write_word(right: bool, wiring: &[u8], d: usize, v: usize, word: u16, block: &mut [u8])
-    ensures { λ _. ⌜ now (block .exit) ≡ writtenWord right (now (wiring .entry)) d v word (now (block .entry)) ⌝ }
+pub fn write_word(side: SideName, wiring: &[u8], d: usize, v: usize, word: u16, block: &mut [u8])
+    ensures { λ _. ⌜ now (block .exit) ≡ writtenWord side (now (wiring .entry)) d v word (now (block .entry)) ⌝ }
 {
-    if 16 < d {
+    if MAX_DEGREE < d {
         return;
     }
-    if 2048 <= v {
+    if MAX_VERTICES <= v {
         return;
     }
     let base = v * d;
@@ -51,7 +62,7 @@ pub fn write_word(right: bool, wiring: &[u8], d: usize, v: usize, word: u16, blo
     while j < d {
         bits::put_bit(
             block,
-            bit_of(right, wiring, base + j),
+            bit_of(side, wiring, base + j),
             (word >> (d - 1 - j)) as u64,
         );
         j += 1;
@@ -59,12 +70,20 @@ pub fn write_word(right: bool, wiring: &[u8], d: usize, v: usize, word: u16, blo
 }
 
 // The bit of the block at entry i of a side.
-fn bit_of(right: bool, wiring: &[u8], i: usize) -> usize
+fn bit_of(side: SideName, wiring: &[u8], i: usize) -> usize
     requires { ⌜ 2 * i + 1 < length (now wiring) ⌝ }
-    ensures { λ r. ⌜ r ≡ sideBit right (edgeOf (now (wiring .entry))) i ⌝ }
+    ensures { λ r. ⌜ r ≡ sideBit side (now (wiring .entry)) i ⌝ }
 {
-    if right {
-        return (wiring[2 * i] as usize) * 256 + (wiring[2 * i + 1] as usize);
+    match side {
+        SideName::Left => i,
+        SideName::Right => edge_at(wiring, i),
     }
-    i
+}
+
+// Entry i of the wiring: the edge that stands there.
+pub(crate) fn edge_at(wiring: &[u8], i: usize) -> usize
+    requires { ⌜ 2 * i + 1 < length (now wiring) ⌝ }
+    ensures { λ r. ⌜ r ≡ edgeOf (now (wiring .entry)) i ⌝ }
+{
+    (wiring[2 * i] as usize) * 256 + (wiring[2 * i + 1] as usize)
 }

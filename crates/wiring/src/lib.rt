@@ -1,15 +1,22 @@
-// The bipartite graph: the wiring's check, a right vertex's piece, the word of a vertex, blocks and the locator.
+// The bipartite graph: the wiring's check, a right vertex's piece, the ends of edges, the word of a vertex, blocks and the locator.
 mod access;
 mod block;
+mod ends;
 mod locator;
 mod piece;
 mod plan;
+mod side;
 
 pub use access::read_word;
 pub use access::write_word;
 pub use block::Checked;
+pub use block::check_bits;
 pub use block::check_block;
+pub use ends::note_ends;
 pub use locator::Located;
+pub use locator::first_unsatisfied;
 pub use locator::locate;
 pub use piece::piece_of;
+pub use plan::MAX_VERTICES;
 pub use plan::check_plan;
+pub use side::SideName;

@@ -1,18 +1,24 @@
 // Sheet and wiring together: refusals 1 to 10.
+use crate::access::edge_at;
 use crate::block::Checked;
 use inner_code::CheckedSheet;
 use inner_code::Refusal;
 use inner_code::Sheet;
+use inner_code::refusal;
 ghost use mathlib.Core.Path.{_≡_};
 ghost use Prim.Native.Nat.{_*_, _≤_};
 ghost use lib.ListN.{length};
-ghost use Rattle.wiring.specs.Wiring.{edgeOf, entriesCheck, wiringCheck};
-ghost use Rattle.wiring.specs.Answer.{PlanChecked, checkReply};
+ghost use Rattle.wiring.specs.Plan.{planOf, edgeOf};
+ghost use Rattle.wiring.specs.Wiring.{entriesCheck, wiringCheck};
+ghost use Rattle.wiring.specs.Checking.{PlanChecked, checkReply};
+
+// The most vertices on a side.
+pub const MAX_VERTICES: usize = 2048;
 
 // Checks a sheet and a wiring by refusals 1 to 10. An accepted plan comes with the echelon form of the sheet's rows; with a refusal
 // `basis` is 0.
 pub fn check_plan(sheet: &[u8], n: usize, wiring: &[u8]) -> CheckedSheet
-    ensures { λ r. ⌜ PlanChecked (now (sheet .entry)) n (now (wiring .entry)) r ⌝ }
+    ensures { λ r. ⌜ PlanChecked (planOf (now (sheet .entry)) n (now (wiring .entry))) r ⌝ }
 {
     let checked = inner_code::check_sheet(sheet);
     let values = checked.sheet;
@@ -38,20 +44,20 @@ fn check_wiring(d: usize, n: usize, wiring: &[u8]) -> Checked
 {
     if n < 1 {
         return Checked::Refused(Refusal {
-            number: 7,
+            number: refusal::VERTICES_OUT_OF_RANGE,
             place: 0,
         });
     }
-    if 2048 < n {
+    if MAX_VERTICES < n {
         return Checked::Refused(Refusal {
-            number: 7,
+            number: refusal::VERTICES_OUT_OF_RANGE,
             place: 0,
         });
     }
     let edges = n * d;
     if wiring.len() != 2 * edges {
         return Checked::Refused(Refusal {
-            number: 8,
+            number: refusal::WIRING_LENGTH_WRONG,
             place: 0,
         });
     }
@@ -68,16 +74,22 @@ fn check_entries(edges: usize, wiring: &[u8]) -> Checked
     let mut seen = [0u8; 4096];
     let mut i = 0;
     while i < edges {
-        let edge = (wiring[2 * i] as usize) * 256 + (wiring[2 * i + 1] as usize);
+        let edge = edge_at(wiring, i);
         if edges <= edge {
             let place = i as u32;
-            return Checked::Refused(Refusal { number: 9, place });
+            return Checked::Refused(Refusal {
+                number: refusal::ENTRY_TOO_LARGE,
+                place,
+            });
         }
         let byte = seen[edge / 8];
         let bit = mask[edge % 8];
         if byte & bit != 0 {
             let place = i as u32;
-            return Checked::Refused(Refusal { number: 10, place });
+            return Checked::Refused(Refusal {
+                number: refusal::ENTRY_REPEATED,
+                place,
+            });
         }
         seen[edge / 8] = byte ^ bit;
         i += 1;

@@ -3,7 +3,7 @@ use mathlib.Core.Path.{refl, sym}
 use native.Mathlib.Omega.{arith}
 use denote.Ref.{now}
 use lib.ListN.{List·getD-eq-default}
-use Rattle.bits.specs.Bit.{at}
+use Rattle.bits.specs.Window.{at}
 use borrow.Author.Needs.{needs}
 use Rattle.bits.proofs.byte.Statement.{statement}
 use Rattle.bits.proofs.byte.Tie as tie

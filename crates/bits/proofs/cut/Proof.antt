@@ -1,13 +1,12 @@
 -- `bits::cut` meets its contract: the three bytes put together, cut at both ends.
-use mathlib.Core.Path.{_≡_, sym, ap, ap₂, _∙_}
+use mathlib.Core.Path.{ap₂, _∙_}
 use Prim.Native.Nat.{ℕ, _+_, _-_, _*_, _/_, _%_, _^_, _≤_, _<_}
 use native.Mathlib.Nat.{mod-lt}
 use native.Mathlib.Omega.{arith}
 use denote.Ref.{now}
-use lib.ListN.{getD}
-use lib.Pow.{pow-pos, pow-mono, shl-exact}
-use Rattle.bits.specs.Bit.{at}
-use Rattle.bits.proofs.Windows.{wordAt-window}
+use lib.Pow.{pow-pos, pow-mono}
+use Rattle.bits.specs.Window.{at}
+use Rattle.bits.proofs.Windows.{power-held, wordAt-window}
 use borrow.Author.Needs.{needs}
 use Rattle.bits.proofs.cut.Statement.{statement}
 use Rattle.bits.proofs.cut.Tie as tie
@@ -57,15 +56,12 @@ cast-result-2 c = search needs
 shl-result : tie.Need-shl-result
 shl-result c = search needs
 
--- a mask of d bits
-mask : (d : ℕ) → d ≤ 16 → (1 * 2 ^ d) % 4294967296 ≡ 2 ^ d
-mask d h = shl-exact {a = 1} 1 d 32 (omega arith) (omega arith) ∙ omega arith
-
+-- what a mask of d bits leaves
 masked-lt : (x d : ℕ) → d ≤ 16 → x % ((1 * 2 ^ d) % 4294967296) < 65536
-masked-lt x d h = rw (mask d h) (omega (arith, mod-lt x (pow-pos d), pow-mono {j = 16} h))
+masked-lt x d h = rw (power-held d h) (omega (arith, mod-lt x (pow-pos d), pow-mono {j = 16} h))
 
 rem-result : tie.Need-rem-result
-rem-result c = omega (arith, mask (c .before .before .before .before .args .d) (omega arith), pow-pos (c .before .before .before .before .args .d))
+rem-result c = omega (arith, power-held (c .before .before .before .before .args .d) (omega arith), pow-pos (c .before .before .before .before .args .d))
 
 cast-result-3 : tie.Need-cast-result-3
 cast-result-3 c =
@@ -82,7 +78,7 @@ returns c =
     let second = c .before .byte2 .ensures in
     let third = c .byte3 .ensures in
     ap₂ (λ (x y : ℕ). x / 2 ^ (24 - args .i % 8 - args .d) % y)
-    (omega (arith, first .0, second .0, third .0)) (mask (args .d) (omega arith))
+    (omega (arith, first .0, second .0, third .0)) (power-held (args .d) (omega arith))
     ∙ wordAt-window bytes (args .i) (args .d) (omega arith) (omega (arith, second .0, second .1)) (omega (arith, third .0, third .1))
 
 pub cut-spec : {M : Type 1} → statement M

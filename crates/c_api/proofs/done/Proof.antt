@@ -1,11 +1,11 @@
 -- `c_api::done` meets its contract.
 use mathlib.Core.Path.{refl}
-use Rattle.c_api.specs.Answers.{doneWith}
+use Rattle.c_api.specs.Answer.{told}
 use Rattle.c_api.proofs.done.Statement.{statement}
 use Rattle.c_api.proofs.done.Tie as tie
 
 returns : tie.Need-returns
-unfolding doneWith
+unfolding told
 returns c = refl
 
 pub done-spec : {M : Type 1} → statement M

@@ -1,7 +1,7 @@
 -- `c_api::lembikat_encode` meets its contract: what is told of each case of the service's answer is told of the defined reply.
 use borrow.Author.Needs.{needs}
-use Rattle.messages.specs.Service.{encodeReply}
-use Rattle.c_api.specs.Answers.{told}
+use Rattle.messages.specs.Answer.{encodeReply}
+use Rattle.c_api.specs.Answer.{told}
 use Rattle.c_api.proofs.Telling.{telling}
 use Rattle.c_api.proofs.lembikat_encode.Statement.{statement}
 use Rattle.c_api.proofs.lembikat_encode.Tie as tie
@@ -24,16 +24,28 @@ refused-requires c κs = search needs
 same-length : tie.Need-same-length
 same-length c = search needs
 
+-- the service's run, from where its answer is told apart
+abbrev encoded : tie.After-slice-known2 → tie.After-encode
+encoded c = c .before .before
+
 returns : tie.Need-returns
 unfolding told
-returns c = (telling encodeReply (c .before .enum-told .given .1) (c .before .before .before .before .before .encode .ensures .0) (c .done .ensures), c .before .before .before .before .before .encode .ensures .1)
+returns c = (
+  telling encodeReply (c .before .enum-told .given .1)
+      (encoded (c .before .before .before) .encode .ensures .0) (c .done .ensures),
+  encoded (c .before .before .before) .encode .ensures .1,
+)
 
 same-length-2 : tie.Need-same-length-2
 same-length-2 c = search needs
 
 returns-2 : tie.Need-returns-2
 unfolding told
-returns-2 c = (telling encodeReply (c .before .before .r .given .1) (c .before .before .before .before .before .before .encode .ensures .0) (c .refused .ensures), c .before .before .before .before .before .before .encode .ensures .1)
+returns-2 c = (
+  telling encodeReply (c .before .before .r .given .1)
+      (encoded (c .before .before .before .before) .encode .ensures .0) (c .refused .ensures),
+  encoded (c .before .before .before .before) .encode .ensures .1,
+)
 
 pub lembikat-encode-spec : {M : Type 1} → statement M
 lembikat-encode-spec =

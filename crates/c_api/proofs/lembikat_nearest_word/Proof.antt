@@ -1,7 +1,7 @@
 -- `c_api::lembikat_nearest_word` meets its contract: what is told of each case of the service's answer is told of the defined reply.
 use borrow.Author.Needs.{needs}
-use Rattle.inner_code.specs.Sheet.{nearestReply}
-use Rattle.c_api.specs.Answers.{told}
+use Rattle.inner_code.specs.Answer.{nearestReply}
+use Rattle.c_api.specs.Answer.{told}
 use Rattle.c_api.proofs.Telling.{telling}
 use Rattle.c_api.proofs.lembikat_nearest_word.Statement.{statement}
 use Rattle.c_api.proofs.lembikat_nearest_word.Tie as tie

@@ -1,7 +1,7 @@
 -- `c_api::lembikat_read` meets its contract: what is told of each case of the service's answer is told of the defined reply.
 use borrow.Author.Needs.{needs}
-use Rattle.messages.specs.Service.{takenReply}
-use Rattle.c_api.specs.Answers.{told}
+use Rattle.messages.specs.Answer.{takenReply}
+use Rattle.c_api.specs.Answer.{told}
 use Rattle.c_api.proofs.Telling.{telling}
 use Rattle.c_api.proofs.lembikat_read.Statement.{statement}
 use Rattle.c_api.proofs.lembikat_read.Tie as tie
@@ -24,16 +24,28 @@ refused-requires c κs = search needs
 same-length : tie.Need-same-length
 same-length c = search needs
 
+-- the service's run, from where its answer is told apart
+abbrev taken : tie.After-slice-known2 → tie.After-read-block
+taken c = c .before .before
+
 returns : tie.Need-returns
 unfolding told
-returns c = (telling takenReply (c .before .enum-told .given .1) (c .before .before .before .before .before .read-block .ensures .0) (c .done .ensures), c .before .before .before .before .before .read-block .ensures .1)
+returns c = (
+  telling takenReply (c .before .enum-told .given .1)
+      (taken (c .before .before .before) .read-block .ensures .0) (c .done .ensures),
+  taken (c .before .before .before) .read-block .ensures .1,
+)
 
 same-length-2 : tie.Need-same-length-2
 same-length-2 c = search needs
 
 returns-2 : tie.Need-returns-2
 unfolding told
-returns-2 c = (telling takenReply (c .before .before .r .given .1) (c .before .before .before .before .before .before .read-block .ensures .0) (c .refused .ensures), c .before .before .before .before .before .before .read-block .ensures .1)
+returns-2 c = (
+  telling takenReply (c .before .before .r .given .1)
+      (taken (c .before .before .before .before) .read-block .ensures .0) (c .refused .ensures),
+  taken (c .before .before .before .before) .read-block .ensures .1,
+)
 
 pub lembikat-read-spec : {M : Type 1} → statement M
 lembikat-read-spec =

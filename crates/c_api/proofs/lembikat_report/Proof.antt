@@ -1,7 +1,7 @@
 -- `c_api::lembikat_report` meets its contract: what is told of each case of the service's answer is told of the defined reply.
 use borrow.Author.Needs.{needs}
-use Rattle.decoder.specs.ReportAnswer.{reportReply}
-use Rattle.c_api.specs.Answers.{told}
+use Rattle.decoder.specs.Answer.{reportReply}
+use Rattle.c_api.specs.Answer.{told}
 use Rattle.c_api.proofs.Telling.{telling}
 use Rattle.c_api.proofs.lembikat_report.Statement.{statement}
 use Rattle.c_api.proofs.lembikat_report.Tie as tie
@@ -24,16 +24,28 @@ refused-requires c κs = search needs
 same-length : tie.Need-same-length
 same-length c = search needs
 
+-- the service's run, from where its answer is told apart
+abbrev reported : tie.After-slice-known2 → tie.After-report-runs
+reported c = c .before .before
+
 returns : tie.Need-returns
 unfolding told
-returns c = (telling reportReply (c .before .before .pairs .given .1) (c .before .before .before .before .before .before .report-runs .ensures .0) (c .done .ensures), c .before .before .before .before .before .before .report-runs .ensures .1)
+returns c = (
+  telling reportReply (c .before .before .pairs .given .1)
+      (reported (c .before .before .before .before) .report-runs .ensures .0) (c .done .ensures),
+  reported (c .before .before .before .before) .report-runs .ensures .1,
+)
 
 same-length-2 : tie.Need-same-length-2
 same-length-2 c = search needs
 
 returns-2 : tie.Need-returns-2
 unfolding told
-returns-2 c = (telling reportReply (c .before .before .r .given .1) (c .before .before .before .before .before .before .report-runs .ensures .0) (c .refused .ensures), c .before .before .before .before .before .before .report-runs .ensures .1)
+returns-2 c = (
+  telling reportReply (c .before .before .r .given .1)
+      (reported (c .before .before .before .before) .report-runs .ensures .0) (c .refused .ensures),
+  reported (c .before .before .before .before) .report-runs .ensures .1,
+)
 
 pub lembikat-report-spec : {M : Type 1} → statement M
 lembikat-report-spec =

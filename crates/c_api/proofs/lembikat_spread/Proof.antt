@@ -1,7 +1,7 @@
 -- `c_api::lembikat_spread` meets its contract: what is told of each case of the service's answer is told of the defined reply.
 use borrow.Author.Needs.{needs}
-use Rattle.radius.specs.PlanAnswer.{spreadReply}
-use Rattle.c_api.specs.Answers.{told}
+use Rattle.radius.specs.Answer.{spreadReply}
+use Rattle.c_api.specs.Answer.{told}
 use Rattle.c_api.proofs.Telling.{telling}
 use Rattle.c_api.proofs.lembikat_spread.Statement.{statement}
 use Rattle.c_api.proofs.lembikat_spread.Tie as tie

@@ -1,11 +1,11 @@
 -- `c_api::refused` meets its contract.
 use mathlib.Core.Path.{refl}
-use Rattle.c_api.specs.Answers.{refusedWith}
+use Rattle.c_api.specs.Answer.{told}
 use Rattle.c_api.proofs.refused.Statement.{statement}
 use Rattle.c_api.proofs.refused.Tie as tie
 
 returns : tie.Need-returns
-unfolding refusedWith
+unfolding told
 returns c = refl
 
 pub refused-spec : {M : Type 1} → statement M

@@ -1,67 +1,70 @@
--- `margin::write_margins` is safe: the parts of the input lie within it.
-use mathlib.Core.Path.{sym}
+-- `margin::write_margins` hands the parts of the input on, which lie within it, and what it writes is what is answered for them.
+use Prim.Native.Nat.{_≤_}
+use mathlib.Core.Path.{_≡_, sym, ap, _∙_}
+use native.Mathlib.Omega.{arith}
+use lib.ListN.{length}
 use lib.Seq.{length-take-le}
-use Rattle.radius.proofs.MarginInputs.{sheet-within, wiring-within}
 use borrow.Author.Needs.{needs}
+use denote.Ref.{now}
+use Rattle.radius.specs.Answer.{numbersReply, numbersAnswer}
+use Rattle.margin.specs.Input.{inputParts}
+use Rattle.margin.specs.Output.{planPart}
+use Rattle.margin.specs.declared.margin_input.MarginInput.{MarginInput}
+use Rattle.margin.proofs.MarginInputs.{sheet-within, wiring-within}
+use Rattle.margin.proofs.Outputs.{first-is}
 use Rattle.margin.proofs.write_margins.Statement.{statement}
 use Rattle.margin.proofs.write_margins.Tie as tie
-use Rattle.margin.proofs.write_margins.Reads as reads
-use Rattle.margin.proofs.write_margins.Lts as lts
-use Rattle.margin.proofs.write_covered.Reads as write-covered-reads
-use Rattle.margin.proofs.write_numbers.Reads as write-numbers-reads
-use Rattle.margin.proofs.write_refusal.Reads as write-refusal-reads
-use Rattle.radius.proofs.split_input.Reads as split-input-reads
-use Rattle.radius.proofs.plan_numbers.Reads as plan-numbers-reads
 
--- src/main.rt:15:9
 split-input-requires : tie.Need-split-input-requires
 split-input-requires c κs = search needs
 
--- src/main.rt:19:32
+within : (c : tie.After-split-input)
+    → let input = now (c .before .before .args .input) in
+    (c .split-input .result .sheet ≤ length input) × (c .split-input .result .wiring ≤ length input)
+within c = rw (c .split-input .ensures) (sheet-within _, wiring-within _)
+
 slice-aggregate-plan-numbers : tie.Need-slice-aggregate-plan-numbers
-slice-aggregate-plan-numbers c = sym (length-take-le _ _ (rw (c .before .split-input .ensures) (sheet-within _)))
+slice-aggregate-plan-numbers c = sym (length-take-le _ _ (omega (arith, within (c .before))))
 
--- src/main.rt:19:52
 sub-plan-numbers : tie.Need-sub-plan-numbers
-sub-plan-numbers c = rw (c .before .split-input .ensures) (wiring-within _)
+sub-plan-numbers c = omega (arith, within (c .before))
 
--- src/main.rt:19:52
 part-plan-numbers-start : tie.Need-part-plan-numbers-start
-part-plan-numbers-start c = rw (c .before .split-input .ensures) (wiring-within _)
+part-plan-numbers-start c = omega (arith, within (c .before))
 
--- src/main.rt:19:52
 part-plan-numbers-end : tie.Need-part-plan-numbers-end
 part-plan-numbers-end c = search needs
 
--- src/main.rt:19:11
 plan-numbers-requires : tie.Need-plan-numbers-requires
 plan-numbers-requires c κs = search needs
 
--- src/main.rt:20:26
 enum-known-r : tie.Need-enum-known-r
 enum-known-r c = search needs
 
--- src/main.rt:20:32
-write-refusal-requires : tie.Need-write-refusal-requires
-write-refusal-requires c κs = search needs
+abbrev start : tie.After-plan-numbers → tie.Start
+start c = c .before .before .before .before .before
 
--- src/main.rt:22:13
+-- the parts are those of the input, so the plan's numbers are the input's
+split : (c : tie.After-plan-numbers) → c .before .before .before .split-input .result ≡ inputParts (now (start c .args .input))
+split c = c .before .before .before .split-input .ensures
+
+answered : (c : tie.After-plan-numbers) → numbersReply (c .plan-numbers .result) ≡ numbersAnswer (planPart (now (start c .args .input)))
+answered c = c .plan-numbers .ensures ∙ first-is _ _ (split c)
+
+write-refusal-requires : tie.Need-write-refusal-requires
+write-refusal-requires c κs = sym (ap numbersReply (c .before .r .given .1)) ∙ answered (c .before .before .before)
+
 enum-known-d : tie.Need-enum-known-d
 enum-known-d c = search needs
 
--- src/main.rt:27:13
-write-numbers-requires : tie.Need-write-numbers-requires
-write-numbers-requires c κs = search needs
+write-plan-requires : tie.Need-write-plan-requires
+write-plan-requires c κs =
+    let told = c .before .before .before in
+    (ap (λ (p : MarginInput). p .n) (split told), sym (ap numbersReply (c .before .d .given .1)) ∙ answered told)
 
--- src/main.rt:28:13
-write-covered-requires : tie.Need-write-covered-requires
-write-covered-requires c κs = search needs
-
--- src/main.rt:14:1
 returns : tie.Need-returns
 returns c = search needs
 
--- src/main.rt:14:1
 returns-2 : tie.Need-returns-2
 returns-2 c = search needs
 
@@ -78,7 +81,6 @@ write-margins-spec =
     enum-known-r
     write-refusal-requires
     enum-known-d
-    write-numbers-requires
-    write-covered-requires
+    write-plan-requires
     returns
     returns-2)

@@ -7,7 +7,7 @@ use native.Mathlib.Omega.{arith}
 use denote.Ref.{now}
 use lib.ListN.{length, getD, set, take, length-set}
 use Rattle.bits.specs.Bit.{written}
-use Rattle.decoder.proofs.Copies.{written-none, written-one-more, written-all}
+use Rattle.bits.proofs.Fronts.{written-start, written-one-more, written-all}
 use Rattle.decoder.proofs.decoding.copy_front.Statement.{statement}
 use Rattle.decoder.proofs.decoding.copy_front.Tie as tie
 
@@ -18,7 +18,7 @@ abbrev μ-loop : tie.MeasureT-loop
 μ-loop from to₀ i₀ to i = length from - i
 
 loop-holds : tie.Need-loop-holds Inv-loop μ-loop
-loop-holds c = (search needs, refl, written-none (now (c .args .from)) (now (c .args .to)))
+loop-holds c = (search needs, refl, written-start (now (c .args .from)) (now (c .args .to)))
 
 shared-slice-read-to : tie.Need-shared-slice-read-to Inv-loop μ-loop
 shared-slice-read-to c = search needs

@@ -1,20 +1,24 @@
 -- `decoder::decode` meets its contract: each return is the outcome of the first test that refuses, and past them all `decode_copy` gives the
 -- answer.
-use mathlib.Core.Path.{_≡_, sym, ap, _∙_}
+use mathlib.Core.Path.{_≡_, refl, sym, ap, _∙_}
 use mathlib.Core.List.{[]}
 use native.Mathlib.Omega.{arith}
 use Prim.Native.Nat.{ℕ, _*_}
+use borrow.Author.Needs.{needs}
 use denote.Ref.{now}
-use Rattle.inner_code.specs.Reply.{done}
-use Rattle.inner_code.specs.Sheet.{degree}
+use Rattle.inner_code.specs.Reply.{Reply, done, refused}
+use Rattle.inner_code.proofs.SheetChecks.{sound-accepted}
+use Rattle.wiring.specs.Plan.{Plan, planOf, edgeCount}
 use Rattle.wiring.specs.Block.{blockCheck}
-use Rattle.wiring.specs.Answer.{checkReply}
+use Rattle.wiring.specs.Checking.{checkReply}
 use Rattle.wiring.proofs.Blocks.{block-sized}
 use Rattle.wiring.proofs.Plans.{PlanAccepted, plan-accepted, plan-refused}
-use Rattle.decoder.proofs.Settling.{decode-plan, decode-block, decode-short, decode-limit}
-use borrow.Author.Needs.{needs}
+use Rattle.decoder.proofs.Settling.{decode-stopped, check-plan, check-block, check-short, check-limit, check-passed}
 use Rattle.decoder.proofs.decoding.decode.Statement.{statement}
 use Rattle.decoder.proofs.decoding.decode.Tie as tie
+
+abbrev planIn : tie.Start → Plan
+planIn c = planOf (now (c .args .sheet)) (c .args .n) (now (c .args .wiring))
 
 check-plan-requires : tie.Need-check-plan-requires
 check-plan-requires c κs = search needs
@@ -25,18 +29,32 @@ enum-known-values c = search needs
 enum-known-values-2 : tie.Need-enum-known-values-2
 enum-known-values-2 c = search needs
 
+-- ---- an accepted plan
+
+abbrev planned : tie.After-known-told2 → tie.After-check-plan
+planned c = c .before .before .before
+
+abbrev start : tie.After-known-told2 → tie.Start
+start c = planned c .before .before .before .before .before
+
 plan : (c : tie.After-known-told2)
-    → PlanAccepted (now (c .before .before .before .before .before .before .before .before .args .sheet)) (c .before .before .before .before .before .before .before .before .args .n) (now (c .before .before .before .before .before .before .before .before .args .wiring)) (c .before .before .before .check-plan .result)
-    (c .before .values2 .given .0 .0) (c .before .values2 .given .0 .1 .0)
-plan c = plan-accepted _ _ _ _ _ _ (c .before .before .before .check-plan .ensures) (c .before .values2 .given .1)
+    → PlanAccepted (planIn (start c)) (planned c .check-plan .result) (c .before .values2 .given .0 .0) (c .before .values2 .given .0 .1 .0)
+plan c = plan-accepted _ _ _ _ (planned c .check-plan .ensures) (c .before .values2 .given .1)
 
 mul-check-block : tie.Need-mul-check-block
 mul-check-block c =
     let p = plan c in
-    omega (arith, p .plan-wired .sized, ap (λ (x : ℕ). c .before .before .before .before .before .before .before .before .args .n * x) (p .d-is))
+    omega (arith, p .plan-wired .sized, ap (λ (x : ℕ). start c .args .n * x) (p .d-is))
 
 check-block-requires : tie.Need-check-block-requires
 check-block-requires c κs = search needs
+
+-- the check of the block at the plan's number of edges
+checked : (c : tie.After-check-block) (reply : Reply) → checkReply (c .check-block .result) ≡ reply
+    → blockCheck (edgeCount (planIn (start (c .before)))) (now (start (c .before) .args .received)) ≡ reply
+checked c reply e =
+    let args = start (c .before) .args in
+    ap (λ (x : ℕ). blockCheck (args .n * x) (now (args .received))) (sym (plan (c .before) .d-is)) ∙ sym (c .check-block .ensures) ∙ e
 
 enum-known-r : tie.Need-enum-known-r
 enum-known-r c = search needs
@@ -44,52 +62,62 @@ enum-known-r c = search needs
 enum-told : tie.Need-enum-told
 enum-told c = search needs
 
-block : (c : tie.After-enum-told) → blockCheck (c .before .before .before .before .before .before .before .before .before .before .before .args .n * degree (now (c .before .before .before .before .before .before .before .before .before .before .before .args .sheet))) (now (c .before .before .before .before .before .before .before .before .before .before .before .args .received)) ≡ done []
-block c =
-    let args = c .before .before .before .before .before .before .before .before .before .before .before .args in
-    ap (λ (x : ℕ). blockCheck (args .n * x) (now (args .received))) (sym (plan (c .before .before .before) .d-is))
-    ∙ sym (c .before .before .check-block .ensures) ∙ ap checkReply (c .enum-told .given .1)
+-- ---- a block that passes
+
+abbrev ready : tie.After-enum-told → tie.After-known-told2
+ready c = c .before .before .before
+
+block : (c : tie.After-enum-told) → blockCheck (edgeCount (planIn (start (ready c)))) (now (start (ready c) .args .received)) ≡ done []
+block c = checked (c .before .before) (done []) (ap checkReply (c .enum-told .given .1))
 
 returns : tie.Need-returns
 returns c =
-    let args = c .before .before .before .before .before .before .before .before .before .before .before .before .args in
-    let pass = block (c .before) in
-    let r = decode-short (now (args .sheet)) (args .n) (now (args .wiring)) (now (args .received)) (now (args .output)) (args .limit)
-    (plan (c .before .before .before .before) .plan-done) pass (omega (arith, block-sized _ _ pass)) in
+    let passed = c .before in
+    let args = start (ready passed) .args in
+    let pass = block passed in
+    let r = decode-stopped _ _ _ _
+    (check-short _ (now (args .received)) (now (args .output)) (args .limit) (plan (ready passed) .plan-done) pass
+    (omega (arith, block-sized _ _ pass))) in
     (sym (r .answer), sym (r .leaves))
 
 returns-2 : tie.Need-returns-2
 returns-2 c =
-    let args = c .before .before .before .before .before .before .before .before .before .before .before .before .before .args in
-    let pass = block (c .before .before) in
-    let r = decode-limit (now (args .sheet)) (args .n) (now (args .wiring)) (now (args .received)) (now (args .output)) (args .limit)
-    (plan (c .before .before .before .before .before) .plan-done) pass (omega (arith, block-sized _ _ pass)) (omega arith) in
+    let passed = c .before .before in
+    let args = start (ready passed) .args in
+    let pass = block passed in
+    let r = decode-stopped _ _ _ _
+    (check-limit _ (now (args .received)) (now (args .output)) (args .limit) (plan (ready passed) .plan-done) pass
+    (omega (arith, block-sized _ _ pass)) (omega arith)) in
     (sym (r .answer), sym (r .leaves))
+
+-- the block that passed, from past the tests of room and limit
+abbrev fitting : tie.Else2 → tie.After-enum-told
+fitting c = c .before .before
+
+prepare-finder-requires : tie.Need-prepare-finder-requires
+prepare-finder-requires c κs = search needs
 
 decode-copy-requires : tie.Need-decode-copy-requires
 decode-copy-requires c κs =
-    let p = plan (c .before .before .before .before .before .before .before .before) in (
-      search needs,
-      (
-        search needs,
-        record { plan-done = p .plan-done; block-done = block (c .before .before .before .before .before); d-is = p .d-is; k-is = p .k-is; basis-is = p .basis-is },
-      ),
+    let prepared = c .before .before in
+    let passed = fitting (prepared .before .before .before .before) in
+    let p = plan (ready passed) in
+    let pass = block passed in (
+      prepared .prepare-finder .ensures .finds refl (sound-accepted _ (p .sheet-sound)) (p .k-is) (p .basis-is),
+      check-passed _ _ _ _ (p .plan-done) pass (omega (arith, block-sized _ _ pass)) (omega arith),
     )
 
 returns-3 : tie.Need-returns-3
 returns-3 c =
-    let args = c .before .before .before .before .before .before .before .before .args in
-    let r = decode-plan (now (args .sheet)) (args .n) (now (args .wiring)) (now (args .received)) (now (args .output)) (args .limit) _ _
-    (plan-refused _ _ _ _ _ (c .before .before .before .check-plan .ensures) (c .before .values .given .1)) in
+    let r = decode-stopped _ _ _ _
+    (check-plan _ _ _ _ (plan-refused _ _ _ (c .before .before .before .check-plan .ensures) (c .before .values .given .1))) in
     (sym (r .answer), sym (r .leaves))
 
 returns-4 : tie.Need-returns-4
 returns-4 c =
-    let args = c .before .before .before .before .before .before .before .before .before .before .before .before .args in
-    let p = plan (c .before .before .before .before) in
-    let r = decode-block (now (args .sheet)) (args .n) (now (args .wiring)) (now (args .received)) (now (args .output)) (args .limit) (p .plan-done) _ _
-    (ap (λ (x : ℕ). blockCheck (args .n * x) (now (args .received))) (sym (p .d-is))
-    ∙ sym (c .before .before .before .check-block .ensures) ∙ ap checkReply (c .before .r .given .1)) in
+    let block = c .before .before .before in
+    let r = decode-stopped _ _ _ _
+    (check-block _ _ _ _ (plan (block .before) .plan-done) (checked block (refused _ _) (ap checkReply (c .before .r .given .1)))) in
     (sym (r .answer), sym (r .leaves))
 
 same-length : tie.Need-same-length
@@ -111,6 +139,7 @@ decode-spec =
     enum-told
     returns
     returns-2
+    prepare-finder-requires
     decode-copy-requires
     returns-3
     returns-4

@@ -5,13 +5,35 @@ use Prim.Native.Nat.{_-_}
 use native.Mathlib.Omega.{arith}
 use denote.Ref.{now}
 use lib.ListN.{length, take}
-use Rattle.decoder.proofs.Copies.{written-part, copy-settled, copy-unsettled}
+use Rattle.bits.proofs.Fronts.{written-part}
+use Rattle.wiring.specs.Plan.{Plan, planOf}
+use Rattle.decoder.proofs.Copies.{Passed, check-means, copy-settled, copy-unsettled}
 use borrow.Author.Needs.{needs}
 use Rattle.decoder.proofs.decoding.decode_copy.Statement.{statement}
 use Rattle.decoder.proofs.decoding.decode_copy.Tie as tie
 
+abbrev planIn : tie.Start → Plan
+planIn c = planOf (now (c .args .sheet)) (c .args .n) (now (c .args .wiring))
+
+passed : (c : tie.Start) → Passed (planIn c) (now (c .args .received)) (now (c .args .output)) (c .args .limit)
+passed c = check-means _ _ _ _ (c .pre .1)
+
+-- ---- the call, from the first copy on, and that copy, from where the block to settle is lent
+
+abbrev copying : tie.After-copy-front-arg → tie.Start
+copying c = c .before .before .before .before .before
+
+abbrev start : tie.After-copy-front → tie.Start
+start c = copying (c .before)
+
+abbrev lent : tie.After-settle-arg → tie.After-copy-front
+lent c = c .before .before .before
+
+abbrev copied : tie.After-settle → tie.After-copy-front
+copied c = lent (c .before .before)
+
 copy-front-requires : tie.Need-copy-front-requires
-copy-front-requires c κs = search needs
+copy-front-requires c κs = passed (copying c) .room
 
 sub-settle : tie.Need-sub-settle
 sub-settle c = search needs
@@ -20,40 +42,50 @@ part-settle-start : tie.Need-part-settle-start
 part-settle-start c = search needs
 
 part-settle-end : tie.Need-part-settle-end
-part-settle-end c = search needs
+part-settle-end c =
+    let copy = lent c in
+    omega (arith, passed (start copy) .room, copy .copy-front .kept .1 .0)
 
 settle-requires : tie.Need-settle-requires
 settle-requires c κs =
-    let start = c .before .before .before .before .before .before .before .before .before in
-    let received = now (start .args .received) in
+    let copy = lent (c .before) in
+    let args = start copy .args in
+    let received = now (args .received) in
     let whole : length received - 0 ≡ length received = omega arith in
-    let part : take (length received - 0) (c .before .before .before .copy-front .last .1 .0) ≡ received =
-    ap (take (length received - 0)) (c .before .before .before .copy-front .ensures) ∙ written-part received (now (start .args .output)) _ whole in
-    (start .pre .0, rw part (start .pre .1 .1))
+    let part : take (length received - 0) (copy .copy-front .last .1 .0) ≡ received =
+    ap (take (length received - 0)) (copy .copy-front .ensures) ∙ written-part received (now (args .output)) _ whole in
+    let p = passed (start copy) in
+    (p .limited, (record { plan-done = p .plan-done; finds = start copy .pre .0 }, rw part (p .block-done)))
 
 copy-front-requires-2 : tie.Need-copy-front-requires-2
-copy-front-requires-2 c κs = search needs
+copy-front-requires-2 c κs =
+    let room = passed (start (copied (c .before .before .before .before))) .room in
+    search needs
 
 same-length : tie.Need-same-length
 same-length c = search needs
 
 returns : tie.Need-returns
 returns c =
-    let start = c .before .before .before .before .before .before .before .before .before .before .before .before .before .before .before .before .before in
-    let settled = c .before .before .before .before .before .before .before .settle in
-    copy-unsettled (start .pre .1 .1) _ _ (start .pre .0) (start .pre .1 .0) (settled .last .1 .1 .1 .1 .1 .1 .1 .0) (length (now (start .args .received)) - 0)
-    (c .before .before .before .before .before .before .before .before .before .before .before .copy-front .ensures) (omega arith) (settled .ensures .0) (settled .kept .1 .1 .1 .1 .1 .1 .1 .0) (c .before .before .before .before .if1 .taken)
-    (c .before .before .copy-front2 .ensures)
+    let stopped = c .before .before .before .before in
+    let swept = stopped .before .before .before in
+    let copy = copied swept in
+    let received = now (start copy .args .received) in
+    let settled = swept .settle in
+    copy-unsettled _ _ _ _ (start copy .pre .1) (settled .last .1 .1 .1 .1 .1 .0) (length received - 0) (copy .copy-front .ensures) (omega arith)
+    (settled .ensures .0) (settled .kept .1 .1 .1 .1 .1 .0) (stopped .if1 .taken) (c .before .before .copy-front2 .ensures)
 
 same-length-2 : tie.Need-same-length-2
 same-length-2 c = search needs
 
 returns-2 : tie.Need-returns-2
 returns-2 c =
-    let start = c .before .before .before .before .before .before .before .before .before .before .before .before .before in
-    let settled = c .before .before .before .settle in
-    copy-settled (start .pre .1 .1) _ _ (start .pre .0) (start .pre .1 .0) (settled .last .1 .1 .1 .1 .1 .1 .1 .0) (length (now (start .args .received)) - 0)
-    (c .before .before .before .before .before .before .before .copy-front .ensures) (omega arith) (settled .ensures .0) (settled .kept .1 .1 .1 .1 .1 .1 .1 .0) (settled .ensures .1) (c .if1 .left)
+    let swept = c .before .before .before in
+    let copy = copied swept in
+    let received = now (start copy .args .received) in
+    let settled = swept .settle in
+    copy-settled _ _ _ _ (start copy .pre .1) (settled .last .1 .1 .1 .1 .1 .0) (length received - 0) (copy .copy-front .ensures) (omega arith)
+    (settled .ensures .0) (settled .kept .1 .1 .1 .1 .1 .0) (settled .ensures .1) (c .if1 .left)
 
 pub decode-copy-spec : {M : Type 1} → statement M
 decode-copy-spec =

@@ -25,6 +25,10 @@ loop-holds c =
     let test = differsAt (now (args .received)) (now (args .settled)) in
     (search needs, sym (start-zero test), sym (runCount-zero test))
 
+-- the call, from the loop's head on
+abbrev start : tie.At-loop Inv-loop μ-loop → tie.Start Inv-loop μ-loop
+start c = c .before .before .before
+
 agreeing-requires : tie.Need-agreeing-requires Inv-loop μ-loop
 agreeing-requires c κs = search needs
 
@@ -36,16 +40,18 @@ loop-less c = search needs
 
 loop-again : tie.Need-loop-again Inv-loop μ-loop
 loop-again c =
-    let args = c .before .before .before .before .before .before .args in
+    let turn = c .before .before .before in
+    let args = start turn .args in
     let test = differsAt (now (args .received)) (now (args .settled)) in
-    let before = c .before .before .before .loop in
+    let before = turn .loop in
     let on = c .before .agreeing .ensures .none (c .if1 .taken) in
     (search needs, before .inv .1 ∙ sym (start-one-more-inside test (before .i) on), before .inv .2 ∙ sym (inside-count test (before .i) on))
 
 add-count : tie.Need-add-count Inv-loop μ-loop
 add-count c =
-    let args = c .before .before .before .before .before .before .before .args in
-    let before = c .before .before .before .before .loop in
+    let turn = c .before .before .before .before in
+    let args = start turn .args in
+    let before = turn .loop in
     omega (arith, runCount-le (differsAt (now (args .received)) (now (args .settled))) (before .i))
 
 add-i-2 : tie.Need-add-i-2 Inv-loop μ-loop
@@ -56,9 +62,10 @@ loop-less-2 c = search needs
 
 loop-again-2 : tie.Need-loop-again-2 Inv-loop μ-loop
 loop-again-2 c =
-    let args = c .before .before .before .before .before .before .before .args in
+    let turn = c .before .before .before .before in
+    let args = start turn .args in
     let test = differsAt (now (args .received)) (now (args .settled)) in
-    let before = c .before .before .before .before .loop in
+    let before = turn .loop in
     let same = c .before .before .agreeing in
     let some : 0 < same .result = omega arith in (
       same .ensures .within,
@@ -71,7 +78,7 @@ loop-again-2 c =
 
 returns : tie.Need-returns Inv-loop μ-loop
 returns c =
-    let args = c .before .before .before .before .args in
+    let args = start (c .before) .args in
     let end : c .before .loop .i ≡ args .edges + 1 = omega arith in
     c .before .loop .inv .2 ∙ ap (runCount (differsAt (now (args .received)) (now (args .settled)))) end
 

@@ -1,14 +1,15 @@
 -- `decoder::report_runs` meets its contract: each return is the outcome of the first place that refuses, and the runs are counted before
 -- the first is written, so a list that is too short stays as it is.
 use borrow.Author.Needs.{needs}
-use Prim.Native.Nat.{_+_, _*_}
+use Prim.Native.Nat.{ℕ, _+_, _*_}
 use mathlib.Core.List.{[]}
 use mathlib.Core.Path.{_≡_, sym, ap, _∙_}
 use native.Mathlib.Omega.{arith}
 use denote.Ref.{now}
 use Rattle.inner_code.specs.Reply.{done}
 use Rattle.wiring.specs.Block.{blockCheck}
-use Rattle.wiring.specs.Answer.{checkReply}
+use Rattle.wiring.specs.Plan.{Plan, planOf}
+use Rattle.wiring.specs.Checking.{checkReply}
 use Rattle.wiring.proofs.Plans.{PlanAccepted, plan-accepted, plan-refused}
 use Rattle.decoder.specs.Report.{differsAt}
 use Rattle.decoder.specs.Agreement.{Held}
@@ -26,10 +27,23 @@ enum-known-values c = search needs
 enum-known-values-2 : tie.Need-enum-known-values-2
 enum-known-values-2 c = search needs
 
+-- ---- the call, and what is known once plan and blocks are checked
+
+abbrev first : tie.After-check-plan → tie.Start
+first c = c .before .before .before .before .before .before
+
+abbrev start : tie.After-known-told2 → tie.Start
+start c = first (c .before .before .before)
+
+abbrev planIn : tie.Start → Plan
+planIn c = planOf (now (c .args .sheet)) (c .args .n) (now (c .args .wiring))
+
+abbrev degreeIn : tie.After-known-told2 → ℕ
+degreeIn c = c .before .values2 .given .0 .0
+
 plan : (c : tie.After-known-told2)
-    → PlanAccepted (now (c .before .before .before .before .before .before .before .before .before .args .sheet)) (c .before .before .before .before .before .before .before .before .before .args .n) (now (c .before .before .before .before .before .before .before .before .before .args .wiring)) (c .before .before .before .check-plan .result)
-    (c .before .values2 .given .0 .0) (c .before .values2 .given .0 .1 .0)
-plan c = plan-accepted _ _ _ _ _ _ (c .before .before .before .check-plan .ensures) (c .before .values2 .given .1)
+    → PlanAccepted (planIn (start c)) (c .before .before .before .check-plan .result) (degreeIn c) (c .before .values2 .given .0 .1 .0)
+plan c = plan-accepted _ _ _ _ (c .before .before .before .check-plan .ensures) (c .before .values2 .given .1)
 
 mul-edges : tie.Need-mul-edges
 mul-edges c = omega (arith, edges-few (plan c))
@@ -43,8 +57,15 @@ enum-known-r c = search needs
 enum-told : tie.Need-enum-told
 enum-told c = search needs
 
+-- the plan's check, from behind that of the received block and that of the settled one
+abbrev ready : tie.After-enum-told → tie.After-known-told2
+ready c = c .before .before .before
+
+abbrev both : tie.After-enum-told2 → tie.After-enum-told
+both c = c .before .before .before
+
 passed-received : (c : tie.After-enum-told)
-    → blockCheck (c .before .before .before .before .before .before .before .before .before .before .before .before .args .n * c .before .before .before .before .values2 .given .0 .0) (now (c .before .before .before .before .before .before .before .before .before .before .before .before .args .received)) ≡ done []
+    → blockCheck (start (ready c) .args .n * degreeIn (ready c)) (now (start (ready c) .args .received)) ≡ done []
 passed-received c = sym (c .before .before .check-block .ensures) ∙ ap checkReply (c .enum-told .given .1)
 
 check-block-requires-2 : tie.Need-check-block-requires-2
@@ -57,59 +78,69 @@ enum-told-2 : tie.Need-enum-told-2
 enum-told-2 c = search needs
 
 passed-settled : (c : tie.After-enum-told2)
-    → blockCheck (c .before .before .before .before .before .before .before .before .before .before .before .before .before .before .before .args .n * c .before .before .before .before .before .before .before .values2 .given .0 .0) (now (c .before .before .before .before .before .before .before .before .before .before .before .before .before .before .before .args .settled)) ≡ done []
+    → blockCheck (start (ready (both c)) .args .n * degreeIn (ready (both c))) (now (start (ready (both c)) .args .settled)) ≡ done []
 passed-settled c = sym (c .before .before .check-block2 .ensures) ∙ ap checkReply (c .enum-told2 .given .1)
 
 held : (c : tie.After-enum-told2)
-    → Held (now (c .before .before .before .before .before .before .before .before .before .before .before .before .before .before .before .args .received)) (now (c .before .before .before .before .before .before .before .before .before .before .before .before .before .before .before .args .settled)) (c .before .before .before .before .before .before .before .before .before .before .before .before .before .before .before .args .n * c .before .before .before .before .before .before .before .values2 .given .0 .0)
-held c = blocks-held _ _ _ (edges-few (plan (c .before .before .before .before .before .before))) (passed-received (c .before .before .before)) (passed-settled c)
+    → let args = start (ready (both c)) .args in Held (now (args .received)) (now (args .settled)) (args .n * degreeIn (ready (both c)))
+held c = blocks-held _ _ _ (edges-few (plan (ready (both c)))) (passed-received (both c)) (passed-settled c)
 
 count-runs-requires : tie.Need-count-runs-requires
 count-runs-requires c κs = held c
 
 mul-if1 : tie.Need-mul-if1
 mul-if1 c =
-    let args = c .before .before .before .before .before .before .before .before .before .before .before .before .before .before .before .before .args in
-    let edges = args .n * c .before .before .before .before .before .before .before .before .values2 .given .0 .0 in
-    omega (arith, c .count-runs .ensures, runCount-le (differsAt (now (args .received)) (now (args .settled))) (edges + 1), held (c .before) .few)
+    let checked = ready (both (c .before)) in
+    let args = start checked .args in
+    let few = runCount-le (differsAt (now (args .received)) (now (args .settled))) (args .n * degreeIn checked + 1) in
+    omega (arith, c .count-runs .ensures, few, held (c .before) .few)
 
 returns : tie.Need-returns
 returns c =
-    let args = c .before .before .before .before .before .before .before .before .before .before .before .before .before .before .before .before .before .args in
-    outcome-short (now (args .sheet)) (args .n) (now (args .wiring)) (now (args .received)) (now (args .settled)) (now (args .list))
-    (plan (c .before .before .before .before .before .before .before .before)) (passed-received (c .before .before .before .before .before)) (passed-settled (c .before .before)) _
-    (c .before .count-runs .ensures) (omega arith)
+    let blocks = c .before .before in
+    let args = start (ready (both blocks)) .args in
+    outcome-short (planIn (start (ready (both blocks)))) (now (args .received)) (now (args .settled)) (now (args .list)) (plan (ready (both blocks)))
+    (passed-received (both blocks)) (passed-settled blocks) _ (c .before .count-runs .ensures) (omega arith)
 
 write-runs-requires : tie.Need-write-runs-requires
 write-runs-requires c κs = (held (c .before .before .before), omega (arith, c .before .before .count-runs .ensures))
 
+-- the count of the runs, from where they are written
+abbrev counted : tie.After-write-runs → tie.After-count-runs
+counted c = c .before .before .before
+
 returns-2 : tie.Need-returns-2
 returns-2 c =
-    let args = c .before .before .before .before .before .before .before .before .before .args in
-    outcome-plan (now (args .sheet)) (args .n) (now (args .wiring)) (now (args .received)) (now (args .settled)) (now (args .list)) _ _
-    (plan-refused _ _ _ _ _ (c .before .before .before .check-plan .ensures) (c .before .values .given .1))
+    let refusing = first (c .before .before .before) in
+    let args = refusing .args in
+    outcome-plan (planIn refusing) (now (args .received)) (now (args .settled)) (now (args .list)) _ _
+    (plan-refused _ _ _ (c .before .before .before .check-plan .ensures) (c .before .values .given .1))
 
 returns-3 : tie.Need-returns-3
 returns-3 c =
-    let args = c .before .before .before .before .before .before .before .before .before .before .before .before .before .args in
-    outcome-received (now (args .sheet)) (args .n) (now (args .wiring)) (now (args .received)) (now (args .settled)) (now (args .list))
-    (plan (c .before .before .before .before)) _ _ (sym (c .before .before .before .check-block .ensures) ∙ ap checkReply (c .before .r .given .1))
+    let checked = c .before .before .before .before in
+    let args = start checked .args in
+    outcome-received (planIn (start checked)) (now (args .received)) (now (args .settled)) (now (args .list)) (plan checked) _ _
+    (sym (c .before .before .before .check-block .ensures) ∙ ap checkReply (c .before .r .given .1))
 
 returns-4 : tie.Need-returns-4
 returns-4 c =
-    let args = c .before .before .before .before .before .before .before .before .before .before .before .before .before .before .before .before .args in
-    outcome-settled (now (args .sheet)) (args .n) (now (args .wiring)) (now (args .received)) (now (args .settled)) (now (args .list))
-    (plan (c .before .before .before .before .before .before .before)) (passed-received (c .before .before .before .before)) _ _ (sym (c .before .before .before .check-block2 .ensures) ∙ ap checkReply (c .before .r2 .given .1))
+    let one = c .before .before .before .before in
+    let args = start (ready one) .args in
+    outcome-settled (planIn (start (ready one))) (now (args .received)) (now (args .settled)) (now (args .list)) (plan (ready one))
+    (passed-received one) _ _ (sym (c .before .before .before .check-block2 .ensures) ∙ ap checkReply (c .before .r2 .given .1))
 
 same-length : tie.Need-same-length
 same-length c = search needs
 
 returns-5 : tie.Need-returns-5
 returns-5 c =
-    let args = c .before .before .before .before .before .before .before .before .before .before .before .before .before .before .before .before .before .before .before .before .before .args in
-    outcome-done (now (args .sheet)) (args .n) (now (args .wiring)) (now (args .received)) (now (args .settled)) (now (args .list))
-    (plan (c .before .before .before .before .before .before .before .before .before .before .before .before)) (passed-received (c .before .before .before .before .before .before .before .before .before)) (passed-settled (c .before .before .before .before .before .before)) _
-    (c .before .before .before .before .before .count-runs .ensures) _ (omega arith) (c .before .before .write-runs .ensures)
+    let count = counted (c .before .before) in
+    let blocks = count .before in
+    let args = start (ready (both blocks)) .args in
+    outcome-done (planIn (start (ready (both blocks)))) (now (args .received)) (now (args .settled)) (now (args .list)) (plan (ready (both blocks)))
+    (passed-received (both blocks)) (passed-settled blocks) _ (count .count-runs .ensures) _ (omega arith)
+    (c .before .before .write-runs .ensures)
 
 pub report-runs-spec : {M : Type 1} → statement M
 report-runs-spec =

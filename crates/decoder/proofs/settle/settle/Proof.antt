@@ -1,185 +1,121 @@
--- `decoder::settle` meets its contract: the code's word is the nearest word, so each call of `sweep_side` is a sweep of the definition, and
--- its count tells whether the block before it was settled. The loop is entered unsettled after two sweeps and left at the first count after
--- which the block is settled, or past the limit.
-use mathlib.Core.Bool.{true, false}
+-- `decoder::settle` meets its contract: each call of `sweep_side` is a sweep of the definition, and its count tells whether the block before it
+-- was settled. The loop is entered unsettled after two sweeps and left at the first count after which the block is settled, or past the limit.
 use mathlib.Core.List.{List}
-use mathlib.Core.Logic.{⊎-elim}
 use mathlib.Core.Path.{_≡_, refl, sym, _∙_}
 use Prim.Native.Nat.{ℕ, _+_, _-_, _≤_}
 use native.Mathlib.Omega.{arith}
 use borrow.Author.Needs.{needs}
 use denote.Ref.{now}
-use lib.ListN.{length, take, replicate}
-use Rattle.wiring.proofs.Permutation.{Wired}
-use Rattle.decoder.specs.Sweep.{rightTurn}
-use Rattle.decoder.specs.Mending.{Prepared, LeadersKept}
-use Rattle.decoder.proofs.Mending.{Mender, Lent, from-table, from-list, lent-table, lent-list, lent-mender, lent-leaders}
-use Rattle.decoder.proofs.Passes.{Pass, Swept, turn-zero, turn-one, turn-two, turn-more, swept-zero, prepared-sound, prepared-wired, prepared-degree, pass, swept-two, swept-more, settle-zero, settle-one, settle-later, settle-never}
+use lib.ListN.{length}
+use Rattle.inner_code.specs.Finding.{Finds}
+use Rattle.wiring.specs.Plan.{Plan, planOf, sideOf}
+use Rattle.decoder.specs.Sweep.{turn}
+use Rattle.decoder.specs.Visiting.{Ready}
+use Rattle.decoder.proofs.Sweeping.{after-zero}
+use Rattle.decoder.proofs.Passes.{Begun, Pass, Swept, turn-zero, turn-one, turn-two, turn-more, pass, swept-two, swept-more}
+use Rattle.decoder.proofs.Passes.{settle-zero, settle-one, settle-later, settle-never}
 use Rattle.decoder.proofs.settle.settle.Statement.{statement}
 use Rattle.decoder.proofs.settle.settle.Tie as tie
 
 abbrev Inv-loop : tie.InvT-loop
-Inv-loop sheet n wiring d k basis limit block₀ tabled listed near words leaders₀ first second right₀ count₀ block leaders right count =
-    (2 ≤ count) × (right ≡ rightTurn count) × (length block ≡ length block₀)
-    × ((received : List ℕ) → Prepared sheet n wiring d k basis received → Swept sheet n wiring received 2 block₀
-    → Swept sheet n wiring received count block) × (LeadersKept basis k words leaders₀ → LeadersKept basis k words leaders)
+Inv-loop sheet n wiring finder₀ limit block₀ first second side₀ count₀ finder block side count =
+    (2 ≤ count) × (side ≡ turn count) × (length block ≡ length block₀)
+    × ((received : List ℕ) → Begun (planOf sheet n wiring) received → Swept (planOf sheet n wiring) received 2 block₀
+    → Swept (planOf sheet n wiring) received count block)
+    × (Finds sheet finder₀ → Finds sheet finder)
 
 abbrev μ-loop : tie.MeasureT-loop
-μ-loop sheet n wiring d k basis limit block₀ tabled listed near words leaders₀ first second right₀ count₀ block leaders right count =
-    limit + 1 - count
+μ-loop sheet n wiring finder₀ limit block₀ first second side₀ count₀ finder block side count = limit + 1 - count
 
-nearest-words-requires : tie.Need-nearest-words-requires Inv-loop μ-loop
-nearest-words-requires c κs = search needs
+-- ---- the call
 
-is-house-requires : tie.Need-is-house-requires Inv-loop μ-loop
-is-house-requires c κs = search needs
+abbrev planIn : tie.Start Inv-loop μ-loop → Plan
+planIn c = planOf (now (c .args .sheet)) (c .args .n) (now (c .args .wiring))
 
-list-codewords-requires : tie.Need-list-codewords-requires Inv-loop μ-loop
-list-codewords-requires c κs = search needs
+abbrev receivedIn : tie.Start Inv-loop μ-loop → List ℕ
+receivedIn c = now (c .args .block)
 
-sub-near : tie.Need-sub-near Inv-loop μ-loop
-sub-near c = search needs
+begun : (c : tie.Start Inv-loop μ-loop) → Begun (planIn c) (receivedIn c)
+begun c = record { plan-done = c .pre .1 .0 .plan-done; block-done = c .pre .1 .1 }
 
-part-near-start : tie.Need-part-near-start Inv-loop μ-loop
-part-near-start c = search needs
-
--- which table and which list the code lends on
-lent : (c : tie.Joined1 Inv-loop μ-loop)
-    → Lent (now (c .before .before .before .before .before .before .args .sheet)) (c .before .before .before .before .before .before .args .k)
-    (c .if1 .tabled - 0) (c .if1 .listed - 0) (c .if1 .list)
-lent c =
-    ⊎-elim
-    (λ w. from-table (c .before .is-house .ensures .0 (w .0 .taken)) (omega (arith, w .2)) (omega (arith, w .3)) (w .1))
-    (λ w. from-list (omega (arith, w .4)) (omega (arith, w .5, w .2 .ensures .0)) (w .3 ∙ w .2 .ensures .1))
-    (c .if1 .came)
-
-part-near-end : tie.Need-part-near-end Inv-loop μ-loop
-part-near-end c = omega (arith, lent-table (lent (c .before .before)), c .before .before .before .before .nearest-words .ensures .sized)
-
-sub-words : tie.Need-sub-words Inv-loop μ-loop
-sub-words c = search needs
-
-part-words-start : tie.Need-part-words-start Inv-loop μ-loop
-part-words-start c = search needs
-
-part-words-end : tie.Need-part-words-end Inv-loop μ-loop
-part-words-end c = omega (arith, lent-list (lent (c .before .before .before .before .before)))
-
--- ---- what the code knows once its table and its list are lent
-
-abbrev start : tie.After-words Inv-loop μ-loop → tie.Start Inv-loop μ-loop
-start c = c .before .before .before .before .before .before .before .before .before .before .before .before
-
-abbrev near : tie.After-words Inv-loop μ-loop → List ℕ
-near c =
-    let chosen = c .before .before .before .before .before .before in
-    take (chosen .if1 .tabled - 0) (chosen .before .before .nearest-words .result)
-
-abbrev words : tie.After-words Inv-loop μ-loop → List ℕ
-words c =
-    let chosen = c .before .before .before .before .before .before in
-    take (chosen .if1 .listed - 0) (chosen .if1 .list)
-
-mender : (c : tie.After-words Inv-loop μ-loop) → Mender (now (start c .args .sheet)) (near c) (now (start c .args .basis)) (start c .args .k) (words c)
-mender c =
-    let chosen = c .before .before .before .before .before .before in
-    let p = start c .pre .1 in
-    lent-mender (prepared-sound p) (chosen .before .before .nearest-words .ensures) (p .basis-is) (p .k-is) (lent chosen)
-
-abbrev PreparedFor : tie.After-words Inv-loop μ-loop → List ℕ → Type 0
-PreparedFor c received =
-    let args = start c .args in
-    Prepared (now (args .sheet)) (args .n) (now (args .wiring)) (args .d) (args .k) (now (args .basis)) received
-
-abbrev KeptFor : tie.After-words Inv-loop μ-loop → List ℕ → Type 0
-KeptFor c leaders = LeadersKept (now (start c .args .basis)) (start c .args .k) (words c) leaders
-
-abbrev PassOf : tie.After-words Inv-loop μ-loop → List ℕ → ℕ → ℕ → List ℕ → Type 0
-PassOf c received i changed after =
-    let args = start c .args in
-    Pass (now (args .sheet)) (args .n) (now (args .wiring)) received i changed after
-
-abbrev SweptOf : tie.After-words Inv-loop μ-loop → List ℕ → ℕ → List ℕ → Type 0
-SweptOf c received count block =
-    let args = start c .args in
-    Swept (now (args .sheet)) (args .n) (now (args .wiring)) received count block
-
--- what a sweep asks for
-side-requires : (c : tie.After-words Inv-loop μ-loop) (leaders : List ℕ) → KeptFor c leaders
-    → (start c .args .d ≤ 16) × (Wired (start c .args .d) (start c .args .n) (now (start c .args .wiring)) × KeptFor c leaders)
-side-requires c leaders kept = (prepared-degree (start c .pre .1), (prepared-wired (start c .pre .1), kept))
-
-none-kept : (c : tie.After-words Inv-loop μ-loop) → KeptFor c (replicate 512 0)
-none-kept c =
-    let chosen = c .before .before .before .before .before .before in
-    let p = start c .pre .1 in
-    lent-leaders (prepared-sound p) (p .basis-is) (p .k-is) (lent chosen) refl
+ready-with : (c : tie.Start Inv-loop μ-loop) {finder : List ℕ} → Finds (now (c .args .sheet)) finder → Ready (planIn c) finder
+ready-with c found = record { plan-done = c .pre .1 .0 .plan-done; finds = found }
 
 -- ---- the first two sweeps
 
+abbrev lent : tie.After-sweep-side-arg2 Inv-loop μ-loop → tie.Start Inv-loop μ-loop
+lent c = c .before .before .before .before .before
+
+abbrev start : tie.After-sweep-side Inv-loop μ-loop → tie.Start Inv-loop μ-loop
+start c = lent (c .before)
+
+abbrev lent-again : tie.After-sweep-side-arg4 Inv-loop μ-loop → tie.After-sweep-side Inv-loop μ-loop
+lent-again c = c .before .before .before .before
+
+abbrev one : tie.After-sweep-side2 Inv-loop μ-loop → tie.After-sweep-side Inv-loop μ-loop
+one c = lent-again (c .before)
+
 sweep-side-requires : tie.Need-sweep-side-requires Inv-loop μ-loop
-sweep-side-requires c κs = side-requires (c .before .before) _ (none-kept (c .before .before))
+sweep-side-requires c κs = lent c .pre .1 .0
 
 sweep-side-requires-2 : tie.Need-sweep-side-requires-2 Inv-loop μ-loop
-sweep-side-requires-2 c κs = side-requires (c .before .before .before .before .before .before .before) _ (c .before .before .before .before .sweep-side .ensures .1 .0)
+sweep-side-requires-2 c κs =
+    let first = lent-again c in
+    ready-with (start first) (first .sweep-side .ensures .finds)
 
-first-pass : (c : tie.After-sweep-side Inv-loop μ-loop)
-    → PassOf (c .before .before .before) (now (start (c .before .before .before) .args .block)) 0 (c .sweep-side .result) (c .sweep-side .last .1 .1 .1 .1 .1 .1 .1 .1 .1 .0)
-first-pass c =
-    let ready = c .before .before .before in
-    pass (start ready .pre .1) (mender ready) false _ turn-zero (sym (swept-zero _ _ _ _)) (c .sweep-side .ensures .0, c .sweep-side .ensures .1 .1)
+first-pass : (c : tie.After-sweep-side Inv-loop μ-loop) → Pass (planIn (start c)) (receivedIn (start c)) 0 (c .sweep-side .result)
+    (c .sweep-side .last .1 .1 .1 .1 .1 .0)
+first-pass c = pass (begun (start c)) (c .sweep-side .ensures) turn-zero (sym (after-zero (sideOf (planIn (start c))) (receivedIn (start c))))
 
-second-pass : (c : tie.After-sweep-side2 Inv-loop μ-loop)
-    → PassOf (c .before .before .before .before .before .before .before .before) (now (start (c .before .before .before .before .before .before .before .before) .args .block)) 1 (c .sweep-side2 .result) (c .sweep-side2 .last .1 .1 .1 .1 .1 .1 .1 .1 .1 .0)
-second-pass c =
-    let ready = c .before .before .before .before .before .before .before .before in
-    pass (start ready .pre .1) (mender ready) true _ turn-one (first-pass (c .before .before .before .before .before) .leaves) (c .sweep-side2 .ensures .0, c .sweep-side2 .ensures .1 .1)
+second-pass : (c : tie.After-sweep-side2 Inv-loop μ-loop) → Pass (planIn (start (one c))) (receivedIn (start (one c))) 1 (c .sweep-side2 .result)
+    (c .sweep-side2 .last .1 .1 .1 .1 .1 .0)
+second-pass c = pass (begun (start (one c))) (c .sweep-side2 .ensures) turn-one (first-pass (one c) .leaves)
 
 same-length : tie.Need-same-length Inv-loop μ-loop
 same-length c = search needs
 
 returns : tie.Need-returns Inv-loop μ-loop
 returns c =
-    let second = c .before .before .before .before in
-    settle-zero (start (second .before .before .before .before .before .before .before .before) .pre .1) _ (first-pass (second .before .before .before .before .before)) (second-pass second) (c .if3 .taken) (c .before .if2 .taken)
+    let two = c .before .before .before .before in
+    settle-zero (begun (start (one two))) _ (first-pass (one two)) (second-pass two) (c .if2 .taken) (c .before .if1 .taken)
 
 same-length-2 : tie.Need-same-length-2 Inv-loop μ-loop
 same-length-2 c = search needs
 
 returns-2 : tie.Need-returns-2 Inv-loop μ-loop
 returns-2 c =
-    let second = c .before .before .before .before in
-    settle-one (start (second .before .before .before .before .before .before .before .before) .pre .1) _ (first-pass (second .before .before .before .before .before)) (second-pass second) (c .if3 .left) (c .before .if2 .taken)
+    let two = c .before .before .before .before in
+    settle-one (begun (start (one two))) _ (first-pass (one two)) (second-pass two) (c .if2 .left) (c .before .if1 .taken)
 
 -- ---- the loop
 
 loop-holds : tie.Need-loop-holds Inv-loop μ-loop
-loop-holds c = (search needs, turn-two, refl, λ received p s. s, λ kept. kept)
+loop-holds c = (search needs, turn-two, refl, λ received b s. s, λ found. found)
 
-abbrev ready : tie.At-loop Inv-loop μ-loop → tie.After-words Inv-loop μ-loop
-ready c = c .before .before .before .before .before .before .before .before .before .before .before .before
+abbrev two : tie.At-loop Inv-loop μ-loop → tie.After-sweep-side2 Inv-loop μ-loop
+two c = c .before .before .before .before
 
-swept : (c : tie.At-loop Inv-loop μ-loop) → SweptOf (ready c) (now (start (ready c) .args .block)) (c .loop .count) (c .loop .block)
+abbrev begin : tie.At-loop Inv-loop μ-loop → tie.Start Inv-loop μ-loop
+begin c = start (one (two c))
+
+swept : (c : tie.At-loop Inv-loop μ-loop) → Swept (planIn (begin c)) (receivedIn (begin c)) (c .loop .count) (c .loop .block)
 swept c =
-    let second = c .before .before .before .before in
-    let p = start (ready c) .pre .1 in
-    c .loop .inv .3 _ p (swept-two p (first-pass (second .before .before .before .before .before)) (second-pass second) (c .before .if2 .left))
+    c .loop .inv .3 _ (begun (begin c)) (swept-two (begun (begin c)) (first-pass (one (two c))) (second-pass (two c)) (c .before .if1 .left))
 
-kept : (c : tie.At-loop Inv-loop μ-loop) → KeptFor (ready c) (c .loop .leaders)
-kept c = c .loop .inv .4 (c .before .before .before .before .sweep-side2 .ensures .1 .0)
+ready : (c : tie.At-loop Inv-loop μ-loop) → Ready (planIn (begin c)) (c .loop .finder)
+ready c = ready-with (begin c) (c .loop .inv .4 (two c .sweep-side2 .ensures .finds))
+
+abbrev head : tie.After-sweep-side3 Inv-loop μ-loop → tie.At-loop Inv-loop μ-loop
+head c = c .before .before .before .before
 
 sweep-side-requires-3 : tie.Need-sweep-side-requires-3 Inv-loop μ-loop
-sweep-side-requires-3 c κs =
-    let head = c .before .before .before in
-    side-requires (ready head) _ (kept head)
+sweep-side-requires-3 c κs = ready (c .before .before .before)
 
 -- whatever block was received
-later-pass : (c : tie.After-sweep-side3 Inv-loop μ-loop) (received : List ℕ) → PreparedFor (ready (c .before .before .before .before)) received
-    → SweptOf (ready (c .before .before .before .before)) received (c .before .before .before .before .loop .count) (c .before .before .before .before .loop .block)
-    → PassOf (ready (c .before .before .before .before)) received (c .before .before .before .before .loop .count) (c .sweep-side3 .result) (c .sweep-side3 .last .1 .1 .1 .1 .1 .1 .1 .1 .1 .0)
-later-pass c received p so-far =
-    let head = c .before .before .before .before in
-    pass p (mender (ready head)) (head .loop .right) (head .loop .block) (head .loop .inv .1) (so-far .block-is) (c .sweep-side3 .ensures .0, c .sweep-side3 .ensures .1 .1)
+later-pass : (c : tie.After-sweep-side3 Inv-loop μ-loop) (received : List ℕ) → Begun (planIn (begin (head c))) received
+    → Swept (planIn (begin (head c))) received (head c .loop .count) (head c .loop .block)
+    → Pass (planIn (begin (head c))) received (head c .loop .count) (c .sweep-side3 .result) (c .sweep-side3 .last .1 .1 .1 .1 .1 .0)
+later-pass c received b so-far = pass b (c .sweep-side3 .ensures) (head c .loop .inv .1) (so-far .block-is)
 
 same-length-3 : tie.Need-same-length-3 Inv-loop μ-loop
 same-length-3 c = search needs
@@ -187,39 +123,42 @@ same-length-3 c = search needs
 returns-3 : tie.Need-returns-3 Inv-loop μ-loop
 returns-3 c =
     let last = c .before .before .before in
-    let head = last .before .before .before .before in
-    let p = start (ready head) .pre .1 in
-    settle-later p (swept head) (later-pass last _ p (swept head)) (c .if4 .taken) (omega (arith, head .loop .inv .0)) (last .before .before .before .loop-test .taken)
+    let b = begun (begin (head last)) in
+    settle-later b (swept (head last)) (later-pass last _ b (swept (head last))) (c .if3 .taken) (omega (arith, head last .loop .inv .0))
+    (last .before .before .before .loop-test .taken)
+
+other-side-requires : tie.Need-other-side-requires Inv-loop μ-loop
+other-side-requires c κs = search needs
 
 add-count : tie.Need-add-count Inv-loop μ-loop
 add-count c =
-    let turn = c .before .before .before .before .before .before in
-    omega (arith, turn .loop-test .taken, start (ready (turn .before)) .pre .0)
+    let last = c .before .before .before .before in
+    omega (arith, last .before .before .before .loop-test .taken, begin (head last) .pre .0)
 
 loop-less : tie.Need-loop-less Inv-loop μ-loop
 loop-less c = search needs
 
 loop-again : tie.Need-loop-again Inv-loop μ-loop
 loop-again c =
-    let last = c .before .before .before in
-    let head = last .before .before .before .before in (
-      omega (arith, head .loop .inv .0),
-      turn-more _ (head .loop .inv .1),
-      last .sweep-side3 .kept .1 .1 .1 .1 .1 .1 .1 .1 .1 .0 ∙ head .loop .inv .2,
-      λ received p s.
-          let so-far = head .loop .inv .3 received p s in
-          swept-more p so-far (later-pass last received p so-far) (c .if4 .left),
-      λ first. last .sweep-side3 .ensures .1 .0,
+    let last = c .before .before .before .before in
+    let before = head last .loop in (
+      omega (arith, before .inv .0),
+      c .other-side .ensures ∙ turn-more _ (before .inv .1),
+      last .sweep-side3 .kept .1 .1 .1 .1 .1 .0 ∙ before .inv .2,
+      λ received b s.
+          let so-far = before .inv .3 received b s in
+          swept-more b so-far (later-pass last received b so-far) (c .before .if3 .left),
+      λ first. last .sweep-side3 .ensures .finds,
     )
 
 add-result : tie.Need-add-result Inv-loop μ-loop
-add-result c = omega (arith, start (ready (c .before)) .pre .0)
+add-result c = omega (arith, begin (c .before) .pre .0)
 
 same-length-4 : tie.Need-same-length-4 Inv-loop μ-loop
 same-length-4 c = search needs
 
 returns-4 : tie.Need-returns-4 Inv-loop μ-loop
-returns-4 c = settle-never (start (ready (c .before)) .pre .1) (swept (c .before)) (c .loop-test .left)
+returns-4 c = settle-never (begun (begin (c .before))) (swept (c .before)) (c .loop-test .left)
 
 pub settle-spec : {M : Type 1} → statement M
 settle-spec =
@@ -227,15 +166,6 @@ settle-spec =
     (tie.spec
     Inv-loop
     μ-loop
-    nearest-words-requires
-    is-house-requires
-    list-codewords-requires
-    sub-near
-    part-near-start
-    part-near-end
-    sub-words
-    part-words-start
-    part-words-end
     sweep-side-requires
     sweep-side-requires-2
     same-length
@@ -246,6 +176,7 @@ settle-spec =
     sweep-side-requires-3
     same-length-3
     returns-3
+    other-side-requires
     add-count
     loop-less
     loop-again

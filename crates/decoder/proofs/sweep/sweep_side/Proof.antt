@@ -1,86 +1,120 @@
--- `decoder::sweep_side` meets its contract: when v vertices are done, they are visited or passed over, and `changed` is how many of them the
--- map gave another word.
-use mathlib.Core.Logic.{⊎-elim}
-use mathlib.Core.Path.{_≡_, refl, ap, _∙_}
+-- `decoder::sweep_side` meets its contract: after v vertices the block is the one with the first v visited, and `changed` counts those that
+-- changed. Passing over vertices is visiting them, and a vertex at which it stops changes.
+use mathlib.Core.Path.{refl}
 use Prim.Native.Nat.{_-_, _≤_}
 use native.Mathlib.Omega.{arith}
 use borrow.Author.Needs.{needs}
 use denote.Ref.{now}
-use lib.ListN.{length}
-use Rattle.wiring.specs.Wiring.{edgeOf}
-use Rattle.wiring.specs.Block.{sideBit}
-use Rattle.decoder.specs.Mending.{mendedBy, LeadersKept, PassedOver}
-use Rattle.decoder.proofs.Sweeping.{length-visited}
-use Rattle.decoder.proofs.Visiting.{Visits, visits-none, visits-le, visits-changed, visits-kept, visits-passed, visits-sweep}
+use Rattle.inner_code.specs.Sheet.{degree}
+use Rattle.wiring.specs.Plan.{Plan, planOf, sideOf}
+use Rattle.decoder.specs.Visiting.{Ready}
+use Rattle.decoder.proofs.Visiting.{Visits, visits-none, visits-le, visits-changed, visits-passed, visits-sweep, visits-length}
+use Rattle.decoder.proofs.Visiting.{word-found, word-put, ready-sheet, ready-whole}
 use Rattle.decoder.proofs.sweep.sweep_side.Statement.{statement}
 use Rattle.decoder.proofs.sweep.sweep_side.Tie as tie
 
 abbrev Inv-loop : tie.InvT-loop
-Inv-loop right wiring d n near basis k words leaders₀ block₀ changed₀ v₀ leaders block changed v =
-    (v ≤ n) × Visits (mendedBy near basis k words) (sideBit right (edgeOf wiring)) d block₀ v changed block × LeadersKept basis k words leaders
+Inv-loop sheet n wiring side finder₀ block₀ d changed₀ v₀ finder block changed v =
+    (v ≤ n) × Visits (sideOf (planOf sheet n wiring) side) block₀ v changed block × Ready (planOf sheet n wiring) finder
 
 abbrev μ-loop : tie.MeasureT-loop
-μ-loop right wiring d n near basis k words leaders₀ block₀ changed₀ v₀ leaders block changed v = n - v
+μ-loop sheet n wiring side finder₀ block₀ d changed₀ v₀ finder block changed v = n - v
+
+-- ---- the call, the loop's head, and what passing over gives
+
+abbrev start : tie.After-shared-slice-known3 Inv-loop μ-loop → tie.Start Inv-loop μ-loop
+start c = c .before .before .before .before
+
+abbrev planIn : tie.Start Inv-loop μ-loop → Plan
+planIn c = planOf (now (c .args .sheet)) (c .args .n) (now (c .args .wiring))
+
+abbrev head : tie.After-pass-over Inv-loop μ-loop → tie.At-loop Inv-loop μ-loop
+head c = c .before .before .before .before
+
+passed : (c : tie.After-pass-over Inv-loop μ-loop)
+    → let first = start (head c .before) in
+    Visits (sideOf (planIn first) (first .args .side)) (now (first .args .block)) (c .pass-over .result) (head c .loop .changed) (head c .loop .block)
+passed c =
+    let turn = head c .loop in
+    visits-passed (ready-whole (turn .inv .2) (start (head c .before) .args .side)) (turn .inv .1) (c .pass-over .ensures)
+
+shared-slice-read-d : tie.Need-shared-slice-read-d Inv-loop μ-loop
+shared-slice-read-d c = ready-sheet (start c .pre)
+
+cast-d : tie.Need-cast-d Inv-loop μ-loop
+cast-d c = omega (arith, c .shared-slice-known3 .given 0)
 
 loop-holds : tie.Need-loop-holds Inv-loop μ-loop
-loop-holds c = (search needs, visits-none, c .before .before .before .before .pre .1 .1)
+loop-holds c = (search needs, visits-none, start c .pre)
 
 pass-over-requires : tie.Need-pass-over-requires Inv-loop μ-loop
-pass-over-requires c κs = search needs
+pass-over-requires c κs =
+    let turn = c .before .before .before .loop in
+    (turn .inv .0, turn .inv .2)
 
 read-word-requires : tie.Need-read-word-requires Inv-loop μ-loop
 read-word-requires c κs = search needs
 
-mended-word-requires : tie.Need-mended-word-requires Inv-loop μ-loop
-mended-word-requires c κs = search needs
+find-nearest-requires : tie.Need-find-nearest-requires Inv-loop μ-loop
+find-nearest-requires c κs = search needs
 
 write-word-requires : tie.Need-write-word-requires Inv-loop μ-loop
 write-word-requires c κs = search needs
 
+-- ---- vertex v is mended: its nearest word is found, its number was below n, and passing over stopped at it
+
+abbrev mending : tie.After-slice-known2 Inv-loop μ-loop → tie.After-find-nearest Inv-loop μ-loop
+mending c = c .before .before .before .before
+
+abbrev inside : tie.After-slice-known2 Inv-loop μ-loop → tie.Then1 Inv-loop μ-loop
+inside c = mending c .before .before .before .before
+
+abbrev stop : tie.After-slice-known2 Inv-loop μ-loop → tie.After-pass-over Inv-loop μ-loop
+stop c = inside c .before
+
 add-changed : tie.Need-add-changed Inv-loop μ-loop
-add-changed c = omega (arith, visits-le (c .before .before .before .before .before .before .before .before .before .before .before .before .before .loop .inv .1))
+add-changed c =
+    let all = visits-le (passed (stop c)) in
+    omega (arith, inside c .if1 .taken)
 
 add-v : tie.Need-add-v Inv-loop μ-loop
 add-v c = search needs
 
 loop-less : tie.Need-loop-less Inv-loop μ-loop
-loop-less c = omega (arith, c .before .before .before .before .before .before .pass-over .ensures .after)
+loop-less c =
+    let from = stop c .pass-over .ensures .after in
+    omega (arith, inside c .if1 .taken)
 
 loop-again : tie.Need-loop-again Inv-loop μ-loop
+unfolding degree
 loop-again c =
-    let start = c .before .before .before .before .before .before .before .before .before .before .before .before .before .before in
-    let args = start .args in
-    let passed = visits-passed (start .pre .1 .0) (start .pre .0) (args .right) (now (args .words)) (c .before .before .before .before .before .before .before .before .before .loop .inv .1) (c .before .before .before .before .before .before .pass-over .ensures) in (
-      search needs,
-      ⊎-elim
-          (λ w. visits-changed (start .pre .1 .0) (start .pre .0) (args .right) (omega arith)
-          passed (c .before .before .before .read-word .ensures) (c .before .mended-word .ensures .0) (w .0 .taken)
-          (w .5 ∙ w .2 .ensures) (w .6))
-          (λ w. visits-kept (start .pre .1 .0) (start .pre .0) (args .right) (omega arith)
-          passed (c .before .before .before .read-word .ensures) (c .before .mended-word .ensures .0) (w .0 .left) (w .1) (w .2))
-          (c .if2 .came),
-      c .before .mended-word .ensures .1,
+    let found = mending c in
+    let below = inside c .if1 .taken in
+    let first = start (head (stop c) .before) in
+    let turn = head (stop c) .loop in
+    let name = first .args .side in
+    let ready = turn .inv .2 in (
+      omega (arith, below),
+      visits-changed (ready-whole ready name) below (passed (stop c)) (stop c .pass-over .ensures .stops below)
+          (word-found ready name (turn .block) below refl (found .before .before .read-word .ensures) (found .find-nearest .ensures))
+          (word-put ready name (turn .block) (found .find-nearest .result) below refl (c .before .before .write-word .ensures)),
+      record { plan-done = ready .plan-done; finds = found .find-nearest .ensures .finds _ (ready .finds) },
     )
 
 loop-less-2 : tie.Need-loop-less-2 Inv-loop μ-loop
-loop-less-2 c = omega (arith, c .before .pass-over .ensures .after)
+loop-less-2 c = omega (arith, head (c .before) .loop .inv .0, c .before .before .before .before .loop-test .taken)
 
 loop-again-2 : tie.Need-loop-again-2 Inv-loop μ-loop
-loop-again-2 c =
-    let start = c .before .before .before .before .before .before .before .before .before in (
-      c .before .pass-over .ensures .within,
-      visits-passed (start .pre .1 .0) (start .pre .0) (start .args .right) (now (start .args .words)) (c .before .before .before .before .loop .inv .1) (c .before .pass-over .ensures),
-      c .before .before .before .before .loop .inv .2,
-    )
+loop-again-2 c = (c .before .pass-over .ensures .within, passed (c .before), head (c .before) .loop .inv .2)
 
 same-length : tie.Need-same-length Inv-loop μ-loop
-same-length c = ap length (c .before .loop .inv .1 .swept) ∙ length-visited _ _ _ _ _
+same-length c = visits-length (c .before .loop .inv .1)
 
 returns : tie.Need-returns Inv-loop μ-loop
 returns c =
-    let end : c .before .loop .v ≡ c .before .before .before .before .before .before .args .n = omega arith in
-    let all = visits-sweep _ _ (c .before .loop .inv .1) end in
-    (all .0, (c .before .loop .inv .2, all .1))
+    let turn = c .before .loop in
+    let all = visits-sweep (turn .inv .1) (omega (arith, turn .inv .0)) in
+    record { counted = all .0; leaves = all .1; finds = turn .inv .2 .finds }
 
 pub sweep-side-spec : {M : Type 1} → statement M
 sweep-side-spec =
@@ -88,10 +122,12 @@ sweep-side-spec =
     (tie.spec
     Inv-loop
     μ-loop
+    shared-slice-read-d
+    cast-d
     loop-holds
     pass-over-requires
     read-word-requires
-    mended-word-requires
+    find-nearest-requires
     write-word-requires
     add-changed
     add-v

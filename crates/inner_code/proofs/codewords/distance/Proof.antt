@@ -1,13 +1,14 @@
 -- `inner_code::distance` meets its contract: after m turns `fewest` is the fewest ones of the first m words.
-use mathlib.Core.Path.{_≡_, refl, sym, ap, _∙_}
+use mathlib.Core.Path.{_≡_, ap, _∙_}
 use mathlib.Core.Logic.{⊎-elim}
-use Prim.Native.Nat.{ℕ, _≤_, _-_}
+use Prim.Native.Nat.{_≤_, _-_}
 use borrow.Author.Needs.{needs}
 use native.Mathlib.Omega.{arith}
 use denote.Ref.{now}
 use lib.ListN.{length}
-use Rattle.bits.specs.Bit.{at}
-use Rattle.inner_code.specs.Code.{least, fewestOnes}
+use Rattle.bits.specs.Window.{at}
+use Rattle.bits.specs.Search.{least}
+use Rattle.inner_code.specs.Reduction.{fewestOnes}
 use Rattle.inner_code.proofs.InnerDistance.{fewest-lower, fewest-kept, fewest-zero}
 use Rattle.inner_code.proofs.codewords.distance.Statement.{statement}
 use Rattle.inner_code.proofs.codewords.distance.Tie as tie

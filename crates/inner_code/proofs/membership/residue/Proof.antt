@@ -1,11 +1,11 @@
 -- `inner_code::residue` meets its contract: after i turns `left` is the word reduced by the first i rows.
-use mathlib.Core.Path.{_≡_, refl, sym, ap, _∙_}
+use mathlib.Core.Path.{_≡_, ap, _∙_}
 use mathlib.Core.Logic.{⊎-elim}
 use Prim.Native.Nat.{ℕ, _≤_, _-_, min}
 use borrow.Author.Needs.{needs}
 use native.Mathlib.Omega.{arith}
 use denote.Ref.{now}
-use Rattle.bits.specs.Bit.{at}
+use Rattle.bits.specs.Window.{at}
 use Rattle.inner_code.specs.Reduction.{reducedBy}
 use Rattle.inner_code.proofs.EchelonForm.{reducedBy-put, reducedBy-kept}
 use Rattle.inner_code.proofs.membership.residue.Statement.{statement}
@@ -19,40 +19,34 @@ Inv-loop basis count word left₀ i₀ left i = (i ≤ count) × (i ≤ 11) × (
 abbrev μ-loop : tie.MeasureT-loop
 μ-loop basis count word left₀ i₀ left i = count - i
 
--- src/membership.rt:14:5
 loop-holds : tie.Need-loop-holds Inv-loop μ-loop
 unfolding reducedBy
 loop-holds c = search needs
 
--- src/membership.rt:16:13
 returns : tie.Need-returns Inv-loop μ-loop
 returns c =
     let last : c .before .before .loop .i ≡ min (c .before .before .before .args .count) 11 = omega arith in
     c .before .before .loop .inv .2
     ∙ ap (λ (n : ℕ). reducedBy (at (now (c .before .before .before .args .basis))) n (c .before .before .before .args .word)) last
 
--- src/membership.rt:18:26
 mul-put : tie.Need-mul-put Inv-loop μ-loop
 mul-put c = search needs
 
--- src/membership.rt:18:26
 element-copy-out-put : tie.Need-element-copy-out-put Inv-loop μ-loop
 element-copy-out-put c = search needs
 
--- src/membership.rt:22:9
 add-i : tie.Need-add-i Inv-loop μ-loop
 add-i c = search needs
 
--- src/membership.rt:14:5
 loop-less : tie.Need-loop-less Inv-loop μ-loop
 loop-less c = search needs
 
--- src/membership.rt:14:5
 loop-again : tie.Need-loop-again Inv-loop μ-loop
 unfolding at
 loop-again c =
-    let before = c .before .before .before .before .loop in
-    let args = c .before .before .before .before .before .args in
+    let turn = c .before .before .before .before in
+    let before = turn .loop in
+    let args = turn .before .args in
     let basis = at (now (args .basis)) in (
       search needs,
       search needs,
@@ -60,7 +54,6 @@ loop-again c =
           (λ w. w .1 ∙ reducedBy-kept basis (before .i) (args .word) (before .left) (before .inv .2) (w .0 .left)) (c .if2 .came),
     )
 
--- src/membership.rt:9:1
 returns-2 : tie.Need-returns-2 Inv-loop μ-loop
 returns-2 c =
     let last : c .before .loop .i ≡ min (c .before .before .args .count) 11 = omega arith in

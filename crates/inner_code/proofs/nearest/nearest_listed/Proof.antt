@@ -1,5 +1,5 @@
 -- `inner_code::nearest_listed` meets its contract: after m turns `best` is the least key of the patterns to the first m words.
-use mathlib.Core.Path.{_≡_, refl, sym, ap, _∙_}
+use mathlib.Core.Path.{_≡_, ap, _∙_}
 use mathlib.Core.Logic.{⊎-elim}
 use Prim.Native.Nat.{ℕ, _≤_, _<_, _-_, _^_, _%_}
 use borrow.Author.Needs.{needs}
@@ -8,8 +8,9 @@ use denote.Ref.{now}
 use lib.ListN.{length, getD}
 use lib.Bits.{bitXor, xor-lt}
 use lib.Count.{ones-le}
-use Rattle.bits.specs.Bit.{at}
-use Rattle.inner_code.specs.Code.{key, noKey, least}
+use Rattle.bits.specs.Window.{at}
+use Rattle.bits.specs.Search.{least}
+use Rattle.inner_code.specs.Code.{key, noKey}
 use Rattle.inner_code.specs.Reduction.{leastKey, searched}
 use Rattle.inner_code.proofs.NearestWord.{leastKey-lower, leastKey-kept}
 use Rattle.inner_code.proofs.nearest.nearest_listed.Statement.{statement}

@@ -1,8 +1,8 @@
 -- `inner_code::nearest_word` meets its contract: each return is the outcome of the first test that holds, and the search over the
 -- listed codewords finds the nearest word.
-use mathlib.Core.Path.{_≡_, refl, sym, ap, ap₂, _∙_, subst}
-use mathlib.Core.List.{List, [], _∷_}
-use Prim.Native.Nat.{ℕ, _+_, _*_, _-_, _%_, _^_, _≤_, _<_, min}
+use mathlib.Core.Path.{_≡_, refl, sym, ap, _∙_}
+use mathlib.Core.List.{[], _∷_}
+use Prim.Native.Nat.{ℕ, _*_, _-_, _%_, _^_, _≤_, _<_, min}
 use borrow.Author.Needs.{needs}
 use native.Mathlib.Omega.{arith}
 use native.Mathlib.Nat.{min-eq-left, one-mul}
@@ -21,22 +21,27 @@ use Rattle.inner_code.proofs.nearest.nearest_word.Lts as lts
 use Rattle.inner_code.proofs.nearest.nearest_of_rows.Reads as nearest-of-rows-reads
 use Rattle.inner_code.proofs.sheet.check_sheet.Reads as check-sheet-reads
 
--- src/nearest.rt:24:9
 check-sheet-requires : tie.Need-check-sheet-requires
 check-sheet-requires c κs = search needs
 
--- src/nearest.rt:27:24
 enum-known-values : tie.Need-enum-known-values
 enum-known-values c = search needs
 
--- src/nearest.rt:28:27
 enum-known-values-2 : tie.Need-enum-known-values-2
 enum-known-values-2 c = search needs
 
+-- ---- the sheet's check, the call, and what an accepted sheet gives
+
+abbrev checked : tie.After-known-told2 → tie.After-check-sheet
+checked c = c .before .before .before
+
+abbrev start : tie.After-check-sheet → tie.Start
+start c = c .before .before
+
 plan : (c : tie.After-known-told2)
-    → Accepted (now (c .before .before .before .before .before .args .sheet)) (c .before .before .before .check-sheet .result)
+    → Accepted (now (start (checked c) .args .sheet)) (checked c .check-sheet .result)
     (c .before .values2 .given .0 .0) (c .before .values2 .given .0 .1 .0)
-plan c = accepted _ _ _ _ (c .before .before .before .check-sheet .ensures) (c .before .values2 .given .1)
+plan c = accepted _ _ _ _ (checked c .check-sheet .ensures) (c .before .values2 .given .1)
 
 -- a word of 64 bits holds 2^d
 power : (d : ℕ) → d ≤ 16 → (1 * 2 ^ d) % 18446744073709551616 ≡ 2 ^ d
@@ -45,7 +50,6 @@ power d h = omega (arith, one-mul (2 ^ d), pow-mono {i = d} {j = 16} h)
 shl-if1 : tie.Need-shl-if1
 shl-if1 c = omega (arith, plan c .d-is, plan c .sheet-sound .degree-high)
 
--- src/nearest.rt:30:17
 returns : tie.Need-returns
 returns c =
     let p = plan (c .before) in
@@ -53,8 +57,7 @@ returns c =
     let test = ap (λ (d : ℕ). (1 * 2 ^ d) % 18446744073709551616) (p .d-is) in
     sym (nearest-answer-high _ _ (p .sheet-done) (omega (arith, limit, test, c .if1 .taken)))
 
--- src/nearest.rt:32:53
-low : (c : tie.Else1) → c .before .before .before .before .before .before .args .word < 2 ^ degree (now (c .before .before .before .before .before .before .args .sheet))
+low : (c : tie.Else1) → let args = start (checked (c .before)) .args in args .word < 2 ^ degree (now (args .sheet))
 low c =
     let p = plan (c .before) in
     omega
@@ -63,25 +66,22 @@ low c =
 cast-nearest-of-rows : tie.Need-cast-nearest-of-rows
 cast-nearest-of-rows c = omega (arith, low c, pow-mono {j = 16} (plan (c .before) .sheet-sound .degree-high))
 
--- src/nearest.rt:32:27
 nearest-of-rows-requires : tie.Need-nearest-of-rows-requires
 nearest-of-rows-requires c κs = search needs
 
--- src/nearest.rt:32:27
 cast-t9 : tie.Need-cast-t9
 cast-t9 c = search needs
 
--- src/nearest.rt:21:1
 returns-2 : tie.Need-returns-2
 returns-2 c =
     sym (nearest-answer-refused _ _ _ _ (turned-back _ _ _ (c .before .before .before .check-sheet .ensures) (c .before .values .given .1)))
 
--- src/nearest.rt:21:1
 returns-3 : tie.Need-returns-3
 returns-3 c =
     let p = plan (c .before .before) in
-    let sheet = now (c .before .before .before .before .before .before .before .args .sheet) in
-    let word = c .before .before .before .before .before .before .before .args .word in
+    let args = start (checked (c .before .before)) .args in
+    let sheet = now (args .sheet) in
+    let word = args .word in
     let rows : min (c .before .before .before .values2 .given .0 .1 .0) 11 ≡ rowCount sheet =
     ap (λ (k : ℕ). min k 11) (p .k-is) ∙ min-eq-left (p .sheet-sound .count-high) in
     sym

@@ -1,7 +1,7 @@
 -- `messages::count_live` meets its contract: after p turns the rows left below p are counted.
 use borrow.Author.Needs.{needs}
-use mathlib.Core.Path.{_≡_, refl, sym, ap, ap₂, _∙_}
-use Prim.Native.Nat.{ℕ, _+_, _*_, _-_, _/_, _%_, _^_, _≤_, _<_}
+use mathlib.Core.Path.{_≡_, sym, ap, _∙_}
+use Prim.Native.Nat.{_-_, _≤_, _<_}
 use native.Mathlib.Omega.{arith}
 use Rattle.messages.specs.Columns.{liveBefore}
 use Rattle.messages.proofs.StoredRows.{rowBit-lt}

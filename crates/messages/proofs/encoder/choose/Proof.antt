@@ -1,7 +1,7 @@
 -- `messages::choose` meets its contract: after p turns the rows below p are chosen, and `rank` of them are left.
 use borrow.Author.Needs.{needs}
-use mathlib.Core.Path.{_≡_, refl, sym, ap, ap₂, _∙_}
-use Prim.Native.Nat.{ℕ, _+_, _*_, _-_, _/_, _%_, _^_, _≤_, _<_}
+use mathlib.Core.Path.{_≡_, sym, ap, ap₂, _∙_}
+use Prim.Native.Nat.{_*_, _-_, _≤_, _<_}
 use native.Mathlib.Omega.{arith}
 use denote.Ref.{now}
 use lib.ListN.{length, length-set}
@@ -20,6 +20,9 @@ Inv-loop edges columns message chosen₀ rank₀ p₀ chosen rank p =
 
 abbrev μ-loop : tie.MeasureT-loop
 μ-loop edges columns message chosen₀ rank₀ p₀ chosen rank p = edges - p
+
+abbrev start : tie.At-loop Inv-loop μ-loop → tie.Start Inv-loop μ-loop
+start c = c .before .before .before .before
 
 loop-holds : tie.Need-loop-holds Inv-loop μ-loop
 loop-holds c =
@@ -55,9 +58,9 @@ slice-write-chosen c = search needs
 
 add-rank : tie.Need-add-rank Inv-loop μ-loop
 add-rank c =
-    let before = c .before .before .before .before .loop in
+    let turn = c .before .before .before .before in
     let live : c .before .before .row-bit .result < 2 = rw (c .before .before .row-bit .ensures) (rowBit-lt _ _ _) in
-    omega (arith, before .inv .2, live-le (now (c .before .before .before .before .before .before .before .before .args .columns)) (before .p))
+    omega (arith, turn .loop .inv .2, live-le (now (start turn .args .columns)) (turn .loop .p))
 
 add-p : tie.Need-add-p Inv-loop μ-loop
 add-p c = search needs
@@ -68,7 +71,7 @@ loop-less c = search needs
 loop-again : tie.Need-loop-again Inv-loop μ-loop
 loop-again c =
     let before = c .before .before .before .before .loop in
-    let args = c .before .before .before .before .before .before .before .before .args in
+    let args = start (c .before .before .before .before) .args in
     let live = c .before .before .row-bit .ensures in
     let bit = ap₂ _*_ live (c .before .bit .ensures ∙ ap (bitAt (now (args .message))) (before .inv .2)) in (
       search needs,
@@ -78,11 +81,11 @@ loop-again c =
     )
 
 same-length : tie.Need-same-length Inv-loop μ-loop
-same-length c = c .before .loop .inv .1 ∙ sym (ap length (c .before .before .before .before .before .pre .1 .1) ∙ length-noRows)
+same-length c = c .before .loop .inv .1 ∙ sym (ap length (start (c .before) .pre .1 .1) ∙ length-noRows)
 
 returns : tie.Need-returns Inv-loop μ-loop
 returns c =
-    let end : c .before .loop .p ≡ c .before .before .before .before .before .args .edges = omega arith in
+    let end : c .before .loop .p ≡ start (c .before) .args .edges = omega arith in
     rw end at (c .before .loop .inv .3)
 
 pub choose-spec : {M : Type 1} → statement M

@@ -1,14 +1,13 @@
 -- `messages::encode_rows` meets its contract: each return is the outcome of the first of message and output that refuses, or the whole
 -- block is written.
 use borrow.Author.Needs.{needs}
-use mathlib.Core.Path.{_≡_, refl, sym, ap, _∙_}
-use native.Mathlib.Omega.{arith}
-use denote.Ref.{now}
 use mathlib.Core.List.{[]}
+use mathlib.Core.Path.{_≡_, refl, sym, ap, _∙_}
 use Prim.Native.Nat.{ℕ}
+use denote.Ref.{now}
 use Rattle.inner_code.specs.Reply.{done}
 use Rattle.wiring.specs.Block.{blockBytes}
-use Rattle.wiring.specs.Answer.{checkReply}
+use Rattle.wiring.specs.Checking.{checkReply}
 use Rattle.messages.specs.Message.{messageCheck}
 use Rattle.messages.specs.Columns.{noRows, liveBefore}
 use Rattle.messages.proofs.Outcomes.{encoded-turned-back, encoded-short, encoded-whole}
@@ -18,8 +17,8 @@ use Rattle.messages.proofs.encoder.encode_rows.Tie as tie
 count-live-requires : tie.Need-count-live-requires
 count-live-requires c κs = search needs
 
-check-message-requires : tie.Need-check-message-requires
-check-message-requires c κs = search needs
+check-bits-requires : tie.Need-check-bits-requires
+check-bits-requires c κs = search needs
 
 enum-known-r : tie.Need-enum-known-r
 enum-known-r c = search needs
@@ -27,11 +26,20 @@ enum-known-r c = search needs
 enum-told : tie.Need-enum-told
 enum-told c = search needs
 
-passes : (c : tie.After-enum-told) → messageCheck (liveBefore (now (c .before .before .before .before .before .before .before .args .columns)) (c .before .before .before .before .before .before .before .args .edges)) (now (c .before .before .before .before .before .before .before .args .message)) ≡ done []
+abbrev called : tie.After-count-live → tie.Start
+called c = c .before .before .before .before
+
+abbrev counted : tie.After-enum-told → tie.After-count-live
+counted c = c .before .before .before
+
+abbrev start : tie.After-enum-told → tie.Start
+start c = called (counted c)
+
+passes : (c : tie.After-enum-told)
+    → messageCheck (liveBefore (now (start c .args .columns)) (start c .args .edges)) (now (start c .args .message)) ≡ done []
 passes c =
-    ap (λ (K : ℕ). messageCheck K (now (c .before .before .before .before .before .before .before .args .message))) (sym (c .before .before .before .count-live .ensures))
-    ∙ sym (c .before .before .check-message .ensures)
-    ∙ ap checkReply (c .enum-told .given .1)
+    ap (λ (K : ℕ). messageCheck K (now (start c .args .message))) (sym (counted c .count-live .ensures))
+    ∙ sym (c .before .before .check-bits .ensures) ∙ ap checkReply (c .enum-told .given .1)
 
 add-bytes : tie.Need-add-bytes
 add-bytes c = search needs
@@ -45,7 +53,7 @@ slice-aggregate-choose c = search needs
 
 choose-requires : tie.Need-choose-requires
 unfolding noRows
-choose-requires c κs = let pre = c .before .before .before .before .before .before .before .before .before .pre in (pre .0, (pre .1, refl))
+choose-requires c κs = let pre = start (c .before .before) .pre in (pre .0, (pre .1, refl))
 
 clear-requires : tie.Need-clear-requires
 clear-requires c κs = search needs
@@ -58,10 +66,14 @@ put-bits-requires c κs = search needs
 
 returns-2 : tie.Need-returns-2
 returns-2 c =
-    let args = c .before .before .before .before .before .before .before .before .args in
+    let count = c .before .before .before .before in
+    let message = now (called count .args .message) in
     encoded-turned-back _ _ _ _ _
-    (ap (λ (K : ℕ). messageCheck K (now (args .message))) (sym (c .before .before .before .before .count-live .ensures)) ∙ sym (c .before .before .before .check-message .ensures)
-    ∙ ap checkReply (c .before .r .given .1))
+    (ap (λ (K : ℕ). messageCheck K message) (sym (count .count-live .ensures))
+    ∙ sym (c .before .before .before .check-bits .ensures) ∙ ap checkReply (c .before .r .given .1))
+
+abbrev cleared : tie.After-put-bits-arg → tie.After-clear
+cleared c = c .before .before .before .before
 
 same-length : tie.Need-same-length
 same-length c = search needs
@@ -69,15 +81,17 @@ same-length c = search needs
 returns-3 : tie.Need-returns-3
 unfolding blockBytes
 returns-3 c =
-    encoded-whole _ _ _ _ (passes (c .before .before .before .before .before .before .before .before .before .before .before .before .before)) _ refl _ _ _ (c .before .before .before .before .before .before .before .before .before .before .before .before .if1 .left) (c .before .before .before .before .before .before .before .before .before .before .choose .ensures) (c .before .before .before .before .before .before .before .clear .ensures)
-    (c .before .before .put-bits .ensures)
+    let clean = cleared (c .before .before .before) in
+    let chose = clean .before .before .before in
+    encoded-whole _ _ _ _ (passes (chose .before .before .before)) _ refl _ _ _ (chose .before .before .if1 .left)
+    (chose .choose .ensures) (clean .clear .ensures) (c .before .before .put-bits .ensures)
 
 pub encode-rows-spec : {M : Type 1} → statement M
 encode-rows-spec =
     tie.close
     (tie.spec
     count-live-requires
-    check-message-requires
+    check-bits-requires
     enum-known-r
     enum-told
     add-bytes

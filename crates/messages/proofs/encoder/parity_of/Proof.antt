@@ -1,7 +1,7 @@
 -- `messages::parity_of` meets its contract: after w turns `common` has as many ones, but for an even number, as the first w words of the set
 -- and the column have in common.
 use borrow.Author.Needs.{needs}
-use mathlib.Core.Path.{_≡_, refl, sym, ap, _∙_}
+use mathlib.Core.Path.{_≡_, sym, ap, _∙_}
 use Prim.Native.Nat.{ℕ, _+_, _*_, _-_, _%_, _^_, _≤_, _<_}
 use native.Mathlib.Omega.{arith}
 use denote.Ref.{now}

@@ -1,9 +1,8 @@
 -- `messages::put_bits` meets its contract: after e turns the first e bits are put.
 use borrow.Author.Needs.{needs}
-use mathlib.Core.Path.{_≡_, refl, sym, ap, ap₂, _∙_}
-use Prim.Native.Nat.{ℕ, _+_, _*_, _-_, _/_, _%_, _^_, _≤_, _<_}
+use mathlib.Core.Path.{_≡_, refl, _∙_}
+use Prim.Native.Nat.{_-_, _≤_}
 use native.Mathlib.Omega.{arith}
-use denote.Ref.{now}
 use lib.ListN.{length}
 use Rattle.messages.specs.Columns.{BitsPut}
 use Rattle.messages.proofs.Written.{put-none, put-one-more, put-last}
@@ -33,8 +32,13 @@ loop-less c = search needs
 
 loop-again : tie.Need-loop-again Inv-loop μ-loop
 loop-again c =
-    let before = c .before .before .before .before .before .before .loop in
-    (search needs, c .before .before .put-bit .kept .0 ∙ before .inv .1, put-one-more _ _ _ _ _ _ _ (before .inv .2) (c .before .before .before .parity-of .ensures) (c .before .before .put-bit .ensures))
+    let put = c .before .before in
+    let turn = put .before .before .before .before in
+    let before = turn .loop in (
+      search needs,
+      put .put-bit .kept .0 ∙ before .inv .1,
+      put-one-more _ _ _ _ _ _ _ (before .inv .2) (put .before .parity-of .ensures) (put .put-bit .ensures),
+    )
 
 same-length : tie.Need-same-length Inv-loop μ-loop
 same-length c = search needs

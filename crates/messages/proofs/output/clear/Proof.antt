@@ -1,14 +1,13 @@
 -- `messages::clear` meets its contract: after i turns the first i bytes are 0.
 use borrow.Author.Needs.{needs}
-use mathlib.Core.Path.{_≡_, refl, sym, ap, ap₂, _∙_}
-use Prim.Native.Nat.{ℕ, _+_, _*_, _-_, _/_, _%_, _^_, _≤_, _<_}
+use mathlib.Core.Path.{_≡_, refl, sym, ap, _∙_}
+use Prim.Native.Nat.{ℕ, _-_, _≤_}
 use native.Mathlib.Omega.{arith}
 use denote.Ref.{now}
 use mathlib.Core.List.{List}
 use lib.ListN.{length, replicate, set, length-set}
 use Rattle.bits.specs.Bit.{written}
-use Rattle.bits.proofs.Fronts.{written-none}
-use Rattle.messages.proofs.Fronts.{written-clear}
+use Rattle.bits.proofs.Fronts.{written-none, written-clear}
 use Rattle.messages.proofs.output.clear.Statement.{statement}
 use Rattle.messages.proofs.output.clear.Tie as tie
 

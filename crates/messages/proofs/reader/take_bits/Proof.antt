@@ -1,7 +1,7 @@
 -- `messages::take_bits` meets its contract: after p turns the bits at the rows left below p are put, and `rank` counts them.
 use borrow.Author.Needs.{needs}
-use mathlib.Core.Path.{_≡_, refl, sym, ap, ap₂, _∙_}
-use Prim.Native.Nat.{ℕ, _+_, _*_, _-_, _/_, _%_, _^_, _≤_, _<_}
+use mathlib.Core.Path.{_≡_, refl, sym, ap, _∙_}
+use Prim.Native.Nat.{ℕ, _-_, _≤_}
 use native.Mathlib.Omega.{arith}
 use denote.Ref.{now}
 use mathlib.Core.Logic.{⊎-elim}
@@ -19,6 +19,12 @@ Inv-loop edges columns block output₀ rank₀ p₀ output rank p =
 abbrev μ-loop : tie.MeasureT-loop
 μ-loop edges columns block output₀ rank₀ p₀ output rank p = edges - p
 
+abbrev start : tie.At-loop Inv-loop μ-loop → tie.Start Inv-loop μ-loop
+start c = c .before .before .before .before
+
+abbrev turn : tie.After-row-bit Inv-loop μ-loop → tie.At-loop Inv-loop μ-loop
+turn c = c .before .before
+
 loop-holds : tie.Need-loop-holds Inv-loop μ-loop
 loop-holds c = (search needs, refl, sym (live-none _), sym (taken-none _ _ _))
 
@@ -33,8 +39,9 @@ put-bit-requires c κs = search needs
 
 add-rank : tie.Need-add-rank Inv-loop μ-loop
 add-rank c =
-    let before = c .before .before .before .before .before .before .before .before .loop in
-    omega (arith, before .inv .2, live-le (now (c .before .before .before .before .before .before .before .before .before .before .before .before .args .columns)) (before .p))
+    let put = c .before .before in
+    let head = turn (put .before .before .before .before) in
+    omega (arith, head .loop .inv .2, live-le (now (start head .args .columns)) (head .loop .p))
 
 add-p : tie.Need-add-p Inv-loop μ-loop
 add-p c = search needs
@@ -44,18 +51,20 @@ loop-less c = search needs
 
 loop-again : tie.Need-loop-again Inv-loop μ-loop
 loop-again c =
-    let before = c .before .before .before .loop in
-    let args = c .before .before .before .before .before .before .before .args in
+    let before = turn (c .before) .loop in
+    let args = start (turn (c .before)) .args in
     let columns = now (args .columns) in
     let block = now (args .block) in
     let read = c .before .row-bit .ensures in
     ⊎-elim
     (λ w.
     let (counted, taken) =
-    taken-one-more columns block (before .p) (before .rank) _ _ (before .output) (before .inv .2) (before .inv .3) read _ _ (w .0 .taken) (w .2 .ensures) (w .3 .ensures) in
+    taken-one-more columns block (before .p) (before .rank) _ _ (before .output) (before .inv .2) (before .inv .3) read _ _ (w .0 .taken)
+    (w .2 .ensures) (w .3 .ensures) in
     (omega arith, ap length (w .6) ∙ w .3 .kept .0 ∙ before .inv .1, w .7 ∙ counted, w .6 ∙ taken))
     (λ w.
-    let (counted, taken) = taken-kept columns block (before .p) (before .rank) _ _ (before .output) (before .inv .2) (before .inv .3) read (w .0 .left) in
+    let (counted, taken) =
+    taken-kept columns block (before .p) (before .rank) _ _ (before .output) (before .inv .2) (before .inv .3) read (w .0 .left) in
     (omega arith, ap length (w .1) ∙ before .inv .1, w .2 ∙ counted, w .1 ∙ taken))
     (c .if1 .came)
 
@@ -64,7 +73,7 @@ same-length c = search needs
 
 returns : tie.Need-returns Inv-loop μ-loop
 returns c =
-    let args = c .before .before .before .before .before .args in
+    let args = start (c .before) .args in
     let end : c .before .loop .p ≡ args .edges = omega arith in
     c .before .loop .inv .3 ∙ ap (λ (j : ℕ). bitsTaken (now (args .columns)) (now (args .block)) j (now (args .output))) end
 

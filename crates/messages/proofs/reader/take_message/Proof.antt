@@ -1,7 +1,7 @@
 -- `messages::take_message` meets its contract: it refuses an output that is too short, or fills its front with the bits read.
 use borrow.Author.Needs.{needs}
-use mathlib.Core.Path.{_≡_, refl, sym, ap, _∙_}
-use Prim.Native.Nat.{ℕ, _+_, _*_, _/_, _≤_, _<_}
+use mathlib.Core.Path.{ap}
+use Prim.Native.Nat.{ℕ, _+_, _/_}
 use native.Mathlib.Omega.{arith}
 use denote.Ref.{now}
 use Rattle.wiring.specs.Block.{blockBytes}
@@ -32,8 +32,11 @@ same-length c = search needs
 returns-2 : tie.Need-returns-2
 unfolding blockBytes
 returns-2 c =
-    taken-whole _ _ _ _ _ (ap (λ (x : ℕ). (x + 7) / 8) (c .before .before .before .before .before .before .before .before .before .count-live .ensures)) _ _
-    (c .before .before .before .before .before .before .before .before .if1 .left) (c .before .before .before .before .before .before .clear .ensures) (c .before .before .take-bits .ensures)
+    let took = c .before .before in
+    let cleared = took .before .before .before .before in
+    let fits = cleared .before .before in
+    taken-whole _ _ _ _ _ (ap (λ (x : ℕ). (x + 7) / 8) (fits .before .count-live .ensures)) _ _ (fits .if1 .left)
+    (cleared .clear .ensures) (took .take-bits .ensures)
 
 pub take-message-spec : {M : Type 1} → statement M
 take-message-spec =

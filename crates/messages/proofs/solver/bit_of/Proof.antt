@@ -1,10 +1,14 @@
 -- `messages::bit_of` meets its contract: on the right it reads the two bytes of entry i, on the left the bit is i itself.
 use borrow.Author.Needs.{needs}
-use mathlib.Core.Path.{_∙_, sym}
-use Rattle.wiring.specs.Wiring.{edgeOf}
-use Rattle.wiring.specs.Block.{sideBit}
+use Rattle.wiring.specs.Plan.{edgeOf, sideBit}
 use Rattle.messages.proofs.solver.bit_of.Statement.{statement}
 use Rattle.messages.proofs.solver.bit_of.Tie as tie
+
+enum-told : tie.Need-enum-told
+enum-told c = search needs
+
+enum-told-2 : tie.Need-enum-told-2
+enum-told-2 c = search needs
 
 mul-pair : tie.Need-mul-pair
 mul-pair c = search needs
@@ -16,12 +20,12 @@ cast-result : tie.Need-cast-result
 cast-result c = search needs
 
 returns : tie.Need-returns
-unfolding sideBit edgeOf
-returns c = rw (c .before .if1 .taken) (c .pair .ensures)
+unfolding sideBit
+returns c = rw (c .enum-told .given .1)
 
 returns-2 : tie.Need-returns-2
-unfolding sideBit
-returns-2 c = rw (c .if1 .left)
+unfolding sideBit edgeOf
+returns-2 c = rw (c .before .enum-told2 .given .1) (c .pair .ensures)
 
 pub bit-of-spec : {M : Type 1} → statement M
-bit-of-spec = tie.close (tie.spec mul-pair pair-requires cast-result returns returns-2)
+bit-of-spec = tie.close (tie.spec enum-told enum-told-2 mul-pair pair-requires cast-result returns returns-2)

@@ -1,13 +1,12 @@
 -- `messages::eliminate` meets its contract: after m turns the first m checks are done.
 use borrow.Author.Needs.{needs}
 use mathlib.Core.Logic.{⊎-elim}
-use mathlib.Core.Path.{_≡_, sym, ap, _∙_}
-use Prim.Native.Nat.{ℕ, _*_, _-_, _≤_}
+use mathlib.Core.Path.{_≡_, ap, _∙_}
+use Prim.Native.Nat.{_*_, _-_, _≤_}
 use native.Mathlib.Omega.{arith}
-use denote.Ref.{now}
 use lib.ListN.{length}
 use Rattle.messages.specs.Columns.{Eliminated}
-use Rattle.messages.proofs.Pivots.{vertex-digit}
+use Rattle.messages.proofs.Pivots.{check-digit-lt}
 use Rattle.messages.proofs.Solving.{eliminated-unused}
 use Rattle.messages.proofs.solver.eliminate.Statement.{statement}
 use Rattle.messages.proofs.solver.eliminate.Tie as tie
@@ -17,6 +16,12 @@ Inv-loop residues d n wiring columns₀ used checks m₀ columns m = (m ≤ chec
 
 abbrev μ-loop : tie.MeasureT-loop
 μ-loop residues d n wiring columns₀ used checks m₀ columns m = checks - m
+
+abbrev called : tie.After-used-digits Inv-loop μ-loop → tie.Start Inv-loop μ-loop
+called c = c .before .before .before .before
+
+abbrev start : tie.At-loop Inv-loop μ-loop → tie.Start Inv-loop μ-loop
+start c = called (c .before)
 
 used-digits-requires : tie.Need-used-digits-requires Inv-loop μ-loop
 used-digits-requires c κs = search needs
@@ -34,16 +39,16 @@ rem-if1 : tie.Need-rem-if1 Inv-loop μ-loop
 rem-if1 c = search needs
 
 cast-if1 : tie.Need-cast-if1 Inv-loop μ-loop
-cast-if1 c = omega (arith, vertex-digit (c .before .before .before .before .before .before .pre .0) (c .before .loop .m))
+cast-if1 c = omega (arith, check-digit-lt (start (c .before) .pre .0) (c .before .loop .m))
 
 shr-if1 : tie.Need-shr-if1 Inv-loop μ-loop
-shr-if1 c = omega (arith, vertex-digit (c .before .before .before .before .before .before .pre .0) (c .before .loop .m))
+shr-if1 c = omega (arith, check-digit-lt (start (c .before) .pre .0) (c .before .loop .m))
 
 put-check-requires : tie.Need-put-check-requires Inv-loop μ-loop
 put-check-requires c κs =
     let before = c .before .before .before .loop in
-    let pre = c .before .before .before .before .before .before .before .before .pre in
-    (omega arith, (pre .0, (pre .1 .0, (before .inv .1, before .inv .2))))
+    let pre = start (c .before .before .before) .pre in
+    (omega arith, (pre .0, (pre .1 .0, (pre .1 .1 .0, (before .inv .1, before .inv .2)))))
 
 add-m : tie.Need-add-m Inv-loop μ-loop
 add-m c = search needs
@@ -54,7 +59,7 @@ loop-less c = search needs
 loop-again : tie.Need-loop-again Inv-loop μ-loop
 loop-again c =
     let before = c .before .before .loop in
-    let start = c .before .before .before .before .before .before .before in
+    let pre = start (c .before .before) .pre in
     ⊎-elim
     (λ w. (
       omega arith,
@@ -64,7 +69,9 @@ loop-again c =
     (λ w. (
       omega arith,
       ap length (w .1) ∙ before .inv .1,
-      rw (w .1) (eliminated-unused (start .pre .0) _ _ _ _ (c .before .before .before .used-digits .ensures) (w .0 .left) (before .inv .2)),
+      rw (w .1)
+          (eliminated-unused (pre .0) (pre .1 .0) _ _ (omega arith) _ _ (c .before .before .before .used-digits .ensures) (w .0 .left)
+          (before .inv .2)),
     ))
     (c .if1 .came)
 
@@ -73,7 +80,7 @@ same-length c = search needs
 
 returns : tie.Need-returns Inv-loop μ-loop
 returns c =
-    let args = c .before .before .before .before .before .before .args in
+    let args = start (c .before) .args in
     let end : c .before .loop .m ≡ 2 * (args .n * args .d) = omega arith in
     rw end at (c .before .loop .inv .2)
 

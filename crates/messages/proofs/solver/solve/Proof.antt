@@ -22,14 +22,27 @@ unit-columns-requires c κs = search needs
 slice-aggregate-eliminate : tie.Need-slice-aggregate-eliminate
 slice-aggregate-eliminate c = search needs
 
+abbrev start : tie.After-unit-residues → tie.Start
+start c = c .before .before .before .before
+
+abbrev residued : tie.After-unit-columns → tie.After-unit-residues
+residued c = c .before .before .before
+
+abbrev columned : tie.After-eliminate-arg → tie.After-unit-columns
+columned c = c .before .before .before .before
+
 eliminate-requires : tie.Need-eliminate-requires
 eliminate-requires c κs =
-    let pre = c .before .before .before .before .before .before .before .before .before .before .before .pre in
-    let columns = c .before .before .before .before .unit-columns in (
+    let columns = columned c .unit-columns in
+    let residues = residued (columned c) in
+    let pre = start residues .pre in (
       pre .0,
       (
-        c .before .before .before .before .before .before .before .unit-residues .kept .1 .1 .1 .0,
-        (columns .kept .1 .0 ∙ ap length (pre .1) ∙ length-noColumns, eliminated-start (pre .0) _ _ (columns .ensures)),
+        pre .1 .0,
+        (
+          residues .unit-residues .kept .1 .1 .1 .0,
+          (columns .kept .1 .0 ∙ ap length (pre .1 .1) ∙ length-noColumns, eliminated-start (pre .0) (pre .1 .0) _ _ (columns .ensures)),
+        ),
       ),
     )
 
@@ -38,7 +51,9 @@ same-length c = search needs
 
 returns : tie.Need-returns
 returns c =
-    eliminated-all (c .before .before .before .before .before .before .before .before .before .before .before .before .before .before .pre .0) _ _ _ _ (c .before .before .before .before .before .before .before .before .before .before .unit-residues .ensures) (c .before .before .eliminate .ensures)
+    let residues = residued (columned (c .before .before .before)) in
+    let pre = start residues .pre in
+    eliminated-all (pre .0) (pre .1 .0) _ _ _ _ (residues .unit-residues .ensures) (c .before .before .eliminate .ensures)
 
 pub solve-spec : {M : Type 1} → statement M
 solve-spec =

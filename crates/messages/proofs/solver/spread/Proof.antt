@@ -1,12 +1,11 @@
 -- `messages::spread` meets its contract: after e turns row p is put on the rows of the set in the columns below e.
 use borrow.Author.Needs.{needs}
-use mathlib.Core.Path.{_≡_, refl, sym, ap, _∙_}
-use Prim.Native.Nat.{ℕ, _+_, _*_, _-_, _/_, _%_, _≤_, _<_}
+use mathlib.Core.Path.{_≡_, ap, _∙_}
+use Prim.Native.Nat.{_-_, _≤_}
 use native.Mathlib.Omega.{arith}
-use denote.Ref.{now}
 use mathlib.Core.Logic.{⊎-elim}
 use lib.ListN.{length}
-use Rattle.messages.proofs.Pivots.{SpreadSoFar, spread-none, spread-put, spread-kept, spread-last}
+use Rattle.messages.proofs.Pivots.{SpreadSoFar, spread-put, spread-kept, spread-last}
 use Rattle.messages.proofs.solver.spread.Statement.{statement}
 use Rattle.messages.proofs.solver.spread.Tie as tie
 
@@ -16,6 +15,9 @@ Inv-loop edges p hits columns₀ e₀ columns e =
 
 abbrev μ-loop : tie.MeasureT-loop
 μ-loop edges p hits columns₀ e₀ columns e = edges - e
+
+abbrev start : tie.At-loop Inv-loop μ-loop → tie.Start Inv-loop μ-loop
+start c = c .before .before .before
 
 loop-holds : tie.Need-loop-holds Inv-loop μ-loop
 loop-holds c = search needs
@@ -35,7 +37,7 @@ loop-less c = search needs
 loop-again : tie.Need-loop-again Inv-loop μ-loop
 loop-again c =
     let before = c .before .before .before .before .loop in
-    let args = c .before .before .before .before .before .before .before .args in
+    let args = start (c .before .before .before .before) .args in
     let read = c .before .row-bit .ensures in
     ⊎-elim
     (λ w. (

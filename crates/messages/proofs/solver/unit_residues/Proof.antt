@@ -1,10 +1,10 @@
 -- `messages::unit_residues` meets its contract: after i turns the entries below i are filled.
-use mathlib.Core.Path.{_≡_, refl, sym, ap, _∙_}
-use Prim.Native.Nat.{ℕ, _+_, _*_, _-_, _^_, _≤_, _<_, min}
+use mathlib.Core.Path.{_≡_}
+use Prim.Native.Nat.{ℕ, _-_, _^_, _≤_, _<_, min}
 use native.Mathlib.Omega.{arith}
 use borrow.Author.Needs.{needs}
 use lib.ListN.{length, getD, length-set}
-use Rattle.bits.specs.Bit.{at}
+use Rattle.bits.specs.Window.{at}
 use Rattle.inner_code.specs.Reduction.{reducedBy}
 use Rattle.messages.proofs.StoredRows.{shifted-one}
 use Rattle.messages.proofs.Solving.{residues-one-more, residues-last}

@@ -1,19 +1,20 @@
 -- `radius::measured_distance` meets its contract: the listed words are the codewords, and the fewest ones of these are the distance.
 use mathlib.Core.Path.{_≡_, ap, _∙_}
-use Prim.Native.Nat.{ℕ, _-_, _^_, _≤_, min}
+use Prim.Native.Nat.{ℕ, _-_, _≤_}
 use borrow.Author.Needs.{needs}
-use native.Mathlib.Nat.{min-le-right}
 use native.Mathlib.Omega.{arith}
 use denote.Ref.{now}
 use lib.ListN.{length, take, replicate, length-replicate}
-use lib.Pow.{pow-mono}
-use Rattle.bits.specs.Bit.{at}
-use Rattle.inner_code.specs.Code.{fewestOnes}
+use Rattle.bits.specs.Window.{at}
+use Rattle.inner_code.specs.Reduction.{fewestOnes}
 use Rattle.inner_code.specs.Sheet.{rowOf}
-use Rattle.inner_code.proofs.Listings.{length-listed}
+use Rattle.inner_code.proofs.Listings.{lists-fits}
 use Rattle.radius.proofs.PlanNumbers.{listed-distance}
 use Rattle.radius.proofs.numbers.measured_distance.Statement.{statement}
 use Rattle.radius.proofs.numbers.measured_distance.Tie as tie
+
+slice-aggregate-list-codewords : tie.Need-slice-aggregate-list-codewords
+slice-aggregate-list-codewords c = search needs
 
 list-codewords-requires : tie.Need-list-codewords-requires
 list-codewords-requires c κs = search needs
@@ -24,15 +25,12 @@ sub-distance c = search needs
 part-distance-start : tie.Need-part-distance-start
 part-distance-start c = search needs
 
--- the array holds the codewords of eleven rows
-room : (k : ℕ) → 2 ^ min k 11 ≤ length (replicate {A = ℕ} 2048 0)
-room k = omega (arith, pow-mono {j = 11} (min-le-right k 11), length-replicate {A = ℕ} 2048 0)
+-- the array has room for every code
+room : 2048 ≤ length (replicate {A = ℕ} 2048 0)
+room = omega (arith, length-replicate {A = ℕ} 2048 0)
 
 part-distance-end : tie.Need-part-distance-end
-part-distance-end c =
-    let args = c .before .before .before .before .args in
-    let listing = c .before .list-codewords .ensures in
-    omega (arith, listing .0, room (args .k), ap length (listing .1), length-listed (rowOf (now (args .sheet))) (min (args .k) 11) (replicate 2048 0))
+part-distance-end c = omega (arith, lists-fits _ _ (c .before .before .list-codewords .ensures) room)
 
 distance-requires : tie.Need-distance-requires
 distance-requires c κs = search needs
@@ -42,19 +40,19 @@ cast-result c = search needs
 
 returns : tie.Need-returns
 returns c =
-    let args = c .before .before .before .before .before .before .args in
-    let words = c .before .before .before .list-codewords .last .1 .1 .0 in
-    let count = c .before .before .before .list-codewords .result in
-    let listing = c .before .before .before .list-codewords .ensures in
-    let all : count - 0 ≡ count = omega arith in
+    let listed = c .before .before .before .before in
+    let args = listed .before .before .before .args in
+    let words = listed .list-codewords .last .1 .1 .0 in
+    let all : listed .list-codewords .result - 0 ≡ listed .list-codewords .result = omega arith in
     c .distance .ensures
     ∙ ap (λ (m : ℕ). fewestOnes (at (take m words)) (length (take m words))) all
-    ∙ listed-distance (rowOf (now (args .sheet))) (min (args .k) 11) (replicate 2048 0) words count (room (args .k)) (listing .1) (listing .0)
+    ∙ listed-distance (rowOf (now (args .sheet))) (args .k) (listed .list-codewords .ensures) room
 
 pub measured-distance-spec : {M : Type 1} → statement M
 measured-distance-spec =
     tie.close
     (tie.spec
+    slice-aggregate-list-codewords
     list-codewords-requires
     sub-distance
     part-distance-start

@@ -3,9 +3,10 @@
 use mathlib.Core.Path.{sym}
 use borrow.Author.Needs.{needs}
 use denote.Ref.{now}
+use Rattle.wiring.specs.Plan.{Plan, planOf}
 use Rattle.wiring.proofs.Plans.{PlanAccepted, plan-accepted, plan-refused}
 use Rattle.radius.proofs.Answers.{spread-refused}
-use Rattle.radius.proofs.PlanNumbers.{plan-wires, spread-answered}
+use Rattle.radius.proofs.PlanNumbers.{spread-answered}
 use Rattle.radius.proofs.numbers.plan_spread.Statement.{statement}
 use Rattle.radius.proofs.numbers.plan_spread.Tie as tie
 
@@ -15,26 +16,30 @@ check-plan-requires c κs = search needs
 enum-known-values : tie.Need-enum-known-values
 enum-known-values c = search needs
 
-enum-known-values-2 : tie.Need-enum-known-values-2
-enum-known-values-2 c = search needs
+enum-told : tie.Need-enum-told
+enum-told c = search needs
 
-plan : (c : tie.After-known-told2)
-    → PlanAccepted (now (c .before .before .before .before .before .before .args .sheet)) (c .before .before .before .before .before .before .args .n)
-    (now (c .before .before .before .before .before .before .args .wiring)) (c .before .before .before .check-plan .result)
-    (c .before .values2 .given .0 .0) (c .before .values2 .given .0 .1 .0)
-plan c = plan-accepted _ _ _ _ _ _ (c .before .before .before .check-plan .ensures) (c .before .values2 .given .1)
+abbrev checked : tie.After-enum-told → tie.After-check-plan
+checked c = c .before .before
+
+abbrev start : tie.After-enum-told → tie.Start
+start c = checked c .before .before .before
+
+abbrev planIn : tie.Start → Plan
+planIn c = planOf (now (c .args .sheet)) (c .args .n) (now (c .args .wiring))
+
+plan : (c : tie.After-enum-told)
+    → PlanAccepted (planIn (start c)) (checked c .check-plan .result) (c .enum-told .given .0 .0) (c .enum-told .given .0 .1 .0)
+plan c = plan-accepted _ _ _ _ (checked c .check-plan .ensures) (c .enum-told .given .1)
 
 measured-spread-requires : tie.Need-measured-spread-requires
-measured-spread-requires c κs = plan-wires _ _ _ _ _ _ (plan c)
+measured-spread-requires c κs = plan c .plan-wired
 
 returns : tie.Need-returns
-returns c =
-    let args = c .before .before .before .before .before .before .args in
-    sym (spread-refused (now (args .sheet)) (args .n) (now (args .wiring)) _ _
-    (plan-refused _ _ _ _ _ (c .before .before .before .check-plan .ensures) (c .before .values .given .1)))
+returns c = sym (spread-refused _ _ _ (plan-refused _ _ _ (c .before .before .before .check-plan .ensures) (c .before .values .given .1)))
 
 returns-2 : tie.Need-returns-2
-returns-2 c = spread-answered _ _ _ _ _ _ (plan (c .before)) _ (c .measured-spread .ensures)
+returns-2 c = spread-answered _ _ _ _ (plan (c .before)) _ (c .measured-spread .ensures)
 
 pub plan-spread-spec : {M : Type 1} → statement M
 plan-spread-spec =
@@ -42,7 +47,7 @@ plan-spread-spec =
     (tie.spec
     check-plan-requires
     enum-known-values
-    enum-known-values-2
+    enum-told
     measured-spread-requires
     returns
     returns-2)

@@ -6,7 +6,7 @@ use borrow.Author.Needs.{needs}
 use native.Mathlib.Omega.{arith}
 use denote.Ref.{now}
 use lib.ListN.{length, length-set}
-use Rattle.bits.specs.Bit.{at}
+use Rattle.bits.specs.Window.{at}
 use Rattle.radius.specs.Walk.{arrivals, Counted}
 use Rattle.radius.proofs.Walks.{counted-none, counted-one-more, counted-low}
 use Rattle.radius.proofs.spread.count_edges.Statement.{statement}
@@ -37,13 +37,16 @@ cast-left c = omega (arith, c .shared-slice-known .given (c .before .before .bef
 mul-counts : tie.Need-mul-counts Inv-loop μ-loop
 mul-counts c = omega (arith, c .shared-slice-known .given (c .before .before .before .args .from + c .before .before .loop .i))
 
+abbrev turn : tie.After-slice-known Inv-loop μ-loop → tie.At-loop Inv-loop μ-loop
+turn c = c .before .before .before
+
+abbrev start : tie.After-slice-known Inv-loop μ-loop → tie.Start Inv-loop μ-loop
+start c = turn c .before
+
 -- the entry's left vertex has a count
 inside : (c : tie.After-slice-known Inv-loop μ-loop)
-    → at (now (c .before .before .before .before .args .lefts)) (c .before .before .before .before .args .from + c .before .before .before .loop .i)
-    < length (c .before .before .before .loop .counts)
-inside c =
-    omega
-    (arith, c .before .before .before .before .pre .left-lt (c .before .before .before .loop .i) (omega arith), c .before .before .before .loop .inv .1)
+    → at (now (start c .args .lefts)) (start c .args .from + turn c .loop .i) < length (turn c .loop .counts)
+inside c = omega (arith, start c .pre .left-lt (turn c .loop .i) (omega arith), turn c .loop .inv .1)
 
 slice-read-counts : tie.Need-slice-read-counts Inv-loop μ-loop
 unfolding at
@@ -52,10 +55,12 @@ slice-read-counts c = inside c
 add-counts : tie.Need-add-counts Inv-loop μ-loop
 unfolding at
 add-counts c =
-    let start = c .before .before .before .before in
-    let before = c .before .before .before .loop in
-    omega
-    (arith, counted-low (now (start .args .lefts)) (start .args .from) (start .args .d) (before .i) (now (start .args .counts)) (before .counts) (start .pre) (omega arith) (before .inv .2))
+    let args = start c .args in
+    let before = turn c .loop in
+    let low =
+    counted-low (now (args .lefts)) (args .from) (args .d) (before .i) (now (args .counts)) (before .counts) (start c .pre) (omega arith)
+    (before .inv .2) in
+    omega (arith, low)
 
 slice-write-counts : tie.Need-slice-write-counts Inv-loop μ-loop
 unfolding at
@@ -70,12 +75,12 @@ loop-less c = search needs
 loop-again : tie.Need-loop-again Inv-loop μ-loop
 unfolding at
 loop-again c =
-    let start = c .before .before .before .before in
-    let before = c .before .before .before .loop in (
+    let args = start c .args in
+    let before = turn c .loop in (
       search needs,
       simp length-set (before .inv .1),
-      counted-one-more (at (now (start .args .lefts))) (start .args .from) (before .i) (now (start .args .counts)) (before .counts) (before .inv .1)
-          (start .pre .left-lt (before .i) (omega arith)) (before .inv .2),
+      counted-one-more (at (now (args .lefts))) (args .from) (before .i) (now (args .counts)) (before .counts) (before .inv .1)
+          (start c .pre .left-lt (before .i) (omega arith)) (before .inv .2),
     )
 
 same-length : tie.Need-same-length Inv-loop μ-loop

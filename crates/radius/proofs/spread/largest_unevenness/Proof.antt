@@ -7,7 +7,7 @@ use borrow.Author.Needs.{needs}
 use native.Mathlib.Omega.{arith}
 use denote.Ref.{now}
 use lib.ListN.{length}
-use Rattle.bits.specs.Bit.{at}
+use Rattle.bits.specs.Window.{at}
 use Rattle.radius.specs.Walk.{largestWalked}
 use Rattle.radius.proofs.Walks.{walked-summable, walked-uneven, largest-none, largest-raised, largest-kept}
 use Rattle.radius.proofs.spread.largest_unevenness.Statement.{statement}
@@ -37,21 +37,30 @@ slice-aggregate-walk c = search needs
 walk-requires : tie.Need-walk-requires Inv-loop μ-loop
 walk-requires c κs = search needs
 
+-- the counts cleared, the turn and the call, for a turn whose walk is done
+abbrev cleared : tie.After-walk Inv-loop μ-loop → tie.After-clear Inv-loop μ-loop
+cleared c = c .before .before .before
+
+abbrev turn : tie.After-walk Inv-loop μ-loop → tie.At-loop Inv-loop μ-loop
+turn c = cleared c .before .before .before
+
+abbrev start : tie.At-loop Inv-loop μ-loop → tie.Start Inv-loop μ-loop
+start c = c .before .before .before
+
 -- the calls keep the length of the counts
 sized : (c : tie.After-walk Inv-loop μ-loop) → length (c .walk .last .1 .1 .1 .1 .1 .0) ≡ 2048
-sized c =
-    c .walk .kept .1 .1 .1 .1 .1 .0 ∙ c .before .before .before .clear .kept .0 ∙ c .before .before .before .before .before .before .loop .inv .1
+sized c = c .walk .kept .1 .1 .1 .1 .1 .0 ∙ cleared c .clear .kept .0 ∙ turn c .loop .inv .1
 
 slice-aggregate-unevenness-of : tie.Need-slice-aggregate-unevenness-of Inv-loop μ-loop
 slice-aggregate-unevenness-of c = search needs
 
 unevenness-of-requires : tie.Need-unevenness-of-requires Inv-loop μ-loop
 unevenness-of-requires c κs =
-    let start = c .before .before .before .before .before .before .before .before .before .before .before in
-    let args = start .args in
     let after = c .before .before in
-    walked-summable (now (args .lefts)) (now (args .rights)) (args .n) (args .d) (start .pre) (c .before .before .before .before .before .before .before .before .loop .u)
-    (after .walk .last .1 .1 .1 .1 .1 .0) (omega (arith, sized after, start .pre .n-high)) (after .walk .ensures)
+    let args = start (turn after) .args in
+    let pre = start (turn after) .pre in
+    walked-summable (now (args .lefts)) (now (args .rights)) (args .n) (args .d) pre (turn after .loop .u)
+    (after .walk .last .1 .1 .1 .1 .1 .0) (omega (arith, sized after, pre .n-high)) (after .walk .ensures)
 
 add-u : tie.Need-add-u Inv-loop μ-loop
 add-u c = search needs
@@ -61,23 +70,25 @@ loop-less c = search needs
 
 loop-again : tie.Need-loop-again Inv-loop μ-loop
 loop-again c =
-    let args = c .before .before .before .before .before .before .before .before .before .before .before .before .before .args in
-    let before = c .before .before .before .before .before .before .before .before .before .before .loop in
     let after = c .before .before .before .before in
+    let before = turn after .loop in
+    let args = start (turn after) .args in
     let left = at (now (args .lefts)) in
     let right = at (now (args .rights)) in
     let sum-is =
     c .before .unevenness-of .ensures
-    ∙ walked-uneven (now (args .lefts)) (now (args .rights)) (args .n) (args .d) (before .u) (after .walk .last .1 .1 .1 .1 .1 .0) (after .walk .ensures) in (
+    ∙ walked-uneven (now (args .lefts)) (now (args .rights)) (args .n) (args .d) (before .u) (after .walk .last .1 .1 .1 .1 .1 .0)
+    (after .walk .ensures) in (
       search needs,
       sized after,
       ⊎-elim (λ w. w .1 ∙ largest-raised left right (args .n) (args .d) (before .u) (before .largest) _ (before .inv .2) sum-is (w .0 .taken))
-          (λ w. w .1 ∙ largest-kept left right (args .n) (args .d) (before .u) (before .largest) _ (before .inv .2) sum-is (w .0 .left)) (c .if1 .came),
+          (λ w. w .1 ∙ largest-kept left right (args .n) (args .d) (before .u) (before .largest) _ (before .inv .2) sum-is (w .0 .left))
+          (c .if1 .came),
     )
 
 returns : tie.Need-returns Inv-loop μ-loop
 returns c =
-    let args = c .before .before .before .before .args in
+    let args = start (c .before) .args in
     let end : c .before .loop .u ≡ args .n = omega arith in
     c .before .loop .inv .2 ∙ ap (largestWalked (at (now (args .lefts))) (at (now (args .rights))) (args .n) (args .d)) end
 

@@ -6,7 +6,7 @@ use Prim.Native.Nat.{_-_, _≤_}
 use borrow.Author.Needs.{needs}
 use native.Mathlib.Omega.{arith}
 use denote.Ref.{now}
-use Rattle.bits.specs.Bit.{at}
+use Rattle.bits.specs.Window.{at}
 use Rattle.radius.specs.Walk.{unevenBy}
 use Rattle.radius.proofs.Walks.{uneven-none, uneven-under, uneven-over, uneven-le, product-le, square-le}
 use Rattle.radius.proofs.spread.unevenness_of.Statement.{statement}
@@ -47,14 +47,16 @@ add-sum : tie.Need-add-sum Inv-loop μ-loop
 add-sum c =
     let start = c .before .before .before .before in
     let before = c .before .before .before .loop in
-    omega (arith, before .inv .1, uneven-le (start .pre) (before .w) (omega arith), start .pre .n-high, square-le (start .args .d) (start .pre .d-high))
+    let low = uneven-le (start .pre) (before .w) (omega arith) in
+    omega (arith, before .inv .1, low, start .pre .n-high, square-le (start .args .d) (start .pre .d-high))
 
 add-sum-2 : tie.Need-add-sum-2 Inv-loop μ-loop
 unfolding at
 add-sum-2 c =
     let start = c .before .before .before .before in
     let before = c .before .before .before .loop in
-    omega (arith, before .inv .1, uneven-le (start .pre) (before .w) (omega arith), start .pre .n-high, product-le (start .pre) (before .w) (omega arith))
+    let low = uneven-le (start .pre) (before .w) (omega arith) in
+    omega (arith, before .inv .1, low, start .pre .n-high, product-le (start .pre) (before .w) (omega arith))
 
 add-w : tie.Need-add-w Inv-loop μ-loop
 add-w c = search needs

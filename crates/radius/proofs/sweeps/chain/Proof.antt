@@ -2,19 +2,23 @@
 -- is still to come, and a covered step makes b smaller. In range every product is far below 2 ^ 64.
 use Prim.Native.Nat.{ℕ, _+_, _-_, _*_, _^_, _≤_, _<_}
 use mathlib.Core.Bool.{true}
-use mathlib.Core.Path.{_≡_, sym}
+use mathlib.Core.Path.{_≡_, refl, sym, ap, _∙_}
 use native.Mathlib.Nat.{mul-le-mul, mul-pos}
 use native.Mathlib.Omega.{arith}
 use borrow.Author.Needs.{needs}
 use Rattle.radius.specs.Margin.{slack, stepCovered, nextBound}
-use Rattle.radius.proofs.MarginChain.{sweepsFrom, covered-slack, next-falls, slack-covered}
+use Rattle.radius.specs.Ranges.{equalSides}
+use Rattle.wiring.specs.Plan.{right}
+use Rattle.decoder.specs.Sweep.{other}
+use Rattle.radius.proofs.MarginChain.{sweepsFrom, chain-either, covered-slack, next-falls, slack-covered}
 use Rattle.radius.proofs.ChainWalk.{counted, walk-starts, walk-steps, walk-stops, walk-ends}
 use Rattle.radius.proofs.sweeps.chain.Statement.{statement}
 use Rattle.radius.proofs.sweeps.chain.Tie as tie
 
 abbrev Inv-loop : tie.InvT-loop
 Inv-loop n d distance spread first whole limit b₀ place₀ b place =
-    (b + place ≤ first + 1) × (sweepsFrom n d distance spread first ≡ counted place (sweepsFrom n d distance spread b))
+    (b + place ≤ first + 1)
+    × (sweepsFrom (equalSides n d distance spread) right first ≡ counted place (sweepsFrom (equalSides n d distance spread) right b))
 
 abbrev μ-loop : tie.MeasureT-loop
 μ-loop n d distance spread first whole limit b₀ place₀ b place = b
@@ -30,9 +34,9 @@ slack-pos c = omega arith
 
 covered : (c : tie.Else2 Inv-loop μ-loop)
     → let start = c .before .before .before .before .args in
-    stepCovered (start .n) (start .d) (start .distance) (start .spread) (c .before .before .before .loop .b) ≡ true
+    stepCovered (equalSides (start .n) (start .d) (start .distance) (start .spread)) right (c .before .before .before .loop .b) ≡ true
 unfolding slack
-covered c = slack-covered _ _ _ _ _ (slack-pos c) (c .if2 .left)
+covered c = slack-covered _ _ _ (slack-pos c) (c .if2 .left)
 
 mul-whole : tie.Need-mul-whole Inv-loop μ-loop
 mul-whole c = let r = c .pre .0 in omega (arith, mul-le-mul (r .D-high) (r .n-high))
@@ -57,8 +61,8 @@ mul-taken-2 c =
 returns : tie.Need-returns Inv-loop μ-loop
 unfolding slack
 returns c =
-    sym (walk-stops _ _ _ _ _ _ _ (c .before .before .loop .inv .1) (c .before .loop-test .taken)
-    (λ step. omega (arith, covered-slack _ _ _ _ _ step .0)))
+    sym (walk-stops _ _ _ _ _ (c .before .before .loop .inv .1) (c .before .loop-test .taken)
+    (λ step. omega (arith, covered-slack _ _ _ step .0)))
 
 sub-slack : tie.Need-sub-slack Inv-loop μ-loop
 sub-slack c = search needs
@@ -71,8 +75,8 @@ mul-square c =
 returns-2 : tie.Need-returns-2 Inv-loop μ-loop
 unfolding slack
 returns-2 c =
-    sym (walk-stops _ _ _ _ _ _ _ (c .before .before .before .loop .inv .1) (c .before .before .loop-test .taken)
-    (λ step. omega (arith, covered-slack _ _ _ _ _ step .1)))
+    sym (walk-stops _ _ _ _ _ (c .before .before .before .loop .inv .1) (c .before .before .loop-test .taken)
+    (λ step. omega (arith, covered-slack _ _ _ step .1)))
 
 mul-b : tie.Need-mul-b Inv-loop μ-loop
 mul-b c =
@@ -88,16 +92,19 @@ add-place c = search needs
 
 loop-less : tie.Need-loop-less Inv-loop μ-loop
 unfolding slack nextBound
-loop-less c = next-falls _ _ _ _ _ (covered c) (c .before .before .loop-test .taken)
+loop-less c = next-falls _ _ _ (covered c) (c .before .before .loop-test .taken)
 
 loop-again : tie.Need-loop-again Inv-loop μ-loop
 unfolding slack nextBound
 loop-again c =
-    let test = c .before .before .loop-test .taken in
-    (omega (arith, next-falls _ _ _ _ _ (covered c) test), walk-steps _ _ _ _ _ _ _ (c .before .before .before .loop .inv .1) test (covered c))
+    let test = c .before .before .loop-test .taken in (
+      omega (arith, next-falls _ _ _ (covered c) test),
+      walk-steps _ _ _ _ _ (c .before .before .before .loop .inv .1) test (covered c)
+          ∙ ap (counted _) (chain-either _ (λ s t. refl) (other right) right _),
+    )
 
 returns-3 : tie.Need-returns-3 Inv-loop μ-loop
-returns-3 c = sym (walk-ends _ _ _ _ _ _ _ (c .before .loop .inv .1) (omega arith))
+returns-3 c = sym (walk-ends _ _ _ _ _ (c .before .loop .inv .1) (omega arith))
 
 pub chain-spec : {M : Type 1} → statement M
 chain-spec =

@@ -24,9 +24,16 @@ returns-4 c = sym (named-none _ _ _ _ _ (λ r l. omega arith))
 returns-5 : tie.Need-returns-5
 returns-5 c = sym (named-none _ _ _ _ _ (λ r l. omega arith))
 
--- past the tests of n and d, N is at most 2,048 · 16
-bits-most : (c : tie.Else5) → c .before .before .before .before .before .args .n * c .before .before .before .before .before .args .d ≤ 32768
-bits-most c = omega (arith, mul-le-mul (c .before .before .before .before .if1 .left) (c .before .before .before .if2 .left))
+-- past the tests of n and d, and the call
+abbrev narrow : tie.Else5 → tie.Else2
+narrow c = c .before .before .before
+
+abbrev start : tie.Else5 → tie.Start
+start c = narrow c .before .before
+
+-- N is at most 2,048 · 16
+bits-most : (c : tie.Else5) → start c .args .n * start c .args .d ≤ 32768
+bits-most c = omega (arith, mul-le-mul (narrow c .before .if1 .left) (narrow c .if2 .left))
 
 mul-if6 : tie.Need-mul-if6
 mul-if6 c = omega (arith, bits-most c)
@@ -39,7 +46,7 @@ first-bound-requires c κs = omega (arith, bits-most (c .before))
 
 chain-requires : tie.Need-chain-requires
 chain-requires c κs =
-    let args = c .before .before .before .before .before .before .before .args in
+    let args = start (c .before .before) .args in
     (search needs, omega (arith, div-le-self (2 * args .flips) (args .distance), bits-most (c .before .before)))
 
 returns-7 : tie.Need-returns-7

@@ -1,6 +1,6 @@
 -- `restored::plan::sent_block` meets its contract: the bytes are the plan's.
 use mathlib.Core.Path.{refl}
-use Rattle.restored.specs.Plan.{sentBlock}
+use Rattle.restored.specs.Sent.{sentBlock}
 use Rattle.restored.proofs.plan.sent_block.Statement.{statement}
 use Rattle.restored.proofs.plan.sent_block.Tie as tie
 

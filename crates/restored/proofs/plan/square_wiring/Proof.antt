@@ -1,6 +1,6 @@
 -- `restored::plan::square_wiring` meets its contract: the bytes are the plan's.
 use mathlib.Core.Path.{refl}
-use Rattle.restored.specs.Plan.{squareWiring}
+use Rattle.wiring.specs.Square.{squareWiring}
 use Rattle.restored.proofs.plan.square_wiring.Statement.{statement}
 use Rattle.restored.proofs.plan.square_wiring.Tie as tie
 

@@ -22,79 +22,60 @@ counts n l h = (h, sym (length-take-le n l h))
 byte-requires : tie.Need-byte-requires
 byte-requires c κs = search needs
 
--- src/input.rt:33:9
 wide-requires : tie.Need-wide-requires
 wide-requires c κs = search needs
 
--- src/input.rt:34:18
 byte-requires-2 : tie.Need-byte-requires-2
 byte-requires-2 c κs = search needs
 
--- src/input.rt:34:9
 wide-requires-2 : tie.Need-wide-requires-2
 wide-requires-2 c κs = search needs
 
--- src/input.rt:35:18
 byte-requires-3 : tie.Need-byte-requires-3
 byte-requires-3 c κs = search needs
 
--- src/input.rt:35:9
 wide-requires-3 : tie.Need-wide-requires-3
 wide-requires-3 c κs = search needs
 
--- src/input.rt:36:18
 byte-requires-4 : tie.Need-byte-requires-4
 byte-requires-4 c κs = search needs
 
--- src/input.rt:36:9
 wide-requires-4 : tie.Need-wide-requires-4
 wide-requires-4 c κs = search needs
 
--- src/input.rt:37:19
 mul-length : tie.Need-mul-length
 mul-length c = search needs
 
--- src/input.rt:37:34
 mul-length-2 : tie.Need-mul-length-2
 mul-length-2 c = search needs
 
--- src/input.rt:37:19
 add-length : tie.Need-add-length
 add-length c = search needs
 
--- src/input.rt:37:46
 mul-length-3 : tie.Need-mul-length-3
 mul-length-3 c = search needs
 
--- src/input.rt:37:19
 add-length-2 : tie.Need-add-length-2
 add-length-2 c = search needs
 
--- src/input.rt:37:19
 add-length-3 : tie.Need-add-length-3
 add-length-3 c = search needs
 
--- src/input.rt:39:9
 returns : tie.Need-returns
 returns c = search needs
 
--- src/input.rt:41:33
 slice-relend-prefix-read-full : tie.Need-slice-relend-prefix-read-full
 slice-relend-prefix-read-full c = search needs
 
--- src/input.rt:41:33
 slice-aggregate-read-full : tie.Need-slice-aggregate-read-full
 slice-aggregate-read-full c = sym (length-take-le _ _ (omega arith))
 
--- src/input.rt:41:5
 read-full-requires : tie.Need-read-full-requires
 read-full-requires c κs = search needs
 
--- src/input.rt:30:1
 same-length : tie.Need-same-length
 same-length c = search needs
 
--- src/input.rt:30:1
 returns-2 : tie.Need-returns-2
 returns-2 c = counts _ _ (simp length-append (omega arith))
 

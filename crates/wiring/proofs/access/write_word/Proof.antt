@@ -6,8 +6,8 @@ use borrow.Author.Needs.{needs}
 use lib.ListN.{length}
 use lib.Pow.{shr-le}
 use Rattle.bits.specs.Bit.{digit}
-use Rattle.wiring.specs.Wiring.{edgeOf}
-use Rattle.wiring.specs.Block.{sideBit, scattered}
+use Rattle.wiring.specs.Plan.{sideBit}
+use Rattle.wiring.specs.Block.{scattered}
 use Rattle.wiring.proofs.VertexWords.{scattered-step, length-scattered}
 use Rattle.wiring.proofs.Permutation.{edges-le}
 use Rattle.wiring.proofs.VertexAccess.{inside-all, outside-degree, outside-vertex, outside-entries, write-outside, write-last}
@@ -15,11 +15,11 @@ use Rattle.wiring.proofs.access.write_word.Statement.{statement}
 use Rattle.wiring.proofs.access.write_word.Tie as tie
 
 abbrev Inv-loop : tie.InvT-loop
-Inv-loop right wiring d v word block₀ base j₀ block j =
-    (j ≤ d) × (block ≡ scattered (sideBit right (edgeOf wiring)) d base word j block₀)
+Inv-loop side wiring d v word block₀ base j₀ block j =
+    (j ≤ d) × (block ≡ scattered (sideBit side wiring) d base word j block₀)
 
 abbrev μ-loop : tie.MeasureT-loop
-μ-loop right wiring d v word block₀ base j₀ block j = d - j
+μ-loop side wiring d v word block₀ base j₀ block j = d - j
 
 returns : tie.Need-returns Inv-loop μ-loop
 returns c = sym (write-outside _ _ _ _ _ _ (outside-degree _ _ _ (omega arith)))
@@ -27,7 +27,10 @@ returns c = sym (write-outside _ _ _ _ _ _ (outside-degree _ _ _ (omega arith)))
 returns-2 : tie.Need-returns-2 Inv-loop μ-loop
 returns-2 c = sym (write-outside _ _ _ _ _ _ (outside-vertex _ _ _ (omega arith)))
 
-base-le : (c : tie.Else2 Inv-loop μ-loop) → c .before .before .before .before .args .v * c .before .before .before .before .args .d ≤ 32768
+abbrev start : tie.Else2 Inv-loop μ-loop → tie.Start Inv-loop μ-loop
+start c = c .before .before .before .before
+
+base-le : (c : tie.Else2 Inv-loop μ-loop) → start c .args .v * start c .args .d ≤ 32768
 base-le c = edges-le _ _ (omega arith) (omega arith)
 
 mul-base : tie.Need-mul-base Inv-loop μ-loop
@@ -45,6 +48,13 @@ returns-3 c = sym (write-outside _ _ _ _ _ _ (outside-entries _ _ _ (omega arith
 loop-holds : tie.Need-loop-holds Inv-loop μ-loop
 unfolding scattered
 loop-holds c = (search needs, refl)
+
+-- the turn in which a bit is looked up, and the tests before the loop
+abbrev turn : tie.After-bit-of Inv-loop μ-loop → tie.At-loop Inv-loop μ-loop
+turn c = c .before .before .before
+
+abbrev tested : tie.At-loop Inv-loop μ-loop → tie.Else2 Inv-loop μ-loop
+tested c = c .before .before
 
 add-bit-of : tie.Need-add-bit-of Inv-loop μ-loop
 add-bit-of c = search needs
@@ -66,8 +76,8 @@ shr-put-bit c = search needs
 
 cast-put-bit-2 : tie.Need-cast-put-bit-2 Inv-loop μ-loop
 cast-put-bit-2 c =
-    let args = c .before .before .before .before .before .before .before .before .before .args in
-    omega (arith, shr-le (args .word) (args .d - 1 - c .before .before .before .loop .j))
+    let args = start (tested (turn c)) .args in
+    omega (arith, shr-le (args .word) (args .d - 1 - turn c .loop .j))
 
 put-bit-requires : tie.Need-put-bit-requires Inv-loop μ-loop
 put-bit-requires c κs = search needs
@@ -80,11 +90,11 @@ loop-less c = search needs
 
 loop-again : tie.Need-loop-again Inv-loop μ-loop
 unfolding digit
-loop-again c = (
-  search needs,
-  scattered-step _ _ _ _ _ _ _ _ _ (c .before .before .before .before .before .before .loop .inv .1) (c .before .before .before .bit-of .ensures)
-      (c .before .before .put-bit .ensures),
-)
+loop-again c =
+    let put = c .before .before in (
+      search needs,
+      scattered-step _ _ _ _ _ _ _ _ _ (turn (put .before) .loop .inv .1) (put .before .bit-of .ensures) (put .put-bit .ensures),
+    )
 
 same-length : tie.Need-same-length Inv-loop μ-loop
 same-length c = ap length (c .before .loop .inv .1) ∙ length-scattered _ _ _ _ _ _

@@ -5,6 +5,7 @@ use native.Mathlib.Omega.{arith}
 use borrow.Author.Needs.{needs}
 use denote.Ref.{now}
 use lib.ListN.{length}
+use Rattle.wiring.specs.Plan.{Plan, planOf}
 use Rattle.wiring.proofs.Permutation.{wired-fits}
 use Rattle.wiring.proofs.Plans.{PlanAccepted, plan-accepted, plan-refused, piece-refused, piece-past, piece-part}
 use Rattle.wiring.proofs.piece.piece_of.Statement.{statement}
@@ -28,19 +29,26 @@ part-result-end c = search needs
 enum-known-values : tie.Need-enum-known-values
 enum-known-values c = search needs
 
+abbrev checked : tie.After-known-told → tie.After-check-plan
+checked c = c .before .before .before
+
+abbrev start : tie.After-known-told → tie.Start
+start c = checked c .before .before .before
+
+abbrev planIn : tie.Start → Plan
+planIn c = planOf (now (c .args .sheet)) (c .args .n) (now (c .args .wiring))
+
 plan : (c : tie.After-known-told)
-    → PlanAccepted (now (c .before .before .before .before .before .before .args .sheet)) (c .before .before .before .before .before .before .args .n)
-    (now (c .before .before .before .before .before .before .args .wiring)) (c .before .before .before .check-plan .result)
-    (c .before .values .given .0 .0) (c .before .values .given .0 .1 .0)
-plan c = plan-accepted _ _ _ _ _ _ (c .before .before .before .check-plan .ensures) (c .before .values .given .1)
+    → PlanAccepted (planIn (start c)) (checked c .check-plan .result) (c .before .values .given .0 .0) (c .before .values .given .0 .1 .0)
+plan c = plan-accepted _ _ _ _ (checked c .check-plan .ensures) (c .before .values .given .1)
 
 -- the piece ends where the wiring ends, or before
 end-le : (c : tie.Then1)
-    → 2 * (c .before .before .before .before .before .before .before .args .v * c .before .before .values .given .0 .0)
-    + 2 * c .before .before .values .given .0 .0 ≤ length (now (c .before .before .before .before .before .before .before .args .wiring))
+    → let d : ℕ = c .before .before .values .given .0 .0 in
+    2 * (start (c .before) .args .v * d) + 2 * d ≤ length (now (start (c .before) .args .wiring))
 end-le c =
     let p = plan (c .before) in
-    let v = c .before .before .before .before .before .before .before .args .v in
+    let v = start (c .before) .args .v in
     omega (arith, wired-fits (p .plan-wired) v (c .if1 .taken), p .d-is, ap (λ (x : ℕ). v * x) (p .d-is))
 
 mul-start : tie.Need-mul-start
@@ -67,7 +75,7 @@ part-result-end-2 c = end-le c
 returns : tie.Need-returns
 returns c =
     let p = plan (c .before .before) in
-    piece-part _ _ _ _ _ _ _ (p .plan-done) (c .before .if1 .taken) (p .d-is) refl refl
+    piece-part _ _ _ _ _ (p .plan-done) (c .before .if1 .taken) (p .d-is) refl refl
 
 sub-result-3 : tie.Need-sub-result-3
 sub-result-3 c = search needs
@@ -80,12 +88,12 @@ part-result-end-3 c = search needs
 
 returns-2 : tie.Need-returns-2
 returns-2 c =
-    sym (piece-refused _ _ _ _ _ _
-    (plan-refused _ _ _ _ _ (c .before .before .before .check-plan .ensures) (c .before .enum-told .given .1)))
+    sym (piece-refused _ _ _ _
+    (plan-refused _ _ _ (c .before .before .before .check-plan .ensures) (c .before .enum-told .given .1)))
 
 returns-3 : tie.Need-returns-3
 returns-3 c =
-    sym (piece-past _ _ _ _ (plan (c .before .before) .plan-done) (c .before .if1 .left))
+    sym (piece-past _ _ (plan (c .before .before) .plan-done) (c .before .if1 .left))
 
 pub piece-of-spec : {M : Type 1} → statement M
 piece-of-spec =

@@ -1,13 +1,13 @@
 -- `wiring::check_entries` meets its contract: after i turns the first i entries have passed, and `seen` has a bit for each of their edges.
 use mathlib.Core.Path.{_≡_, refl, sym, ap, _∙_}
 use mathlib.Core.List.{[]}
-use Prim.Native.Nat.{_+_, _*_, _-_, _≤_}
+use Prim.Native.Nat.{_-_, _≤_}
 use native.Mathlib.Omega.{arith}
 use borrow.Author.Needs.{needs}
 use denote.Ref.{now}
-use Rattle.bits.specs.Bit.{pairAt}
 use Rattle.inner_code.specs.Reply.{done}
-use Rattle.wiring.specs.Wiring.{edgeOf, entriesCheck}
+use Rattle.wiring.specs.Plan.{edgeOf}
+use Rattle.wiring.specs.Wiring.{entriesCheck}
 use Rattle.wiring.specs.Access.{noneSeen, seenAfter}
 use Rattle.wiring.proofs.Permutation.{entries-refused, entries-one-more}
 use Rattle.wiring.proofs.SeenBits.{entry-high, entry-seen, entry-fresh, seen-stored}
@@ -25,46 +25,26 @@ loop-holds : tie.Need-loop-holds Inv-loop μ-loop
 unfolding entriesCheck seenAfter noneSeen
 loop-holds c = (search needs, refl, refl)
 
-mul-edge : tie.Need-mul-edge Inv-loop μ-loop
-mul-edge c = search needs
-
-shared-slice-read-edge : tie.Need-shared-slice-read-edge Inv-loop μ-loop
-shared-slice-read-edge c = search needs
-
-cast-edge : tie.Need-cast-edge Inv-loop μ-loop
-cast-edge c = omega (arith, c .shared-slice-known .given (2 * c .before .before .loop .i))
-
-mul-edge-2 : tie.Need-mul-edge-2 Inv-loop μ-loop
-mul-edge-2 c = omega (arith, c .shared-slice-known .given (2 * c .before .before .loop .i))
-
-mul-edge-3 : tie.Need-mul-edge-3 Inv-loop μ-loop
-mul-edge-3 c = search needs
-
-add-edge : tie.Need-add-edge Inv-loop μ-loop
-add-edge c = search needs
-
-shared-slice-read-edge-2 : tie.Need-shared-slice-read-edge-2 Inv-loop μ-loop
-shared-slice-read-edge-2 c = search needs
-
-cast-edge-2 : tie.Need-cast-edge-2 Inv-loop μ-loop
-cast-edge-2 c = omega (arith, c .shared-slice-known2 .given (2 * c .before .before .before .loop .i + 1))
-
-add-edge-2 : tie.Need-add-edge-2 Inv-loop μ-loop
-add-edge-2 c =
-    let i = c .before .before .before .loop .i in
-    omega (arith, c .shared-slice-known2 .given (2 * i), c .shared-slice-known2 .given (2 * i + 1))
+edge-at-requires : tie.Need-edge-at-requires Inv-loop μ-loop
+edge-at-requires c κs = search needs
 
 cast-place : tie.Need-cast-place Inv-loop μ-loop
 cast-place c = search needs
 
+abbrev start : tie.At-loop Inv-loop μ-loop → tie.Start Inv-loop μ-loop
+start c = c .before .before
+
+abbrev head : tie.After-edge-at Inv-loop μ-loop → tie.At-loop Inv-loop μ-loop
+head c = c .before .before
+
 returns : tie.Need-returns Inv-loop μ-loop
-unfolding edgeOf pairAt
 returns c =
-    let args = c .before .before .before .before .before .args in
-    let before = c .before .before .before .before .loop in
+    let read = c .before in
+    let turn = head read .loop in
+    let args = start (head read) .args in
     let edge = edgeOf (now (args .wiring)) in
-    sym (entries-refused (args .edges) edge (args .edges) (before .i) 9 (before .i) (before .inv .1)
-    (entry-high (args .edges) edge (before .i) (c .if1 .taken)) (omega arith))
+    sym (entries-refused (args .edges) edge (args .edges) (turn .i) 9 (turn .i) (turn .inv .1)
+    (entry-high (args .edges) edge (turn .i) _ (read .edge-at .ensures) (c .if1 .taken)) (omega arith))
 
 array-read-byte : tie.Need-array-read-byte Inv-loop μ-loop
 array-read-byte c = search needs
@@ -76,13 +56,15 @@ cast-place-2 : tie.Need-cast-place-2 Inv-loop μ-loop
 cast-place-2 c = search needs
 
 returns-2 : tie.Need-returns-2 Inv-loop μ-loop
-unfolding edgeOf pairAt
 returns-2 c =
-    let args = c .before .before .before .before .before .before .args in
-    let before = c .before .before .before .before .before .loop in
+    let read = c .before .before in
+    let turn = head read .loop in
+    let args = start (head read) .args in
     let edge = edgeOf (now (args .wiring)) in
-    sym (entries-refused (args .edges) edge (args .edges) (before .i) 10 (before .i) (before .inv .1)
-    (entry-seen (args .edges) edge (before .i) (before .seen) (before .inv .2) (c .before .if1 .left) (omega arith) (c .if2 .taken)) (omega arith))
+    sym (entries-refused (args .edges) edge (args .edges) (turn .i) 10 (turn .i) (turn .inv .1)
+    (entry-seen (args .edges) edge (turn .i) _ (read .edge-at .ensures) (turn .seen) (turn .inv .2) (c .before .if1 .left) (omega arith)
+    (c .if2 .taken))
+    (omega arith))
 
 array-write-seen : tie.Need-array-write-seen Inv-loop μ-loop
 array-write-seen c = search needs
@@ -94,20 +76,22 @@ loop-less : tie.Need-loop-less Inv-loop μ-loop
 loop-less c = search needs
 
 loop-again : tie.Need-loop-again Inv-loop μ-loop
-unfolding edgeOf pairAt
 loop-again c =
-    let args = c .before .before .before .before .before .before .args in
-    let before = c .before .before .before .before .before .loop in
-    let edge = edgeOf (now (args .wiring)) in (
+    let read = c .before .before in
+    let turn = head read .loop in
+    let args = start (head read) .args in
+    let edge = edgeOf (now (args .wiring)) in
+    let is = read .edge-at .ensures in
+    let low = c .before .if1 .left in (
       omega arith,
-      entries-one-more (args .edges) edge (before .i) (before .inv .1)
-          (entry-fresh (args .edges) edge (before .i) (before .seen) (before .inv .2) (c .before .if1 .left) (omega arith) (c .if2 .left)),
-      seen-stored (args .edges) edge (before .i) (before .seen) (before .inv .2) (c .before .if1 .left) (omega arith) (c .if2 .left),
+      entries-one-more (args .edges) edge (turn .i) (turn .inv .1)
+          (entry-fresh (args .edges) edge (turn .i) _ is (turn .seen) (turn .inv .2) low (omega arith) (c .if2 .left)),
+      seen-stored (args .edges) edge (turn .i) _ is (turn .seen) (turn .inv .2) low (omega arith) (c .if2 .left),
     )
 
 returns-3 : tie.Need-returns-3 Inv-loop μ-loop
 returns-3 c =
-    let args = c .before .before .args in
+    let args = start (c .before) .args in
     let end : c .before .loop .i ≡ args .edges = omega arith in
     sym (ap (entriesCheck (args .edges) (edgeOf (now (args .wiring)))) (sym end) ∙ c .before .loop .inv .1)
 
@@ -118,15 +102,7 @@ check-entries-spec =
     Inv-loop
     μ-loop
     loop-holds
-    mul-edge
-    shared-slice-read-edge
-    cast-edge
-    mul-edge-2
-    mul-edge-3
-    add-edge
-    shared-slice-read-edge-2
-    cast-edge-2
-    add-edge-2
+    edge-at-requires
     cast-place
     returns
     array-read-byte

@@ -3,7 +3,7 @@ use mathlib.Core.Path.{sym, ap, _∙_}
 use native.Mathlib.Omega.{arith}
 use borrow.Author.Needs.{needs}
 use Rattle.inner_code.proofs.SheetChecks.{accepted}
-use Rattle.wiring.specs.Answer.{checkReply}
+use Rattle.wiring.specs.Checking.{checkReply}
 use Rattle.wiring.proofs.Plans.{checked-sheet-refused, checked-wiring-refused, checked-accepted}
 use Rattle.wiring.proofs.plan.check_plan.Statement.{statement}
 use Rattle.wiring.proofs.plan.check_plan.Tie as tie
@@ -29,20 +29,22 @@ enum-known-r : tie.Need-enum-known-r
 enum-known-r c = search needs
 
 returns : tie.Need-returns
-returns c = checked-sheet-refused _ _ _ _ _ (c .before .before .before .check-sheet .ensures) (c .before .values .given .1)
+returns c = checked-sheet-refused _ _ _ (c .before .before .before .check-sheet .ensures) (c .before .values .given .1)
 
 returns-2 : tie.Need-returns-2
 returns-2 c =
-    checked-accepted _ _ _ _ _ _
-    (c .before .before .before .before .before .before .check-sheet .ensures)
-    (c .before .before .before .before .values2 .given .1)
+    let told = c .before .before .before in
+    checked-accepted _ _ _ _
+    (told .before .before .before .check-sheet .ensures)
+    (told .before .values2 .given .1)
     (sym (c .before .before .check-wiring .ensures) ∙ ap checkReply (c .enum-told .given .1))
 
 returns-3 : tie.Need-returns-3
 returns-3 c =
-    checked-wiring-refused _ _ _ _ _ _
-    (c .before .before .before .before .before .before .before .check-sheet .ensures)
-    (c .before .before .before .before .before .values2 .given .1) _
+    let told = c .before .before .before .before in
+    checked-wiring-refused _ _ _ _
+    (told .before .before .before .check-sheet .ensures)
+    (told .before .values2 .given .1) _
     (sym (c .before .before .before .check-wiring .ensures) ∙ ap checkReply (c .before .r .given .1))
 
 pub check-plan-spec : {M : Type 1} → statement M

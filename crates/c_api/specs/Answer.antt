@@ -1,0 +1,19 @@
+-- What a C host is told.
+--   told reply        a service's reply: its first value, 0 where it has none, or its refusal's number and place
+--   toldPlace reply   the locator's reply: nothing, or as place 1 for left (0) and 2 for right (1) and as value the vertex, or its refusal
+use Prim.Native.Nat.{suc}
+use mathlib.Core.List.{[], _∷_}
+use lib.ListN.{getD}
+use Rattle.inner_code.specs.Reply.{Reply, done, refused}
+use Rattle.c_api.specs.declared.Answer.{Answer}
+
+unfoldable pub told : Reply → Answer
+told (done values) = record { number = 0; place = 0; value = getD values 0 0 }
+told (refused x y) = record { number = x; place = y; value = 0 }
+
+unfoldable pub toldPlace : Reply → Answer
+unfolding told
+toldPlace (done []) = told (done [])
+toldPlace (done (side ∷ [])) = told (done [])
+toldPlace (done (side ∷ vertex ∷ rest)) = record { number = 0; place = suc side; value = vertex }
+toldPlace (refused x y) = told (refused x y)

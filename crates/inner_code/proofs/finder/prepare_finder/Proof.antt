@@ -1,0 +1,137 @@
+-- `inner_code::prepare_finder` meets its contract: the table is put in for the house code's sheet, and for any other the parts of a search.
+use mathlib.Core.Path.{_≡_, _∙_}
+use mathlib.Core.List.{List, _++_}
+use Prim.Native.Nat.{ℕ, _-_, _≤_}
+use native.Mathlib.Omega.{arith}
+use borrow.Author.Needs.{needs}
+use denote.Ref.{now}
+use lib.ListN.{length, set, take, drop, length-set, length-drop}
+use lib.Seq.{length-take-le}
+use Rattle.inner_code.specs.Finding.{Placed}
+use Rattle.inner_code.proofs.Listings.{lists-few}
+use Rattle.inner_code.proofs.Finding.{placed-back, finds-tabled, finds-searching}
+use Rattle.inner_code.proofs.finder.prepare_finder.Statement.{statement}
+use Rattle.inner_code.proofs.finder.prepare_finder.Tie as tie
+
+is-house-requires : tie.Need-is-house-requires
+is-house-requires c κs = search needs
+
+nearest-words-requires : tie.Need-nearest-words-requires
+nearest-words-requires c κs = search needs
+
+element-write-finder : tie.Need-element-write-finder
+element-write-finder c = search needs
+
+slice-aggregate-place-bytes : tie.Need-slice-aggregate-place-bytes
+slice-aggregate-place-bytes c = search needs
+
+place-bytes-requires : tie.Need-place-bytes-requires
+place-bytes-requires c κs = search needs
+
+-- the call, from where the sheet is compared with the house one
+abbrev asked : tie.After-is-house → tie.Start
+asked c = c .before .before
+
+returns : tie.Need-returns
+returns c = record {
+  finds = λ zeros accepted k-is stored.
+      let named = c .before .before .before in
+      let housed = named .before .before in
+      let args = asked housed .args in
+      finds-tabled (now (args .sheet)) (now (args .finder)) (housed .is-house .ensures (named .before .if1 .taken)) (named .nearest-words .ensures)
+      (omega arith) (c .place-bytes .ensures) accepted;
+}
+
+sub-list-codewords : tie.Need-sub-list-codewords
+sub-list-codewords c = search needs
+
+part-list-codewords-start : tie.Need-part-list-codewords-start
+part-list-codewords-start c = search needs
+
+part-list-codewords-end : tie.Need-part-list-codewords-end
+part-list-codewords-end c = search needs
+
+list-codewords-requires : tie.Need-list-codewords-requires
+list-codewords-requires c κs = search needs
+
+-- ---- from the listed codewords on
+
+abbrev start : tie.After-list-codewords → tie.Start
+start c = asked (c .before .before .before .before)
+
+-- the finder's last part has room for every code
+part-sized : (finder : List ℕ) → length finder ≡ 3360 → length (take (length finder - 1312) (drop 1312 finder)) ≡ 2048
+part-sized finder size = omega (arith, length-take-le (length finder - 1312) (drop 1312 finder) (omega (arith, length-drop 1312 finder)))
+
+few : (c : tie.After-list-codewords) → c .list-codewords .result ≤ 2048
+few c = lists-few _ _ (c .list-codewords .ensures) (omega (arith, part-sized (now (start c .args .finder)) (omega arith)))
+
+-- the list that the codewords are back in
+abbrev back : tie.After-list-codewords → List ℕ
+back c =
+    let finder = now (start c .args .finder) in
+    take 1312 finder ++ (c .list-codewords .last .1 .1 .0 ++ drop (length finder - 1312) (drop 1312 finder))
+
+placed : (c : tie.After-list-codewords) → Placed 1312 (c .list-codewords .last .1 .1 .0) (now (start c .args .finder)) (back c)
+placed c =
+    let finder = now (start c .args .finder) in
+    placed-back 1312 (length finder - 1312) _ finder (omega arith)
+    (omega (arith, c .list-codewords .kept .1 .1 .0, part-sized finder (omega arith)))
+
+sized : (c : tie.After-list-codewords) (rows : ℕ) → length (set (back c) 1 rows) ≡ 3360
+sized c rows = length-set (back c) 1 rows ∙ omega (arith, placed c .sized)
+
+at-most-eleven-requires : tie.Need-at-most-eleven-requires
+at-most-eleven-requires c κs = search needs
+
+cast-all : tie.Need-cast-all
+cast-all c = search needs
+
+slice-write-all : tie.Need-slice-write-all
+slice-write-all c = search needs
+
+cast-all-2 : tie.Need-cast-all-2
+cast-all-2 c = omega (arith, few (c .before .before .before))
+
+slice-write-all-2 : tie.Need-slice-write-all-2
+slice-write-all-2 c = omega (arith, sized (c .before .before .before) (c .at-most-eleven .result))
+
+place-requires : tie.Need-place-requires
+place-requires c κs =
+    let counted = c .before in
+    let listing = counted .before .before .before in
+    let rows = counted .at-most-eleven .result in
+    omega (arith, sized listing rows, length-set (set (back listing) 1 rows) 2 (listing .list-codewords .result))
+
+returns-2 : tie.Need-returns-2
+returns-2 c = record {
+  finds = λ zeros accepted k-is stored.
+      let counted = c .before .before in
+      let words = counted .before .before .before in
+      let args = start words .args in
+      finds-searching (now (args .sheet)) (args .k) (words .list-codewords .result) (counted .at-most-eleven .result) zeros
+      (words .list-codewords .ensures) (omega (arith, part-sized (now (args .finder)) (omega arith))) (placed words)
+      (counted .at-most-eleven .ensures) (c .place .ensures) accepted k-is stored;
+}
+
+pub prepare-finder-spec : {M : Type 1} → statement M
+prepare-finder-spec =
+    tie.close
+    (tie.spec
+    is-house-requires
+    nearest-words-requires
+    element-write-finder
+    slice-aggregate-place-bytes
+    place-bytes-requires
+    returns
+    sub-list-codewords
+    part-list-codewords-start
+    part-list-codewords-end
+    list-codewords-requires
+    at-most-eleven-requires
+    cast-all
+    slice-write-all
+    cast-all-2
+    slice-write-all-2
+    place-requires
+    returns-2)

@@ -1,0 +1,54 @@
+-- `inner_code::search` meets its contract: the part that is lent on holds the listed codewords.
+use mathlib.Core.Path.{_∙_}
+use Prim.Native.Nat.{_+_, _-_}
+use borrow.Author.Needs.{needs}
+use native.Mathlib.Omega.{arith}
+use denote.Ref.{now}
+use Rattle.inner_code.proofs.Finding.{search-part}
+use Rattle.inner_code.proofs.finder.search.Statement.{statement}
+use Rattle.inner_code.proofs.finder.search.Tie as tie
+
+element-copy-out-widened : tie.Need-element-copy-out-widened
+element-copy-out-widened c = search needs
+
+widened-requires : tie.Need-widened-requires
+widened-requires c κs = search needs
+
+returns : tie.Need-returns
+returns c = search needs
+
+add-end : tie.Need-add-end
+add-end c = search needs
+
+sub-nearest-listed : tie.Need-sub-nearest-listed
+sub-nearest-listed c = search needs
+
+part-nearest-listed-start : tie.Need-part-nearest-listed-start
+part-nearest-listed-start c = search needs
+
+part-nearest-listed-end : tie.Need-part-nearest-listed-end
+part-nearest-listed-end c = search needs
+
+nearest-listed-requires : tie.Need-nearest-listed-requires
+nearest-listed-requires c κs = search needs
+
+returns-2 : tie.Need-returns-2
+returns-2 c = λ few.
+    let counted = c .before .before .before .before in
+    let start = counted .before .before in
+    c .nearest-listed .ensures
+    ∙ search-part (now (start .args .finder)) _ (1312 + counted .widened .result - 1312) (start .args .word) (omega arith) (omega arith)
+
+pub search-spec : {M : Type 1} → statement M
+search-spec =
+    tie.close
+    (tie.spec
+    element-copy-out-widened
+    widened-requires
+    returns
+    add-end
+    sub-nearest-listed
+    part-nearest-listed-start
+    part-nearest-listed-end
+    nearest-listed-requires
+    returns-2)

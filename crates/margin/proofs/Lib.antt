@@ -1,0 +1,2 @@
+pub mod MarginInputs
+pub mod Outputs
