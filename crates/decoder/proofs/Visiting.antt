@@ -20,7 +20,7 @@ use Rattle.bits.proofs.Tests.{flag-zero}
 use Rattle.bits.proofs.Sums.{sum-zero, sum-one-more, sum-none, sum-none-each, count-le, flag-true, flag-false}
 use lib.ListN.{length}
 use Rattle.inner_code.specs.Sheet.{degree}
-use Rattle.inner_code.specs.Finding.{OwnNearest, Found}
+use Rattle.inner_code.proofs.Finding.{OwnNearest, Found}
 use Rattle.wiring.specs.Plan.{Plan, Side, edgeCount, sideOf}
 use Rattle.wiring.specs.Access.{readWord, writtenWord}
 use Rattle.wiring.specs.declared.side.SideName.{SideName}

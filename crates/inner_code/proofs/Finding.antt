@@ -1,19 +1,22 @@
 -- The finder of nearest words: what its parts hold, how they come to stand there, and that the word found is the nearest word.
 --   Placed start part before after   `after` is `before` with `part` in it from `start` on (specs Finding)
 --   Finds sheet finder               the finder finds the sheet's nearest words (specs Finding)
---   OwnNearest, Found                what the code's test and its search answer (specs Finding)
+--   Prepared, leftIn, ownNearest, searchedIn, foundWord, foundFinder   what the code answers and leaves (specs Finding)
+--   OwnNearest finder w r            r tells whether w is its own nearest word
+--   Found before w r after           r is the nearest word of w, and what finds before finds after
 -- Laws are named by their subject, then by the fact: `placed-` is about a part put into a list, as many turns as have been made (-none,
 -- -one-more, -all) or lent and back (-back), `house-` about the house code's sheet, `table-` about the word in the table, `left-` about what
 -- the rows leave of a word, `search-` about the nearest of the listed codewords, `leader-` about the leaders kept, `own-` and `found-` about
--- what the code answers by the case that it takes, and `finds-` leads to a Finds.
+-- what the code answers by the case that it takes, and what it means (-means), and `finds-` and `prepared-` lead to a Finds.
 use Prim.Native.Nat.{ℕ, _+_, _*_, _%_, _^_, _≤_, _<_, min}
-use mathlib.Core.Bool.{true}
+use mathlib.Core.Bool.{Bool, true, false}
 use mathlib.Core.List.{List, [], _++_}
+use mathlib.Core.Logic.{⊎-elim}
 use mathlib.Core.Path.{_≡_, refl, sym, ap, _∙_}
 use native.Mathlib.Nat.{le-dest, min-eq-left}
 use native.Mathlib.Decide.{ℕ-discrete}
 use native.Mathlib.Omega.{arith}
-use borrow.Author.Tests.{eqb-true, eqb-false}
+use borrow.Author.Tests.{eqb-true, eqb-false, eq-eqb, ne-eqb, le-leb, lt-leb}
 use lib.Bits.{bitXor}
 use lib.Dec.{eqb}
 use lib.ListN.{length, getD, set, take, drop, replicate, length-set, length-append, length-drop, length-replicate, getD-replicate, List·getD-append}
@@ -26,7 +29,8 @@ use Rattle.inner_code.specs.Code.{combination, isCodeword, nearestPatter
 use Rattle.inner_code.specs.Reduction.{reduced, reducedBy, echelon, withEchelon, searched, Lists}
 use Rattle.inner_code.specs.Sheet.{degree, rowCount, rowOf, sheetCheck}
 use Rattle.inner_code.specs.House.{houseSheet, HouseTable}
-use Rattle.inner_code.specs.Finding.{kindIn, rowsIn, listedIn, basisIn, tableIn, nameIn, leaderIn, wordIn, Finds, OwnNearest, Found, Placed}
+use Rattle.inner_code.specs.Finding.{kindIn, rowsIn, listedIn, basisIn, tableIn, nameIn, leaderIn, wordIn, Finds, Placed}
+use Rattle.inner_code.specs.Finding.{ByTable, ByCodewords, Prepared, leftIn, ownNearest, searchedIn, foundWord, foundFinder}
 use Rattle.inner_code.proofs.NearestWord.{searched-ext, nearest-codeword, nearest-fixed, nearest-searched}
 use Rattle.inner_code.proofs.EchelonForm.{codeword-reduced, reduced-codeword, reducedBy-echelon, length-withEchelon, withEchelon-at}
 use Rattle.inner_code.proofs.Cosets.{coset-pattern, coset-lt}
@@ -101,7 +105,7 @@ placed-back start k part before room size = record { sized = sized; inside = ins
 
 -- ---- the house code's sheet
 
-length-house : length houseSheet ≡ 10
+pub length-house : length houseSheet ≡ 10
 unfolding houseSheet
 length-house = refl
 
@@ -129,6 +133,15 @@ search-part finder count n w e room =
     rw size (searched-ext (at (take n (drop 1312 finder))) (wordIn finder) count w
     (λ m h. getD-take n (drop 1312 finder) m 0 (omega arith) ∙ getD-drop 1312 finder m 0))
 
+-- the codewords are searched where no more are told than fit
+pub search-few : (finder : List ℕ) (w : ℕ) → listedIn finder ≤ 2048 → searchedIn finder w ≡ searched (wordIn finder) (listedIn finder) w
+unfolding searchedIn
+search-few finder w few = rw (le-leb _ _ few)
+
+pub search-many : (finder : List ℕ) (w : ℕ) → 2048 < listedIn finder → searchedIn finder w ≡ w
+unfolding searchedIn
+search-many finder w many = rw (lt-leb _ _ many)
+
 -- ---- the word found
 
 module _ {sheet finder : List ℕ} (f : Finds sheet finder) (w : ℕ) (w-lt : w < 2 ^ degree sheet) (kind : kindIn finder ≡ 1) where
@@ -142,7 +155,7 @@ module _ {sheet finder : List ℕ} (f : Finds sheet finder) (kind : kindIn finde
   is-sound : Sound sheet
   is-sound = sound sheet [] (f .accepted)
 
-  left-reduced : (w : ℕ) → reducedBy (basisIn finder) (min (rowsIn finder) 11) w ≡ reduced (rowOf sheet) (rowCount sheet) w
+  left-reduced : (w : ℕ) → leftIn finder w ≡ reduced (rowOf sheet) (rowCount sheet) w
   left-reduced w =
       ap (λ (m : ℕ). reducedBy (basisIn finder) m w)
       (ap (λ (m : ℕ). min m 11) (f .searching kind .rows) ∙ min-eq-left (is-sound .count-high))
@@ -153,12 +166,12 @@ module _ {sheet finder : List ℕ} (f : Finds sheet finder) (kind : kindIn finde
 
   module _ (w : ℕ) where
     -- nothing is left of a codeword, which is its own nearest word
-    left-none : reducedBy (basisIn finder) (min (rowsIn finder) 11) w ≡ 0 → nearestWord (rowOf sheet) (rowCount sheet) (degree sheet) w ≡ w
+    left-none : leftIn finder w ≡ 0 → nearestWord (rowOf sheet) (rowCount sheet) (degree sheet) w ≡ w
     left-none e =
         nearest-fixed (rowOf sheet) (rowCount sheet) (degree sheet) (is-sound .degree-high) (is-sound .rows-lt) w
         (reduced-codeword (rowOf sheet) (rowCount sheet) w (sym (left-reduced w) ∙ e))
 
-    left-some : w < 2 ^ degree sheet → (reducedBy (basisIn finder) (min (rowsIn finder) 11) w ≡ 0 → ⊥)
+    left-some : w < 2 ^ degree sheet → (leftIn finder w ≡ 0 → ⊥)
         → nearestWord (rowOf sheet) (rowCount sheet) (degree sheet) w ≡ w → ⊥
     left-some w-lt e same =
         let codeword : isCodeword (rowOf sheet) (rowCount sheet) w ≡ true =
@@ -172,14 +185,14 @@ module _ {sheet finder : List ℕ} (f : Finds sheet finder) (kind : kindIn finde
         (wordIn finder) (f .searching kind .words) w w-lt
 
     -- the leader kept for what is left of a word leads to its nearest word
-    leader-met : w < 2 ^ degree sheet → (s left : ℕ) → s < 512 → left ≡ reducedBy (basisIn finder) (min (rowsIn finder) 11) w → (left ≡ 0 → ⊥)
+    leader-met : w < 2 ^ degree sheet → (s left : ℕ) → s < 512 → left ≡ leftIn finder w → (left ≡ 0 → ⊥)
         → nameIn finder s ≡ left → bitXor w (leaderIn finder s) ≡ nearestWord (rowOf sheet) (rowCount sheet) (degree sheet) w
     unfolding nearestWord
     leader-met w-lt s left s-lt is some met =
         ap (bitXor w) (f .searching kind .leaders s w s-lt w-lt (λ e. some (sym met ∙ e)) (met ∙ is ∙ left-reduced w))
 
     -- one more leader, in the slot that its coset's name gives
-    leader-more : (s left nearest : ℕ) → s < 512 → left ≡ reducedBy (basisIn finder) (min (rowsIn finder) 11) w
+    leader-more : (s left nearest : ℕ) → s < 512 → left ≡ leftIn finder w
         → nearest ≡ searched (wordIn finder) (listedIn finder) w
         → Finds sheet (set (set finder (288 + 2 * s) left) (288 + 2 * s + 1) (bitXor w nearest))
     unfolding nearestWord basisIn wordIn
@@ -238,38 +251,117 @@ module _ {sheet finder : List ℕ} (f : Finds sheet finder) (kind : kindIn finde
 -- ---- what the code answers, by the case that it takes
 
 module _ (finder : List ℕ) (w : ℕ) (kind : kindIn finder ≡ 1) where
-  pub own-table : OwnNearest finder w (eqb (tableIn finder (w % 256)) w)
-  own-table = record {
-    stays = λ e sheet f w-lt. sym (table-nearest f w w-lt kind) ∙ eqb-true _ _ e;
-    changes = λ e sheet f w-lt same. eqb-false _ _ e (table-nearest f w w-lt kind ∙ same);
-  }
+  pub own-table : eqb (tableIn finder (w % 256)) w ≡ ownNearest finder w
+  unfolding ownNearest
+  own-table = rw (eq-eqb (kindIn finder) 1 kind)
 
-  pub found-table : Found finder w (tableIn finder (w % 256)) finder
-  found-table = record { nearest = λ sheet f w-lt. table-nearest f w w-lt kind; finds = λ sheet f. f }
+  pub found-table : (tableIn finder (w % 256) ≡ foundWord finder w) × (finder ≡ foundFinder finder w)
+  unfolding foundWord foundFinder
+  found-table = (rw (eq-eqb (kindIn finder) 1 kind), rw (eq-eqb (kindIn finder) 1 kind))
 
-module _ (finder : List ℕ) (w left : ℕ) (kind : kindIn finder ≡ 1 → ⊥) (is : left ≡ reducedBy (basisIn finder) (min (rowsIn finder) 11) w) where
-  pub own-left : OwnNearest finder w (eqb left 0)
-  own-left = record {
-    stays = λ e sheet f w-lt. left-none f kind w (sym is ∙ eqb-true left 0 e);
-    changes = λ e sheet f w-lt. left-some f kind w w-lt (λ none. eqb-false left 0 e (is ∙ none));
-  }
+module _ (finder : List ℕ) (w left : ℕ) (kind : kindIn finder ≡ 1 → ⊥) (is : left ≡ leftIn finder w) where
+  not-tabled : eqb (kindIn finder) 1 ≡ false
+  not-tabled = ne-eqb (kindIn finder) 1 kind
 
-  pub found-codeword : left ≡ 0 → Found finder w w finder
-  found-codeword e = record { nearest = λ sheet f w-lt. sym (left-none f kind w (sym is ∙ e)); finds = λ sheet f. f }
+  pub own-left : eqb left 0 ≡ ownNearest finder w
+  unfolding ownNearest
+  own-left = rw (not-tabled, is)
+
+  pub found-codeword : left ≡ 0 → (w ≡ foundWord finder w) × (finder ≡ foundFinder finder w)
+  unfolding foundWord foundFinder
+  found-codeword e =
+      let none : eqb (leftIn finder w) 0 ≡ true = eq-eqb (leftIn finder w) 0 (sym is ∙ e) in
+      (rw (not-tabled, none), rw (not-tabled, none))
 
   module _ (some : left ≡ 0 → ⊥) where
-    pub found-leader : nameIn finder (left % 512) ≡ left → Found finder w (bitXor w (leaderIn finder (left % 512))) finder
-    found-leader met = record {
-      nearest = λ sheet f w-lt. leader-met f kind w w-lt (left % 512) left (omega arith) is some met;
-      finds = λ sheet f. f;
-    }
+    left-there : eqb (leftIn finder w) 0 ≡ false
+    left-there = ne-eqb (leftIn finder w) 0 (λ e. some (is ∙ e))
 
-    pub found-searched : (nearest : ℕ) → (listedIn finder ≤ 2048 → nearest ≡ searched (wordIn finder) (listedIn finder) w)
-        → Found finder w nearest (set (set finder (288 + 2 * (left % 512)) left) (288 + 2 * (left % 512) + 1) (bitXor w nearest))
-    found-searched nearest found = record {
-      nearest = λ sheet f w-lt. found (search-sized f kind) ∙ search-nearest f kind w w-lt;
-      finds = λ sheet f. leader-more f kind w (left % 512) left nearest (omega arith) is (found (search-sized f kind));
-    }
+    pub found-leader : nameIn finder (left % 512) ≡ left
+        → (bitXor w (leaderIn finder (left % 512)) ≡ foundWord finder w) × (finder ≡ foundFinder finder w)
+    unfolding foundWord foundFinder
+    found-leader met =
+        let kept : eqb (nameIn finder (leftIn finder w % 512)) (leftIn finder w) ≡ true = eq-eqb _ _ (rw is at met) in
+        (rw (not-tabled, left-there, kept, is), rw (not-tabled, left-there, kept))
+
+    pub found-searched : (nameIn finder (left % 512) ≡ left → ⊥) → (nearest : ℕ) → nearest ≡ searchedIn finder w
+        → (nearest ≡ foundWord finder w)
+        × (set (set finder (288 + 2 * (left % 512)) left) (288 + 2 * (left % 512) + 1) (bitXor w nearest) ≡ foundFinder finder w)
+    unfolding foundWord foundFinder
+    found-searched missed nearest found =
+        let new : eqb (nameIn finder (leftIn finder w % 512)) (leftIn finder w) ≡ false =
+        ne-eqb (nameIn finder (leftIn finder w % 512)) (leftIn finder w) (λ e. missed (rw (sym is) at e)) in
+        (rw (not-tabled, left-there, new, found), rw (not-tabled, left-there, new, found, is))
+
+-- ---- what these answers mean, where the finder finds a sheet's nearest words
+
+-- r tells whether w is its own nearest word
+pub record OwnNearest (finder : List ℕ) (w : ℕ) (r : Bool) : Type 0 where
+  pub stays : r ≡ true → (sheet : List ℕ) → Finds sheet finder → w < 2 ^ degree sheet
+      → nearestWord (rowOf sheet) (rowCount sheet) (degree sheet) w ≡ w
+  pub changes : r ≡ false → (sheet : List ℕ) → Finds sheet finder → w < 2 ^ degree sheet
+      → nearestWord (rowOf sheet) (rowCount sheet) (degree sheet) w ≡ w → ⊥
+
+-- r is the nearest word of w, and what finds before finds after
+pub record Found (before : List ℕ) (w r : ℕ) (after : List ℕ) : Type 0 where
+  pub nearest : (sheet : List ℕ) → Finds sheet before → w < 2 ^ degree sheet
+      → r ≡ nearestWord (rowOf sheet) (rowCount sheet) (degree sheet) w
+  pub finds : (sheet : List ℕ) → Finds sheet before → Finds sheet after
+
+pub own-means : (finder : List ℕ) (w : ℕ) {r : Bool} → r ≡ ownNearest finder w → OwnNearest finder w r
+own-means finder w {r} e =
+    elim (ℕ-discrete (kindIn finder) 1) [
+      | yes kind ↦
+          let same : r ≡ eqb (tableIn finder (w % 256)) w = e ∙ sym (own-table finder w kind) in
+          record {
+            stays = λ t sheet f w-lt. sym (table-nearest f w w-lt kind) ∙ eqb-true _ _ (sym same ∙ t);
+            changes = λ t sheet f w-lt fixed. eqb-false _ _ (sym same ∙ t) (table-nearest f w w-lt kind ∙ fixed);
+          }
+      | no kind ↦
+          let same : r ≡ eqb (leftIn finder w) 0 = e ∙ sym (own-left finder w (leftIn finder w) kind refl) in
+          record {
+            stays = λ t sheet f w-lt. left-none f kind w (eqb-true (leftIn finder w) 0 (sym same ∙ t));
+            changes = λ t sheet f w-lt. left-some f kind w w-lt (eqb-false (leftIn finder w) 0 (sym same ∙ t));
+          }
+    ]
+
+pub found-means : (finder : List ℕ) (w : ℕ) {r : ℕ} {after : List ℕ} → r ≡ foundWord finder w → after ≡ foundFinder finder w
+    → Found finder w r after
+found-means finder w {r} {after} word-is after-is =
+    elim (ℕ-discrete (kindIn finder) 1) [
+      | yes kind ↦
+          same (found-table finder w kind) (record { nearest = λ sheet f w-lt. table-nearest f w w-lt kind; finds = λ sheet f. f })
+      | no kind ↦ untabled kind
+    ]
+  where
+    same : {x : ℕ} {l : List ℕ} → (x ≡ foundWord finder w) × (l ≡ foundFinder finder w) → Found finder w x l → Found finder w r after
+    same e m = rw (word-is ∙ sym (e .0), after-is ∙ sym (e .1)) m
+
+    left : ℕ
+    left = leftIn finder w
+
+    untabled : (kindIn finder ≡ 1 → ⊥) → Found finder w r after
+    untabled kind =
+        elim (ℕ-discrete left 0) [
+          | yes none ↦
+              same (found-codeword finder w left kind refl none)
+              (record { nearest = λ sheet f w-lt. sym (left-none f kind w none); finds = λ sheet f. f })
+          | no some ↦
+              elim (ℕ-discrete (nameIn finder (left % 512)) left) [
+                | yes met ↦
+                    same (found-leader finder w left kind refl some met)
+                    (record { nearest = λ sheet f w-lt. leader-met f kind w w-lt (left % 512) left (omega arith) refl some met; finds = λ sheet f. f })
+                | no missed ↦
+                    same (found-searched finder w left kind refl some missed (searchedIn finder w) refl)
+                    (record {
+                      nearest = λ sheet f w-lt. search-told (search-sized f kind) ∙ search-nearest f kind w w-lt;
+                      finds = λ sheet f. leader-more f kind w (left % 512) left _ (omega arith) refl (search-told (search-sized f kind));
+                    })
+              ]
+        ]
+      where
+        search-told : listedIn finder ≤ 2048 → searchedIn finder w ≡ searched (wordIn finder) (listedIn finder) w
+        search-told few = search-few finder w few
 
 -- ---- a finder set up
 
@@ -363,3 +455,23 @@ finds-searching sheet k count rows {a = a} {basis = basis} {after = after} zeros
         ∙ words-in .inside m (omega (arith, lists-fits (rowOf sheet) k lists room, lists .room room .0))
         ∙ lists-word (rowOf sheet) k lists room m below
         ∙ ap (λ (i : ℕ). combination (rowOf sheet) i m) rows-all
+
+-- what `prepare_finder` leaves of a finder of zeros
+pub prepared-finds : (sheet : List ℕ) (k : ℕ) {basis before after : List ℕ} → Prepared sheet k basis before after → before ≡ replicate 3360 0
+    → sheetCheck sheet ≡ done [] → k ≡ rowCount sheet → basis ≡ withEchelon (rowOf sheet) (rowCount sheet) (replicate 11 0) → Finds sheet after
+prepared-finds sheet k {before = before} p zeros accepted k-is stored =
+    ⊎-elim
+    (λ (t : (sheet ≡ houseSheet) × ByTable before _). finds-tabled sheet before (t .0) (t .1 .house) sized-house (t .1 .placed) accepted)
+    (λ (t : (sheet ≡ houseSheet → ⊥) × ByCodewords sheet k _ before _).
+      let by = t .1 in
+      finds-searching sheet k (by .count) (min k 11) zeros (by .lists) sized-words (by .listed) refl (by .placed) accepted k-is stored)
+    p
+  where
+    sized : length before ≡ 3360
+    sized = ap length zeros ∙ length-replicate {A = ℕ} 3360 0
+
+    sized-house : length (set before 0 1) ≡ 3360
+    sized-house = length-set before 0 1 ∙ sized
+
+    sized-words : 2048 ≤ length (drop 1312 before)
+    sized-words = omega (arith, length-drop 1312 before, sized)

@@ -12,19 +12,29 @@
 --   Tabled sheet finder       the table has the sheet's nearest words
 --   Searching sheet finder    rows, basis, codewords and leaders are the sheet's
 --   Finds sheet finder        the sheet is accepted, and the finder finds its nearest words
---   Prepares sheet k basis before after    a finder of zeros, set up from a sheet, its k and its basis, finds the sheet's nearest words
---   OwnNearest finder w r     r tells whether w is its own nearest word
---   Found before w r after    r is the nearest word of w, and what finds before finds after
 --   Placed start part before after    the list `after` is `before` with `part` in it from the place `start` on
-use Prim.Native.Nat.{ℕ, _+_, _*_, _^_, _≤_, _<_}
-use mathlib.Core.Bool.{Bool, true, false}
+-- What the functions over a finder answer and leave, whatever stands in it:
+--   ByTable before after      the finder is set up with the house code's table of nearest words
+--   ByCodewords sheet k basis before after    it is set up with the codewords, as many rows as count, and the basis
+--   Prepared sheet k basis before after    the first for the house code's sheet, the second for any other
+--   leftIn finder w           what the rows leave of w
+--   ownNearest finder w       the test whether w is its own nearest word: the table's entry is w, or the rows leave nothing
+--   searchedIn finder w       the nearest of the listed codewords; w itself where more are told than fit
+--   foundWord finder w        the word found: the table's, w itself, w with the leader kept for it, or the one searched for
+--   foundFinder finder w      the finder afterwards: with one more leader where one was searched for
+use Prim.Native.Nat.{ℕ, _+_, _*_, _%_, _^_, _≤_, _<_, min}
+use mathlib.Core.Bool.{Bool, cond}
 use mathlib.Core.List.{List, []}
+use mathlib.Core.Logic.{_⊎_}
 use mathlib.Core.Path.{_≡_}
-use lib.ListN.{length, getD, replicate}
+use lib.Bits.{bitXor}
+use lib.Dec.{eqb, leb}
+use lib.ListN.{length, getD, set, drop}
 use Rattle.inner_code.specs.Reply.{done}
 use Rattle.inner_code.specs.Code.{combination, nearestPattern, nearestWord}
-use Rattle.inner_code.specs.Reduction.{reduced, echelon, withEchelon}
+use Rattle.inner_code.specs.Reduction.{reduced, echelon, reducedBy, searched, Lists}
 use Rattle.inner_code.specs.Sheet.{degree, rowCount, rowOf, sheetCheck}
+use Rattle.inner_code.specs.House.{houseSheet, HouseTable}
 
 abbrev pub kindIn : List ℕ → ℕ
 kindIn finder = getD finder 0 0
@@ -69,23 +79,52 @@ pub record Finds (sheet finder : List ℕ) : Type 0 where
   pub tabled : kindIn finder ≡ 1 → Tabled sheet finder
   pub searching : (kindIn finder ≡ 1 → ⊥) → Searching sheet finder
 
-pub record Prepares (sheet : List ℕ) (k : ℕ) (basis before after : List ℕ) : Type 0 where
-  pub finds : before ≡ replicate 3360 0 → sheetCheck sheet ≡ done [] → k ≡ rowCount sheet
-      → basis ≡ withEchelon (rowOf sheet) (rowCount sheet) (replicate 11 0) → Finds sheet after
-
-pub record OwnNearest (finder : List ℕ) (w : ℕ) (r : Bool) : Type 0 where
-  pub stays : r ≡ true → (sheet : List ℕ) → Finds sheet finder → w < 2 ^ degree sheet
-      → nearestWord (rowOf sheet) (rowCount sheet) (degree sheet) w ≡ w
-  pub changes : r ≡ false → (sheet : List ℕ) → Finds sheet finder → w < 2 ^ degree sheet
-      → nearestWord (rowOf sheet) (rowCount sheet) (degree sheet) w ≡ w → ⊥
-
-pub record Found (before : List ℕ) (w r : ℕ) (after : List ℕ) : Type 0 where
-  pub nearest : (sheet : List ℕ) → Finds sheet before → w < 2 ^ degree sheet
-      → r ≡ nearestWord (rowOf sheet) (rowCount sheet) (degree sheet) w
-  pub finds : (sheet : List ℕ) → Finds sheet before → Finds sheet after
-
 pub record Placed (start : ℕ) (part before after : List ℕ) : Type 0 where
   pub sized : length after ≡ length before
   pub inside : (i : ℕ) → i < length part → getD after (start + i) 0 ≡ getD part i 0
   pub ahead : (i : ℕ) → i < start → getD after i 0 ≡ getD before i 0
   pub behind : (i : ℕ) → start + length part ≤ i → getD after i 0 ≡ getD before i 0
+
+pub record ByTable (before after : List ℕ) : Type 0 where
+  pub table : List ℕ
+  pub house : HouseTable table
+  pub placed : Placed 32 table (set before 0 1) after
+
+pub record ByCodewords (sheet : List ℕ) (k : ℕ) (basis before after : List ℕ) : Type 0 where
+  pub count : ℕ
+  pub words : List ℕ
+  pub listing : List ℕ
+  pub lists : Lists (rowOf sheet) k (drop 1312 before) count words
+  pub listed : Placed 1312 words before listing
+  pub placed : Placed 16 basis (set (set listing 1 (min k 11)) 2 count) after
+
+abbrev pub Prepared : List ℕ → ℕ → List ℕ → List ℕ → List ℕ → Type 0
+Prepared sheet k basis before after =
+    ((sheet ≡ houseSheet) × ByTable before after) ⊎ ((sheet ≡ houseSheet → ⊥) × ByCodewords sheet k basis before after)
+
+abbrev pub leftIn : List ℕ → ℕ → ℕ
+leftIn finder w = reducedBy (basisIn finder) (min (rowsIn finder) 11) w
+
+unfoldable pub ownNearest : List ℕ → ℕ → Bool
+unfolding basisIn reducedBy
+ownNearest finder w = cond (eqb (kindIn finder) 1) (eqb (tableIn finder (w % 256)) w) (eqb (leftIn finder w) 0)
+
+unfoldable pub searchedIn : List ℕ → ℕ → ℕ
+unfolding searched wordIn
+searchedIn finder w = cond (leb (listedIn finder) 2048) (searched (wordIn finder) (listedIn finder) w) w
+
+unfoldable pub foundWord : List ℕ → ℕ → ℕ
+unfolding searchedIn basisIn reducedBy
+foundWord finder w =
+    cond (eqb (kindIn finder) 1) (tableIn finder (w % 256))
+    (cond (eqb (leftIn finder w) 0) w
+    (cond (eqb (nameIn finder (leftIn finder w % 512)) (leftIn finder w)) (bitXor w (leaderIn finder (leftIn finder w % 512)))
+    (searchedIn finder w)))
+
+unfoldable pub foundFinder : List ℕ → ℕ → List ℕ
+unfolding searchedIn basisIn reducedBy
+foundFinder finder w =
+    cond (eqb (kindIn finder) 1) finder
+    (cond (eqb (leftIn finder w) 0) finder
+    (cond (eqb (nameIn finder (leftIn finder w % 512)) (leftIn finder w)) finder
+    (set (set finder (288 + 2 * (leftIn finder w % 512)) (leftIn finder w)) (288 + 2 * (leftIn finder w % 512) + 1) (bitXor w (searchedIn finder w)))))

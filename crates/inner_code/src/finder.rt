@@ -4,13 +4,12 @@ use crate::codewords::MAX_CODEWORDS;
 use crate::codewords::list_codewords;
 use crate::house::HouseCode;
 use crate::nearest::nearest_listed;
-ghost use mathlib.Core.Bool.{true};
+ghost use mathlib.Core.Bool.{true, false};
 ghost use mathlib.Core.Path.{_≡_};
 ghost use Prim.Native.Nat.{_+_, _≤_, min};
 ghost use lib.ListN.{length};
 ghost use Rattle.inner_code.specs.House.{houseSheet};
-ghost use Rattle.inner_code.specs.Reduction.{reducedBy, searched};
-ghost use Rattle.inner_code.specs.Finding.{rowsIn, listedIn, basisIn, wordIn, Prepares, OwnNearest, Found, Placed};
+ghost use Rattle.inner_code.specs.Finding.{Placed, Prepared, leftIn, ownNearest, searchedIn, foundWord, foundFinder};
 
 // How many numbers of 16 bits a finder has. Its large parts begin at multiples of 32 numbers, which fill a cache line.
 pub const FINDER_WORDS: usize = 3360;
@@ -41,7 +40,7 @@ const WORDS: usize = 1312;
 // Sets a finder of zeros up for an accepted sheet, its k and its echelon form, as `check_sheet` gives them: with the table of nearest words
 // for the house code's sheet, with the codewords of any other. No leader is kept yet: their names stay 0.
 pub fn prepare_finder(sheet: &[u8], k: usize, basis: &[u16; 11], finder: &mut [u16; FINDER_WORDS])
-    ensures { λ _. ⌜ Prepares (now (sheet .entry)) k (now (basis .entry)) (now (finder .entry)) (now (finder .exit)) ⌝ }
+    ensures { λ _. ⌜ Prepared (now (sheet .entry)) k (now (basis .entry)) (now (finder .entry)) (now (finder .exit)) ⌝ }
 {
     if is_house(sheet) {
         let table = HouseCode::nearest_words();
@@ -58,7 +57,7 @@ pub fn prepare_finder(sheet: &[u8], k: usize, basis: &[u16; 11], finder: &mut [u
 
 // Whether a word is its own nearest word, which no search is needed for.
 pub fn is_own_nearest(finder: &[u16; FINDER_WORDS], word: u16) -> bool
-    ensures { λ r. ⌜ OwnNearest (now (finder .entry)) word r ⌝ }
+    ensures { λ r. ⌜ r ≡ ownNearest (now (finder .entry)) word ⌝ }
 {
     if finder[KIND] == TABLED {
         return finder[TABLE + (word % 256) as usize] == word;
@@ -69,7 +68,8 @@ pub fn is_own_nearest(finder: &[u16; FINDER_WORDS], word: u16) -> bool
 // The nearest word of a word: the table's, the word itself where the rows leave nothing of it, and else the nearest of the codewords. What the
 // rows leave of a word names its coset: the leader found for a coset is kept beside that name, so that most cosets are searched once.
 pub fn find_nearest(finder: &mut [u16; FINDER_WORDS], word: u16) -> u16
-    ensures { λ r. ⌜ Found (now (finder .entry)) word r (now (finder .exit)) ⌝ }
+    ensures { λ r. ⌜ r ≡ foundWord (now (finder .entry)) word ⌝ }
+    ensures { λ _. ⌜ now (finder .exit) ≡ foundFinder (now (finder .entry)) word ⌝ }
 {
     if finder[KIND] == TABLED {
         return finder[TABLE + (word % 256) as usize];
@@ -90,7 +90,7 @@ pub fn find_nearest(finder: &mut [u16; FINDER_WORDS], word: u16) -> u16
 
 // What the rows leave of a word.
 fn left_of(finder: &[u16; FINDER_WORDS], word: u16) -> u16
-    ensures { λ r. ⌜ r ≡ reducedBy (basisIn (now (finder .entry))) (min (rowsIn (now (finder .entry))) 11) word ⌝ }
+    ensures { λ r. ⌜ r ≡ leftIn (now (finder .entry)) word ⌝ }
 {
     let rows = at_most_eleven(widened(finder[ROWS]));
     let mut left = word;
@@ -107,7 +107,7 @@ fn left_of(finder: &[u16; FINDER_WORDS], word: u16) -> u16
 
 // The nearest to a word of the codewords that are listed.
 fn search(finder: &[u16; FINDER_WORDS], word: u16) -> u16
-    ensures { λ r. ⌜ (listedIn (now (finder .entry)) ≤ 2048 → r ≡ searched (wordIn (now (finder .entry))) (listedIn (now (finder .entry))) word) ⌝ }
+    ensures { λ r. ⌜ r ≡ searchedIn (now (finder .entry)) word ⌝ }
 {
     let count = widened(finder[LISTED]);
     if count > MAX_CODEWORDS {
@@ -138,6 +138,7 @@ fn at_most_eleven(rows: usize) -> usize
 // Whether a sheet is the house code's.
 fn is_house(sheet: &[u8]) -> bool
     ensures { λ r. ⌜ (r ≡ true → now (sheet .entry) ≡ houseSheet) ⌝ }
+    ensures { λ r. ⌜ (r ≡ false → now (sheet .entry) ≡ houseSheet → ⊥) ⌝ }
 {
     if sheet.len() != 10 {
         return false;

@@ -8,6 +8,7 @@ use borrow.Author.Needs.{needs}
 use denote.Ref.{now}
 use Rattle.inner_code.specs.Reply.{Reply, done, refused}
 use Rattle.inner_code.proofs.SheetChecks.{sound-accepted}
+use Rattle.inner_code.proofs.Finding.{prepared-finds}
 use Rattle.wiring.specs.Plan.{Plan, planOf, edgeCount}
 use Rattle.wiring.specs.Block.{blockCheck}
 use Rattle.wiring.specs.Checking.{checkReply}
@@ -103,7 +104,7 @@ decode-copy-requires c κs =
     let passed = fitting (prepared .before .before .before .before) in
     let p = plan (ready passed) in
     let pass = block passed in (
-      prepared .prepare-finder .ensures .finds refl (sound-accepted _ (p .sheet-sound)) (p .k-is) (p .basis-is),
+      prepared-finds _ _ (prepared .prepare-finder .ensures) refl (sound-accepted _ (p .sheet-sound)) (p .k-is) (p .basis-is),
       check-passed _ _ _ _ (p .plan-done) pass (omega (arith, block-sized _ _ pass)) (omega arith),
     )
 

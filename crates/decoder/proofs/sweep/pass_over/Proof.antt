@@ -5,6 +5,7 @@ use native.Mathlib.Omega.{arith}
 use borrow.Author.Needs.{needs}
 use borrow.Author.Tests.{not-true, not-false}
 use Rattle.inner_code.specs.Sheet.{degree}
+use Rattle.inner_code.proofs.Finding.{own-means}
 use Rattle.wiring.specs.Plan.{planOf, sideOf}
 use Rattle.decoder.proofs.Visiting.{Passing, passing-none, passing-more, passed-end, passed-stop, word-stays, word-moves, ready-sheet}
 use Rattle.decoder.proofs.sweep.pass_over.Statement.{statement}
@@ -40,8 +41,8 @@ returns c =
     let head = c .before .before .before .before in
     let args = start (head .before) in
     passed-stop (head .loop .inv)
-    (word-moves (args .pre .1) (args .args .side) _ (omega arith) refl (c .before .before .read-word .ensures) (c .before .is-own-nearest .ensures)
-    (not-true _ (c .if1 .taken)))
+    (word-moves (args .pre .1) (args .args .side) _ (omega arith) refl (c .before .before .read-word .ensures)
+    (own-means _ _ (c .before .is-own-nearest .ensures)) (not-true _ (c .if1 .taken)))
 
 add-v : tie.Need-add-v Inv-loop μ-loop
 add-v c = search needs
@@ -55,8 +56,8 @@ loop-again c =
     let head = c .before .before .before .before in
     let args = start (head .before) in
     passing-more (head .loop .inv) (omega arith)
-    (word-stays (args .pre .1) (args .args .side) _ (omega arith) refl (c .before .before .read-word .ensures) (c .before .is-own-nearest .ensures)
-    (not-false _ (c .if1 .left)))
+    (word-stays (args .pre .1) (args .args .side) _ (omega arith) refl (c .before .before .read-word .ensures)
+    (own-means _ _ (c .before .is-own-nearest .ensures)) (not-false _ (c .if1 .left)))
 
 returns-2 : tie.Need-returns-2 Inv-loop μ-loop
 returns-2 c = passed-end (c .before .loop .inv) (omega arith)

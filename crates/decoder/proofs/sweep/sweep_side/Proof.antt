@@ -6,6 +6,7 @@ use native.Mathlib.Omega.{arith}
 use borrow.Author.Needs.{needs}
 use denote.Ref.{now}
 use Rattle.inner_code.specs.Sheet.{degree}
+use Rattle.inner_code.proofs.Finding.{found-means}
 use Rattle.wiring.specs.Plan.{Plan, planOf, sideOf}
 use Rattle.decoder.specs.Visiting.{Ready}
 use Rattle.decoder.proofs.Visiting.{Visits, visits-none, visits-le, visits-changed, visits-passed, visits-sweep, visits-length}
@@ -93,12 +94,13 @@ loop-again c =
     let first = start (head (stop c) .before) in
     let turn = head (stop c) .loop in
     let name = first .args .side in
-    let ready = turn .inv .2 in (
+    let ready = turn .inv .2 in
+    let means = found-means _ _ (found .find-nearest .ensures .0) (found .find-nearest .ensures .1) in (
       omega (arith, below),
       visits-changed (ready-whole ready name) below (passed (stop c)) (stop c .pass-over .ensures .stops below)
-          (word-found ready name (turn .block) below refl (found .before .before .read-word .ensures) (found .find-nearest .ensures))
+          (word-found ready name (turn .block) below refl (found .before .before .read-word .ensures) means)
           (word-put ready name (turn .block) (found .find-nearest .result) below refl (c .before .before .write-word .ensures)),
-      record { plan-done = ready .plan-done; finds = found .find-nearest .ensures .finds _ (ready .finds) },
+      record { plan-done = ready .plan-done; finds = means .finds _ (ready .finds) },
     )
 
 loop-less-2 : tie.Need-loop-less-2 Inv-loop μ-loop

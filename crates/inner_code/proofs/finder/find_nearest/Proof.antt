@@ -97,7 +97,7 @@ returns-4 c =
     let args = start reduced .args in
     let other = reduced .before .before .if1 .left in
     found-searched (now (args .finder)) (args .word) (reduced .left-of .result) other (reduced .left-of .ensures)
-    (c .before .before .before .before .if2 .left) (c .search .result) (c .search .ensures)
+    (c .before .before .before .before .if2 .left) (c .before .before .if3 .left) (c .search .result) (c .search .ensures)
 
 pub find-nearest-spec : {M : Type 1} → statement M
 find-nearest-spec =

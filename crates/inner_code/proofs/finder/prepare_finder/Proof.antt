@@ -1,15 +1,16 @@
 -- `inner_code::prepare_finder` meets its contract: the table is put in for the house code's sheet, and for any other the parts of a search.
 use mathlib.Core.Path.{_≡_, _∙_}
 use mathlib.Core.List.{List, _++_}
+use mathlib.Core.Logic.{inl, inr}
 use Prim.Native.Nat.{ℕ, _-_, _≤_}
 use native.Mathlib.Omega.{arith}
 use borrow.Author.Needs.{needs}
 use denote.Ref.{now}
 use lib.ListN.{length, set, take, drop, length-set, length-drop}
-use lib.Seq.{length-take-le}
+use lib.Seq.{take-all, length-take-le}
 use Rattle.inner_code.specs.Finding.{Placed}
 use Rattle.inner_code.proofs.Listings.{lists-few}
-use Rattle.inner_code.proofs.Finding.{placed-back, finds-tabled, finds-searching}
+use Rattle.inner_code.proofs.Finding.{placed-back}
 use Rattle.inner_code.proofs.finder.prepare_finder.Statement.{statement}
 use Rattle.inner_code.proofs.finder.prepare_finder.Tie as tie
 
@@ -33,14 +34,11 @@ abbrev asked : tie.After-is-house → tie.Start
 asked c = c .before .before
 
 returns : tie.Need-returns
-returns c = record {
-  finds = λ zeros accepted k-is stored.
-      let named = c .before .before .before in
-      let housed = named .before .before in
-      let args = asked housed .args in
-      finds-tabled (now (args .sheet)) (now (args .finder)) (housed .is-house .ensures (named .before .if1 .taken)) (named .nearest-words .ensures)
-      (omega arith) (c .place-bytes .ensures) accepted;
-}
+returns c =
+    let named = c .before .before .before in
+    let housed = named .before .before in
+    inl (housed .is-house .ensures .0 (named .before .if1 .taken),
+      record { table = _; house = named .nearest-words .ensures; placed = c .place-bytes .ensures })
 
 sub-list-codewords : tie.Need-sub-list-codewords
 sub-list-codewords c = search needs
@@ -62,6 +60,9 @@ start c = asked (c .before .before .before .before)
 -- the finder's last part has room for every code
 part-sized : (finder : List ℕ) → length finder ≡ 3360 → length (take (length finder - 1312) (drop 1312 finder)) ≡ 2048
 part-sized finder size = omega (arith, length-take-le (length finder - 1312) (drop 1312 finder) (omega (arith, length-drop 1312 finder)))
+
+part-whole : (finder : List ℕ) → take (length finder - 1312) (drop 1312 finder) ≡ drop 1312 finder
+part-whole finder = take-all (length finder - 1312) (drop 1312 finder) (omega (arith, length-drop 1312 finder))
 
 few : (c : tie.After-list-codewords) → c .list-codewords .result ≤ 2048
 few c = lists-few _ _ (c .list-codewords .ensures) (omega (arith, part-sized (now (start c .args .finder)) (omega arith)))
@@ -104,15 +105,19 @@ place-requires c κs =
     omega (arith, sized listing rows, length-set (set (back listing) 1 rows) 2 (listing .list-codewords .result))
 
 returns-2 : tie.Need-returns-2
-returns-2 c = record {
-  finds = λ zeros accepted k-is stored.
-      let counted = c .before .before in
-      let words = counted .before .before .before in
-      let args = start words .args in
-      finds-searching (now (args .sheet)) (args .k) (words .list-codewords .result) (counted .at-most-eleven .result) zeros
-      (words .list-codewords .ensures) (omega (arith, part-sized (now (args .finder)) (omega arith))) (placed words)
-      (counted .at-most-eleven .ensures) (c .place .ensures) accepted k-is stored;
-}
+returns-2 c =
+    let counted = c .before .before in
+    let words = counted .before .before .before in
+    let other = words .before .before .before in
+    inr (other .before .is-house .ensures .1 (other .if1 .left),
+      record {
+        count = words .list-codewords .result;
+        words = words .list-codewords .last .1 .1 .0;
+        listing = back words;
+        lists = rw (part-whole (now (start words .args .finder))) at (words .list-codewords .ensures);
+        listed = placed words;
+        placed = rw (counted .at-most-eleven .ensures) at (c .place .ensures);
+      })
 
 pub prepare-finder-spec : {M : Type 1} → statement M
 prepare-finder-spec =

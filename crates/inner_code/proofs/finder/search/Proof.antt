@@ -1,10 +1,10 @@
 -- `inner_code::search` meets its contract: the part that is lent on holds the listed codewords.
-use mathlib.Core.Path.{_∙_}
+use mathlib.Core.Path.{sym, _∙_}
 use Prim.Native.Nat.{_+_, _-_}
 use borrow.Author.Needs.{needs}
 use native.Mathlib.Omega.{arith}
 use denote.Ref.{now}
-use Rattle.inner_code.proofs.Finding.{search-part}
+use Rattle.inner_code.proofs.Finding.{search-part, search-few, search-many}
 use Rattle.inner_code.proofs.finder.search.Statement.{statement}
 use Rattle.inner_code.proofs.finder.search.Tie as tie
 
@@ -15,7 +15,7 @@ widened-requires : tie.Need-widened-requires
 widened-requires c κs = search needs
 
 returns : tie.Need-returns
-returns c = search needs
+returns c = sym (search-many (now (c .before .before .before .args .finder)) _ (omega arith))
 
 add-end : tie.Need-add-end
 add-end c = search needs
@@ -33,11 +33,12 @@ nearest-listed-requires : tie.Need-nearest-listed-requires
 nearest-listed-requires c κs = search needs
 
 returns-2 : tie.Need-returns-2
-returns-2 c = λ few.
+returns-2 c =
     let counted = c .before .before .before .before in
     let start = counted .before .before in
     c .nearest-listed .ensures
     ∙ search-part (now (start .args .finder)) _ (1312 + counted .widened .result - 1312) (start .args .word) (omega arith) (omega arith)
+    ∙ sym (search-few (now (start .args .finder)) (start .args .word) (omega arith))
 
 pub search-spec : {M : Type 1} → statement M
 search-spec =
