@@ -1,22 +1,32 @@
 -- The ends of all edges, noted entry by entry.
 --   Noted edge d m lefts rights  the left vertex of the edge at each of the first m entries, and the right vertex of each of their edges
 --                                (specs Ends)
+--   EndsNoted, endsFit, endsRead, leftEnds, rightEnds, notedLefts, notedRights  how the code notes them, of any wiring (specs Ends)
 --   Wired d n wiring             an accepted wiring (specs Checking)
 --   Whole N side, vertexOf       a side whose entries are all bits (Permutation), and the vertex that has a bit (Edges)
--- Laws are named by their subject, then by the fact: `at-set-` is about a list after a store, `noted-` about the lists of vertices.
--- `-none` and `-one-more` are the start of the loop and one turn of it.
+-- and here
+--   Fitting d n wiring a b       what the tests of endsFit say
+--   AllNoted d n wiring lefts rights lefts' rights'  what the code says of the lists before and after it
+-- Laws are named by their subject, then by the fact: `at-set-` is about a list after a store, `fitting-` about the tests, `read-` about
+-- the entries that are read, `lefts-` and `rights-` about each list, `noted-` about both. `-none` and `-one-more` are the start of the
+-- loop and one turn of it, `-unfit`, `-stopped` and `-last` its ends: before it, at an entry that names no edge, and after all entries.
 use Prim.Native.Nat.{ℕ, _+_, _*_, _/_, _≤_, _<_}
+use mathlib.Core.Bool.{Bool, true, false}
 use mathlib.Core.List.{List}
 use mathlib.Core.Path.{_≡_, refl, sym, ap, _∙_}
 use native.Mathlib.Nat.{div-lt-iff-lt-mul}
 use native.Mathlib.Decide.{ℕ-discrete}
+use native.Mathlib.Numerals.{add-one}
 use native.Mathlib.Omega.{arith}
+use borrow.Author.Tests.{le-leb, leb-true, lt-ltb, le-ltb}
 use lib.ListN.{length, set}
 use lib.Seq.{getD-set-same, getD-set-other}
 use Rattle.bits.specs.Window.{at}
+use Rattle.bits.proofs.Tests.{and-both}
+use Rattle.bits.proofs.Searches.{first-at, first-all}
 use Rattle.wiring.specs.Plan.{Side, edgeOf}
 use Rattle.wiring.specs.Checking.{Wired}
-use Rattle.wiring.specs.Ends.{Noted}
+use Rattle.wiring.specs.Ends.{Noted, EndsNoted, endsFit, endsRead, leftEnds, rightEnds, notedLefts, notedRights}
 use Rattle.wiring.proofs.Permutation.{Whole, place-lt, bit-place}
 use Rattle.wiring.proofs.Edges.{vertexOf, vertex-of-lt}
 
@@ -65,3 +75,117 @@ noted-ends {d} {n} {wiring} w r i l =
     let side : Side = record { n = n; d = d; k = 0; row = λ v. 0; bit = edgeOf wiring } in
     let whole : Whole (n * d) side = record { degree-pos = w .d-low; entries = refl; bit-lt = w .edge-lt; bit-once = w .edge-once } in
     (rw (r .left-is i l) (div-lt-iff-lt-mul (w .d-low) .1 (w .edge-lt i l)), rw (noted-right whole r i l) (vertex-of-lt whole i l))
+
+-- ---- the tests before the loop
+
+pub record Fitting (d n : ℕ) (wiring : List ℕ) (a b : ℕ) : Type 0 where
+  pub d-low : 1 ≤ d
+  pub d-high : d ≤ 16
+  pub n-high : n ≤ 2048
+  pub sized : 2 * (n * d) ≤ length wiring
+  pub room : n * d ≤ a
+  pub room-right : n * d ≤ b
+
+fitting-true : {d n : ℕ} {wiring : List ℕ} {a b : ℕ} → Fitting d n wiring a b → endsFit d n wiring a b ≡ true
+unfolding endsFit
+fitting-true f =
+    rw (le-leb _ _ (f .d-low), le-leb _ _ (f .d-high), le-leb _ _ (f .n-high), le-leb _ _ (f .sized), le-leb _ _ (f .room))
+    (le-leb _ _ (f .room-right))
+
+fitting-each : (d n : ℕ) (wiring : List ℕ) (a b : ℕ) → endsFit d n wiring a b ≡ true → Fitting d n wiring a b
+unfolding endsFit
+fitting-each d n wiring a b e =
+    let (one, e₁) = and-both _ _ e in
+    let (two, e₂) = and-both _ _ e₁ in
+    let (three, e₃) = and-both _ _ e₂ in
+    let (four, e₄) = and-both _ _ e₃ in
+    let (five, six) = and-both _ _ e₄ in
+    record {
+      d-low = leb-true _ _ one;
+      d-high = leb-true _ _ two;
+      n-high = leb-true _ _ three;
+      sized = leb-true _ _ four;
+      room = leb-true _ _ five;
+      room-right = leb-true _ _ six;
+    }
+
+fitting-not : (d n : ℕ) (wiring : List ℕ) (a b : ℕ) → (Fitting d n wiring a b → ⊥) → endsFit d n wiring a b ≡ false
+fitting-not d n wiring a b h = go (endsFit d n wiring a b) refl
+  where
+    go : (t : Bool) → endsFit d n wiring a b ≡ t → endsFit d n wiring a b ≡ false
+    go true e = absurd (h (fitting-each d n wiring a b e))
+    go false e = e
+
+-- ---- each list, entry by entry
+
+pub lefts-none : (edge : ℕ → ℕ) (d : ℕ) (lefts : List ℕ) → lefts ≡ leftEnds edge d 0 lefts
+unfolding leftEnds
+lefts-none edge d lefts = refl
+
+pub rights-none : (edge : ℕ → ℕ) (d : ℕ) (rights : List ℕ) → rights ≡ rightEnds edge d 0 rights
+unfolding rightEnds
+rights-none edge d rights = refl
+
+pub lefts-one-more : (edge : ℕ → ℕ) (d i e : ℕ) (lefts now-lefts : List ℕ) → e ≡ edge i → now-lefts ≡ leftEnds edge d i lefts
+    → set now-lefts i (e / d) ≡ leftEnds edge d (i + 1) lefts
+unfolding leftEnds
+lefts-one-more edge d i e lefts now-lefts same r = rw (add-one, same, r)
+
+pub rights-one-more : (edge : ℕ → ℕ) (d i e : ℕ) (rights now-rights : List ℕ) → e ≡ edge i → now-rights ≡ rightEnds edge d i rights
+    → set now-rights e (i / d) ≡ rightEnds edge d (i + 1) rights
+unfolding rightEnds
+rights-one-more edge d i e rights now-rights same r = rw (add-one, same, r)
+
+-- ---- the entries that are read
+
+pub read-one-more : (edge : ℕ → ℕ) (N i e : ℕ) → e ≡ edge i → e < N → ((j : ℕ) → j < i → edge j < N) → (j : ℕ) → j < i + 1 → edge j < N
+read-one-more edge N i e same below before j l =
+    elim (ℕ-discrete j i) [
+      | yes q ↦ rw (q, sym same) below
+      | no h ↦ before j (omega arith)
+    ]
+
+pub read-stopped : (edge : ℕ → ℕ) (N i e : ℕ) → i < N → ((j : ℕ) → j < i → edge j < N) → e ≡ edge i → N ≤ e → endsRead edge N ≡ i
+unfolding endsRead
+read-stopped edge N i e l before same high =
+    first-at N _ i l (λ j b. lt-ltb _ _ (before j b)) (le-ltb (edge i) N (omega arith))
+
+pub read-last : (edge : ℕ → ℕ) (N i : ℕ) → i ≡ N → ((j : ℕ) → j < i → edge j < N) → endsRead edge N ≡ i
+unfolding endsRead
+read-last edge N i end before = rw end (first-all N _ (λ j b. lt-ltb _ _ (before j (omega arith))))
+
+-- ---- both lists
+
+abbrev pub AllNoted : ℕ → ℕ → List ℕ → List ℕ → List ℕ → List ℕ → List ℕ → Type 0
+AllNoted d n wiring lefts rights lefts' rights' =
+    EndsNoted d n wiring lefts rights lefts' rights'
+    × ((lefts' ≡ notedLefts d n wiring lefts (length rights)) × (rights' ≡ notedRights d n wiring (length lefts) rights))
+
+-- where a test fails nothing is noted, and the wiring is not accepted or a list is too short
+pub noted-unfit : (d n : ℕ) (wiring lefts rights : List ℕ) → (Fitting d n wiring (length lefts) (length rights) → ⊥)
+    → AllNoted d n wiring lefts rights lefts rights
+unfolding notedLefts notedRights
+noted-unfit d n wiring lefts rights h =
+    let e = fitting-not d n wiring _ _ h in (
+      record {
+        noted = λ w room room-right. absurd
+            (h
+            (record {
+              d-low = w .d-low;
+              d-high = w .d-high;
+              n-high = w .n-high;
+              sized = omega (arith, w .sized);
+              room = room;
+              room-right = room-right;
+            }));
+      },
+      (rw e, rw e),
+    )
+
+-- where the tests hold the entries that are read are noted
+pub noted-fitting : (d n : ℕ) (wiring lefts rights : List ℕ) → Fitting d n wiring (length lefts) (length rights)
+    → (i : ℕ) → endsRead (edgeOf wiring) (n * d) ≡ i
+    → (leftEnds (edgeOf wiring) d i lefts ≡ notedLefts d n wiring lefts (length rights))
+    × (rightEnds (edgeOf wiring) d i rights ≡ notedRights d n wiring (length lefts) rights)
+unfolding notedLefts notedRights
+noted-fitting d n wiring lefts rights f i e = (rw (fitting-true f, e), rw (fitting-true f, e))

@@ -2,13 +2,17 @@
 use crate::access::edge_at;
 use crate::plan::MAX_VERTICES;
 use inner_code::MAX_DEGREE;
-ghost use Rattle.wiring.specs.Ends.{EndsNoted};
+ghost use mathlib.Core.Path.{_≡_};
+ghost use lib.ListN.{length};
+ghost use Rattle.wiring.specs.Ends.{EndsNoted, notedLefts, notedRights};
 
 // For each entry its edge's left vertex, and for each edge its right vertex: those of the n * d entries of an accepted wiring. Nothing is
 // written for a d of 0 or above 16, an n above 2,048, or a slice too short for n * d entries, and nothing more from the first entry on
 // that names no edge; an accepted wiring has none.
 pub fn note_ends(wiring: &[u8], n: usize, d: usize, lefts: &mut [u16], rights: &mut [u16])
     ensures { λ _. ⌜ EndsNoted d n (now (wiring .entry)) (now (lefts .entry)) (now (rights .entry)) (now (lefts .exit)) (now (rights .exit)) ⌝ }
+    ensures { λ _. ⌜ now (lefts .exit) ≡ notedLefts d n (now (wiring .entry)) (now (lefts .entry)) (length (now (rights .entry))) ⌝ }
+    ensures { λ _. ⌜ now (rights .exit) ≡ notedRights d n (now (wiring .entry)) (length (now (lefts .entry))) (now (rights .entry)) ⌝ }
 {
     if d < 1 {
         return;

@@ -1,43 +1,57 @@
 -- `wiring::note_ends` meets its contract: after i turns the ends that the first i entries of an accepted wiring name are noted, and since
--- no edge stands twice no later turn writes over one of them. An accepted wiring passes every test on the way.
-use mathlib.Core.Path.{_≡_}
+-- no edge stands twice no later turn writes over one of them. An accepted wiring passes every test on the way. Of any other wiring the
+-- lists are told turn by turn, up to the first entry that names no edge.
+use mathlib.Core.Path.{_≡_, _∙_}
 use Prim.Native.Nat.{ℕ, _*_, _/_, _-_, _≤_, _<_}
 use borrow.Author.Needs.{needs}
 use native.Mathlib.Nat.{div-le-self}
 use native.Mathlib.Omega.{arith}
+use denote.Ref.{now}
 use lib.ListN.{length, length-set}
 use Rattle.wiring.specs.Plan.{edgeOf}
 use Rattle.wiring.specs.Checking.{Wired}
-use Rattle.wiring.specs.Ends.{Noted}
+use Rattle.wiring.specs.Ends.{Noted, endsRead, leftEnds, rightEnds, notedLefts, notedRights}
 use Rattle.wiring.proofs.Permutation.{edges-le}
-use Rattle.wiring.proofs.EdgeEnds.{noted-none, noted-one-more}
+use Rattle.wiring.proofs.EdgeEnds.{Fitting, AllNoted, noted-none, noted-one-more, noted-unfit, noted-fitting}
+use Rattle.wiring.proofs.EdgeEnds.{lefts-none, lefts-one-more, rights-none, rights-one-more, read-one-more, read-stopped, read-last}
 use Rattle.wiring.proofs.ends.note_ends.Statement.{statement}
 use Rattle.wiring.proofs.ends.note_ends.Tie as tie
 
 abbrev Inv-loop : tie.InvT-loop
 Inv-loop wiring n d lefts₀ rights₀ edges i₀ lefts rights i =
     (i ≤ edges) × (length lefts ≡ length lefts₀) × (length rights ≡ length rights₀)
-    × (Wired d n wiring → Noted (edgeOf wiring) d i lefts rights)
+    × (Wired d n wiring → Noted (edgeOf wiring) d i lefts rights) × ((j : ℕ) → j < i → edgeOf wiring j < n * d)
+    × (lefts ≡ leftEnds (edgeOf wiring) d i lefts₀) × (rights ≡ rightEnds (edgeOf wiring) d i rights₀)
 
 abbrev μ-loop : tie.MeasureT-loop
 μ-loop wiring n d lefts₀ rights₀ edges i₀ lefts rights i = edges - i
 
 -- ---- the tests before the loop
 
-returns : tie.Need-returns Inv-loop μ-loop
-returns c = record { noted = λ w room room-right. absurd (omega (arith, w .d-low)) }
-
-returns-2 : tie.Need-returns-2 Inv-loop μ-loop
-returns-2 c = record { noted = λ w room room-right. absurd (omega (arith, w .d-high)) }
-
-returns-3 : tie.Need-returns-3 Inv-loop μ-loop
-returns-3 c = record { noted = λ w room room-right. absurd (omega (arith, w .n-high)) }
-
 abbrev first : tie.Else1 Inv-loop μ-loop → tie.Start Inv-loop μ-loop
 first c = c .before .before .before .before
 
 abbrev start : tie.Else3 Inv-loop μ-loop → tie.Start Inv-loop μ-loop
 start c = first (c .before .before)
+
+abbrev Fits : tie.Start Inv-loop μ-loop → Type 0
+Fits s =
+    Fitting (s .args .d) (s .args .n) (now (s .args .wiring)) (length (now (s .args .lefts))) (length (now (s .args .rights)))
+
+-- where a test fails the lists stay as they are
+unfit : (s : tie.Start Inv-loop μ-loop) → (Fits s → ⊥)
+    → AllNoted (s .args .d) (s .args .n) (now (s .args .wiring)) (now (s .args .lefts)) (now (s .args .rights)) (now (s .args .lefts))
+    (now (s .args .rights))
+unfit s = noted-unfit _ _ _ _ _
+
+returns : tie.Need-returns Inv-loop μ-loop
+returns c = unfit (c .before .before .before .before) (λ f. omega (arith, f .d-low))
+
+returns-2 : tie.Need-returns-2 Inv-loop μ-loop
+returns-2 c = unfit (first (c .before)) (λ f. omega (arith, f .d-high))
+
+returns-3 : tie.Need-returns-3 Inv-loop μ-loop
+returns-3 c = unfit (first (c .before .before)) (λ f. omega (arith, f .n-high))
 
 edges-low : (c : tie.Else3 Inv-loop μ-loop) → start c .args .n * start c .args .d ≤ 32768
 edges-low c = edges-le _ _ (c .if3 .left) (c .before .if2 .left)
@@ -49,16 +63,16 @@ mul-if4 : tie.Need-mul-if4 Inv-loop μ-loop
 mul-if4 c = omega (arith, edges-low c)
 
 returns-4 : tie.Need-returns-4 Inv-loop μ-loop
-returns-4 c = record { noted = λ w room room-right. absurd (omega (arith, w .sized)) }
+returns-4 c = unfit (start (c .before)) (λ f. omega (arith, f .sized))
 
 returns-5 : tie.Need-returns-5 Inv-loop μ-loop
-returns-5 c = record { noted = λ w room room-right. absurd (omega arith) }
+returns-5 c = unfit (start (c .before .before)) (λ f. omega (arith, f .room))
 
 returns-6 : tie.Need-returns-6 Inv-loop μ-loop
-returns-6 c = record { noted = λ w room room-right. absurd (omega arith) }
+returns-6 c = unfit (start (c .before .before .before)) (λ f. omega (arith, f .room-right))
 
 loop-holds : tie.Need-loop-holds Inv-loop μ-loop
-loop-holds c = (search needs, search needs, search needs, λ w. noted-none _ _ _ _)
+loop-holds c = (search needs, search needs, search needs, λ w. noted-none _ _ _ _, λ j l. absurd (omega arith), lefts-none _ _ _, rights-none _ _ _)
 
 -- ---- one turn
 
@@ -67,6 +81,28 @@ tested c = c .before .before .before .before
 
 abbrev turn : tie.After-edge-at Inv-loop μ-loop → tie.At-loop Inv-loop μ-loop
 turn c = c .before .before
+
+-- the loop is reached where every test has passed
+fitting : (c : tie.At-loop Inv-loop μ-loop) → Fits (start (tested c))
+fitting c =
+    record {
+      d-low = omega arith;
+      d-high = omega arith;
+      n-high = omega arith;
+      sized = omega arith;
+      room = omega arith;
+      room-right = omega arith;
+    }
+
+-- the lists after the entries before i are the lists of the contract where i entries are read
+as-noted : (c : tie.At-loop Inv-loop μ-loop)
+    → let s = start (tested c) .args in
+    let edge = edgeOf (now (s .wiring)) in
+    endsRead edge (s .n * s .d) ≡ c .loop .i
+    → (leftEnds edge (s .d) (c .loop .i) (now (s .lefts)) ≡ notedLefts (s .d) (s .n) (now (s .wiring)) (now (s .lefts)) (length (now (s .rights))))
+    × (rightEnds edge (s .d) (c .loop .i) (now (s .rights))
+    ≡ notedRights (s .d) (s .n) (now (s .wiring)) (length (now (s .lefts))) (now (s .rights)))
+as-noted c = noted-fitting _ _ _ _ _ (fitting c) (c .loop .i)
 
 -- a vertex fits 16 bits
 vertex-low : (c : tie.At-loop Inv-loop μ-loop) (x : ℕ) → x < start (tested c) .args .n * start (tested c) .args .d
@@ -84,8 +120,13 @@ same-length-2 c = search needs
 
 returns-7 : tie.Need-returns-7 Inv-loop μ-loop
 returns-7 c =
-    let i = turn (c .before) .loop .i in
-    record { noted = λ w room room-right. absurd (omega (arith, w .edge-lt i (omega arith), c .before .edge-at .ensures)) }
+    let before = turn (c .before) .loop in
+    let edge = c .before .edge-at in
+    let read = read-stopped _ _ (before .i) (edge .result) (omega arith) (before .inv .4) (edge .ensures) (omega arith) in
+    let both = as-noted (turn (c .before)) read in (
+      record { noted = λ w room room-right. absurd (omega (arith, w .edge-lt (before .i) (omega arith), edge .ensures)) },
+      (before .inv .5 ∙ both .0, before .inv .6 ∙ both .1),
+    )
 
 div-lefts : tie.Need-div-lefts Inv-loop μ-loop
 div-lefts c = search needs
@@ -125,6 +166,9 @@ loop-again c =
       simp length-set (before .inv .2),
       λ w. noted-one-more w (omega arith) (omega arith) (before .i) (c .before .edge-at .result) (omega arith) (c .before .edge-at .ensures)
           (before .inv .3 w),
+      read-one-more _ _ (before .i) (c .before .edge-at .result) (c .before .edge-at .ensures) (omega arith) (before .inv .4),
+      lefts-one-more _ _ _ _ _ _ (c .before .edge-at .ensures) (before .inv .5),
+      rights-one-more _ _ _ _ _ _ (c .before .edge-at .ensures) (before .inv .6),
     )
 
 same-length-3 : tie.Need-same-length-3 Inv-loop μ-loop
@@ -137,7 +181,9 @@ returns-8 : tie.Need-returns-8 Inv-loop μ-loop
 returns-8 c =
     let args = start (tested (c .before)) .args in
     let end : c .before .loop .i ≡ args .n * args .d = omega arith in
-    record { noted = λ w room room-right. rw end at (c .before .loop .inv .3 w) }
+    let inv = c .before .loop .inv in
+    let both = as-noted (c .before) (read-last _ _ _ end (inv .4)) in
+    (record { noted = λ w room room-right. rw end at (inv .3 w) }, (inv .5 ∙ both .0, inv .6 ∙ both .1))
 
 pub note-ends-spec : {M : Type 1} → statement M
 note-ends-spec =
