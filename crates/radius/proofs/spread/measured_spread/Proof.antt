@@ -56,7 +56,7 @@ noted : (c : tie.After-note-ends)
     → Noted (edgeOf (now (start c .args .wiring))) (degree (now (start c .args .sheet))) (edgeCount (planIn (start c)))
     (c .note-ends .last .1 .1 .1 .0) (c .note-ends .last .1 .1 .1 .1 .0)
 unfolding degree
-noted c = c .note-ends .ensures .noted (start c .pre) (fits c) (fits c)
+noted c = c .note-ends .ensures .0 .noted (start c .pre) (fits c) (fits c)
 
 abbrev ends : tie.After-rights3 → tie.After-note-ends
 ends c = c .before .before .before .before
