@@ -463,8 +463,8 @@ prepared-finds sheet k {before = before} p zeros accepted k-is stored =
     ⊎-elim
     (λ (t : (sheet ≡ houseSheet) × ByTable before _). finds-tabled sheet before (t .0) (t .1 .house) sized-house (t .1 .placed) accepted)
     (λ (t : (sheet ≡ houseSheet → ⊥) × ByCodewords sheet k _ before _).
-      let by = t .1 in
-      finds-searching sheet k (by .count) (min k 11) zeros (by .lists) sized-words (by .listed) refl (by .placed) accepted k-is stored)
+    let by = t .1 in
+    finds-searching sheet k (by .count) (min k 11) zeros (by .lists) sized-words (by .listed) refl (by .placed) accepted k-is stored)
     p
   where
     sized : length before ≡ 3360

@@ -37,8 +37,10 @@ returns : tie.Need-returns
 returns c =
     let named = c .before .before .before in
     let housed = named .before .before in
-    inl (housed .is-house .ensures .0 (named .before .if1 .taken),
-      record { table = _; house = named .nearest-words .ensures; placed = c .place-bytes .ensures })
+    inl (
+      housed .is-house .ensures .0 (named .before .if1 .taken),
+      record { table = _; house = named .nearest-words .ensures; placed = c .place-bytes .ensures },
+    )
 
 sub-list-codewords : tie.Need-sub-list-codewords
 sub-list-codewords c = search needs
@@ -109,7 +111,8 @@ returns-2 c =
     let counted = c .before .before in
     let words = counted .before .before .before in
     let other = words .before .before .before in
-    inr (other .before .is-house .ensures .1 (other .if1 .left),
+    inr (
+      other .before .is-house .ensures .1 (other .if1 .left),
       record {
         count = words .list-codewords .result;
         words = words .list-codewords .last .1 .1 .0;
@@ -117,7 +120,8 @@ returns-2 c =
         lists = rw (part-whole (now (start words .args .finder))) at (words .list-codewords .ensures);
         listed = placed words;
         placed = rw (counted .at-most-eleven .ensures) at (c .place .ensures);
-      })
+      },
+    )
 
 pub prepare-finder-spec : {M : Type 1} → statement M
 prepare-finder-spec =
