@@ -8,8 +8,8 @@
 --   written i b         what a write of b to bit i of a byte string does to the byte that holds the bit
 -- A law is named by its subject, then by the fact: `bitAt-` is about a bit that is read, `withBit-` about the whole byte
 -- string after a bit is written, `putDigit-` about one number, `pairAt-` about two bytes. At the end of a name, `-same` and `-other` are the place
--- that is written and any other, `-keeps` a write of what stands there, `-absorb` two writes to one place, `-swap` two
--- writes in either order, `-past` what lies past the end, `-ext` equality from the bits.
+-- that is written and any other, `-keeps` a write of what stands there, `-past` what lies past the
+-- end, `-ext` equality from the bits.
 -- That every byte is below 256 is said as `(k : ℕ) → getD bytes k 0 < 256`.
 use mathlib.Core.Path.{_≡_, refl, sym, ap, ap₂, _∙_}
 use mathlib.Core.Logic.{_≢_}
@@ -23,8 +23,8 @@ use lib.ListN.{length, getD, set, length-set, List·getD-eq-default}
 use lib.Pow.{pow-mono, shl-lt}
 use lib.Seq.{ext-getD, set-getD, set-out, getD-set-same, getD-set-other}
 use Rattle.bits.specs.Bit.{digit, bitAt, putDigit, withBit, pairAt}
-use Rattle.bits.proofs.Xor.{digit-lt, digit-zero, digit-ext, digit-pow-same, digit-pow-other, xor-digit, xor-assoc}
-use Rattle.bits.proofs.Xor.{xor-cancel, xor-cancel-middle, xor-right-comm, xor-pow, xor-bits-lt}
+use Rattle.bits.proofs.Xor.{digit-lt, digit-zero, digit-ext, digit-pow-same, digit-pow-other, xor-digit}
+use Rattle.bits.proofs.Xor.{xor-cancel, xor-bits-lt}
 
 -- ---- one digit of a number
 
@@ -46,20 +46,6 @@ pub putDigit-keeps : (x j b : ℕ) → b ≡ digit x j → putDigit x j b ≡ x
 unfolding putDigit
 putDigit-keeps x j b e =
     ap (λ (d : ℕ). bitXor x (d * 2 ^ j)) (ap (bitXor (digit x j)) e ∙ xor-self (digit x j)) ∙ ap (bitXor x) (zero-mul (2 ^ j)) ∙ xor-zero-r x
-
-pub putDigit-absorb : (x j a b : ℕ) → a < 2 → putDigit (putDigit x j a) j b ≡ putDigit x j b
-unfolding putDigit
-putDigit-absorb x j a b h =
-    ap (λ (d : ℕ). bitXor (putDigit x j a) (bitXor d b * 2 ^ j)) (putDigit-same x j a h)
-    ∙ xor-assoc x _ _
-    ∙ ap (bitXor x) (xor-pow _ _ j ∙ ap (λ (d : ℕ). d * 2 ^ j) (xor-cancel-middle (digit x j) a b))
-
-pub putDigit-swap : (x j k a b : ℕ) → j ≢ k → a < 2 → b < 2 → putDigit (putDigit x j a) k b ≡ putDigit (putDigit x k b) j a
-unfolding putDigit
-putDigit-swap x j k a b ne ha hb =
-    ap (λ (d : ℕ). bitXor (putDigit x j a) (bitXor d b * 2 ^ k)) (putDigit-other x j a k ha (λ e. ne (sym e)))
-    ∙ xor-right-comm x _ _
-    ∙ sym (ap (λ (d : ℕ). bitXor (putDigit x k b) (bitXor d a * 2 ^ j)) (putDigit-other x k b j hb ne))
 
 -- ---- reading a bit
 
@@ -100,18 +86,6 @@ changed-keeps g [] at f e = refl
 changed-keeps g (x ∷ xs) zero f e = e
 changed-keeps g (x ∷ xs) (suc at) f e = changed-keeps g xs at f e
 
-changed-twice : (l : List ℕ) (at : ℕ) (f g : ℕ → ℕ) → changed (changed l at f) at g ≡ changed l at (λ x. g (f x))
-changed-twice [] at f g = refl
-changed-twice (x ∷ xs) zero f g = refl
-changed-twice (x ∷ xs) (suc at) f g = ap (λ (r : List ℕ). x ∷ r) (changed-twice xs at f g)
-
-changed-swap : (l : List ℕ) (i j : ℕ) (f g : ℕ → ℕ) → i ≢ j → changed (changed l i f) j g ≡ changed (changed l j g) i f
-changed-swap [] i j f g ne = refl
-changed-swap (x ∷ xs) zero zero f g ne = absurd (ne refl)
-changed-swap (x ∷ xs) zero (suc j) f g ne = refl
-changed-swap (x ∷ xs) (suc i) zero f g ne = refl
-changed-swap (x ∷ xs) (suc i) (suc j) f g ne = ap (λ (r : List ℕ). x ∷ r) (changed-swap xs i j f g (λ e. ne (ap suc e)))
-
 -- ---- writing a bit
 
 abbrev written : ℕ → ℕ → ℕ → ℕ
@@ -148,22 +122,6 @@ pub withBit-keeps : (bytes : List ℕ) (i b : ℕ) → b ≡ bitAt bytes i → w
 unfolding bitAt withBit
 withBit-keeps bytes i b e = ap (set bytes (i / 8)) (putDigit-keeps _ (7 - i % 8) b e) ∙ set-getD bytes (i / 8) 0
 
-pub withBit-absorb : (bytes : List ℕ) (i a b : ℕ) → a < 2 → withBit (withBit bytes i a) i b ≡ withBit bytes i b
-unfolding withBit
-withBit-absorb bytes i a b h =
-    changed-twice bytes (i / 8) (written i a) (written i b) ∙ ap (set bytes (i / 8)) (putDigit-absorb (getD bytes (i / 8) 0) (7 - i % 8) a b h)
-
-pub withBit-swap : (bytes : List ℕ) (i j a b : ℕ) → i ≢ j → a < 2 → b < 2
-    → withBit (withBit bytes i a) j b ≡ withBit (withBit bytes j b) i a
-unfolding withBit
-withBit-swap bytes i j a b ne ha hb =
-    elim (ℕ-discrete (i / 8) (j / 8)) [
-      | yes e ↦ rw (← e) (changed-twice bytes (i / 8) (written i a) (written j b)
-          ∙ ap (set bytes (i / 8)) (putDigit-swap (getD bytes (i / 8) 0) (7 - i % 8) (7 - j % 8) a b (omega arith) ha hb)
-          ∙ sym (changed-twice bytes (i / 8) (written j b) (written i a)))
-      | no n ↦ changed-swap bytes (i / 8) (j / 8) (written i a) (written j b) n
-    ]
-
 -- ---- two-byte numbers
 
 pub pairAt-past : (bytes : List ℕ) (at : ℕ) → length bytes ≤ at → pairAt bytes at ≡ 0
@@ -173,7 +131,3 @@ pairAt-past bytes at h = simp (List·getD-eq-default bytes 0 {n = at} h, List·g
 pub pairAt-last : (bytes : List ℕ) (at : ℕ) → length bytes ≡ at + 1 → pairAt bytes at ≡ getD bytes at 0 * 256
 unfolding pairAt
 pairAt-last bytes at e = omega (arith, List·getD-eq-default bytes 0 {n = at + 1} (omega arith))
-
-pub pairAt-lt : (bytes : List ℕ) (at : ℕ) → ((k : ℕ) → getD bytes k 0 < 256) → pairAt bytes at < 2 ^ 16
-unfolding pairAt
-pairAt-lt bytes at small = omega (arith, small at, small (at + 1))

@@ -9,10 +9,10 @@
 --   sum-ext, sum-mono                                   two sums compared term by term
 --   sum-add, sum-scale, sum-const, sum-none             what each term is
 --   sum-term, sum-some, sum-none-each, sum-tight        what a sum says of its terms
---   sum-swap, sum-product, sum-append, sum-blocks       sums of sums, and the terms cut into runs
+--   sum-swap, sum-append, sum-blocks                    sums of sums, and the terms cut into runs
 --   sum-at, sum-reindex                                 one term picked out, all terms renumbered
 --   flag-equal, flag-apart, flag-same                   the flag of an equation
---   count-le, count-full, count-at, count-unique        how large a count can be, and when it is
+--   count-le, count-at, count-unique                    how large a count can be, and when it is
 -- Two theorems have names of their own: injective-onto (the pigeonhole principle) and cauchy-schwarz.
 -- `simp sums` opens a sum of additions, of multiples and of a constant.
 use Prim.Native.Nat.{ℕ, zero, suc, _+_, _-_, _*_, _≤_, _<_, zero-le}
@@ -126,9 +126,6 @@ unfolding sum
 sum-swap zero m f = sym (sum-none m _ (λ j l. refl))
 sum-swap (suc n) m f = rw (sum-swap n m f) (sym (sum-add m _ _))
 
-pub sum-product : (n m : ℕ) (f g : ℕ → ℕ) → sum n f * sum m g ≡ sum n (λ i. sum m (λ j. f i * g j))
-sum-product n m f g = simp (sum-scale, sum-scale-right)
-
 pub sum-append : (n m : ℕ) (f : ℕ → ℕ) → sum (n + m) f ≡ sum n f + sum m (λ i. f (n + i))
 unfolding sum
 sum-append n zero f = simp add-zero
@@ -215,10 +212,6 @@ sum-reindex n p q p-below q-below q-p p-q f =
 pub count-le : (n : ℕ) (t : ℕ → Bool) → sum n (λ i. flag (t i)) ≤ n
 count-le n t = omega (arith, sum-const n 1, sum-mono n _ (λ i. 1) (λ i l. flag-le-one (t i)))
 
--- where the count is n, every test below n holds
-pub count-full : (n : ℕ) (t : ℕ → Bool) → sum n (λ i. flag (t i)) ≡ n → (i : ℕ) → i < n → t i ≡ true
-count-full n t e i l = flag-pos (t i) (omega (arith, sum-tight n _ (λ i. 1) (λ i l. flag-le-one (t i)) (omega (arith, sum-const n 1)) i l))
-
 -- one number below n is a
 pub count-at : (n a : ℕ) → a < n → sum n (λ i. flag (eqb i a)) ≡ 1
 count-at n a l = simp mul-one at (sum-at n a (λ i. 1) l)
@@ -247,26 +240,10 @@ injective-onto n p below injective a l =
 
 -- ---- gaps
 
-pub gap-self : (a : ℕ) → gap a a ≡ 0
-unfolding gap
-gap-self a = omega arith
-
-pub gap-comm : (a b : ℕ) → gap a b ≡ gap b a
-unfolding gap
-gap-comm a b = omega arith
-
 -- each of two numbers is at most the other and their gap
 pub gap-le : (a b : ℕ) → a ≤ b + gap a b
 unfolding gap
 gap-le a b = omega arith
-
-pub gap-upper : (a b : ℕ) → b ≤ a + gap a b
-unfolding gap
-gap-upper a b = omega arith
-
-pub gap-of-le : (a b : ℕ) → b ≤ a → gap a b ≡ a - b
-unfolding gap
-gap-of-le a b l = omega arith
 
 -- one of two numbers is the other and their gap
 pub gap-either : (a b : ℕ) → (a ≡ b + gap a b) ⊎ (b ≡ a + gap a b)

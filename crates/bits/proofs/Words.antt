@@ -6,7 +6,7 @@
 --   bitXor a b    the number whose digits are set where those of a and b differ (lib.Bits)
 -- A law is named by its subject, then by the fact: `word-` is about a word made from digits, `ones-` about the count of
 -- set digits, `more-` about a number x with one more digit b below it, x * 2 + b. At the end of a name, `-lt` is a bound,
--- `-ext` equality from the digits, `-inj` its converse.
+-- `-ext` equality from the digits.
 -- Where f must give digits, 0 or 1, a law asks for `(j : ℕ) → j < d → f j < 2`.
 use mathlib.Core.Path.{_≡_, refl, sym, ap, ap₂, _∙_}
 use mathlib.Core.Logic.{⊎-elim}
@@ -15,12 +15,12 @@ use native.Mathlib.Nat.{pow-suc, eq-or-lt-of-le}
 use native.Mathlib.Numerals.{add-one}
 use native.Mathlib.Omega.{arith}
 use lib.Arith.{lt-one}
-use lib.Bits.{bitXor, xor-lt, xor-block}
+use lib.Bits.{bitXor, xor-block}
 use lib.Count.{ones, ones-step}
 use Rattle.bits.specs.Bit.{digit, word}
 use Rattle.bits.specs.Sum.{sum}
 use Rattle.bits.proofs.Sums.{sum-ext, sum-first}
-use Rattle.bits.proofs.Xor.{digit-lt, digit-first, digit-suc, digit-ext, xor-digit, ones-zero}
+use Rattle.bits.proofs.Xor.{digit-lt, digit-first, digit-suc, digit-ext, ones-zero}
 
 -- ---- the set digits, counted one by one
 
@@ -31,9 +31,6 @@ ones-sum (suc d) x h =
     ones-step x
     ∙ ap₂ _+_ (sym (digit-first x)) (ones-sum d (x / 2) (omega (arith, pow-suc 2 d)) ∙ sum-ext d _ _ (λ j l. sym (digit-suc x j)))
     ∙ sym (sum-first d (λ j. digit x j))
-
-pub ones-xor : (d a b : ℕ) → a < 2 ^ d → b < 2 ^ d → ones (bitXor a b) ≡ sum d (λ j. bitXor (digit a j) (digit b j))
-ones-xor d a b ha hb = ones-sum d (bitXor a b) (xor-lt d a b ha hb) ∙ sum-ext d _ _ (λ j h. xor-digit a b j)
 
 -- ---- one more digit
 
@@ -72,10 +69,6 @@ word-digit (suc d) f bits j h =
     (λ (l : j < d). ap (digit (word d f * 2 + f d)) (omega arith) ∙ more-suc (word d f) (f d) (d - 1 - j) last
     ∙ word-digit d f (λ i k. bits i (omega arith)) j l)
     (eq-or-lt-of-le (omega arith))
-
-pub word-inj : (d : ℕ) (f g : ℕ → ℕ) → ((j : ℕ) → j < d → f j < 2) → ((j : ℕ) → j < d → g j < 2)
-    → word d f ≡ word d g → (j : ℕ) → j < d → f j ≡ g j
-word-inj d f g bits-f bits-g e j h = sym (word-digit d f bits-f j h) ∙ ap (λ (x : ℕ). digit x (d - 1 - j)) e ∙ word-digit d g bits-g j h
 
 pub word-digits : (d x : ℕ) → x < 2 ^ d → word d (λ j. digit x (d - 1 - j)) ≡ x
 word-digits d x h =

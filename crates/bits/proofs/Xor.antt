@@ -56,9 +56,6 @@ xor-swap a b c d =
     ∙ ap (bitXor a) (sym (xor-assoc b c d) ∙ ap (λ (x : ℕ). bitXor x d) (xor-comm b c) ∙ xor-assoc c b d)
     ∙ sym (xor-assoc a c (bitXor b d))
 
-pub xor-right-comm : (a b c : ℕ) → bitXor (bitXor a b) c ≡ bitXor (bitXor a c) b
-xor-right-comm a b c = xor-assoc a b c ∙ ap (bitXor a) (xor-comm b c) ∙ sym (xor-assoc a c b)
-
 pub xor-pow : (a b k : ℕ) → bitXor (a * 2 ^ k) (b * 2 ^ k) ≡ bitXor a b * 2 ^ k
 xor-pow a b k =
     ap₂ bitXor (sym (add-zero (a * 2 ^ k))) (sym (add-zero (b * 2 ^ k))) ∙ xor-block k a b 0 0 (pow-pos k) (pow-pos k) ∙ add-zero (bitXor a b * 2 ^ k)
@@ -74,9 +71,6 @@ xor-bits (suc zero) zero ha hb = refl
 xor-bits (suc zero) (suc zero) ha hb = refl
 xor-bits (suc zero) (suc (suc b)) ha hb = absurd (omega arith)
 xor-bits (suc (suc a)) b ha hb = absurd (omega arith)
-
-pub xor-bits-values : (bitXor 0 0 ≡ 0) × (bitXor 0 1 ≡ 1) × (bitXor 1 0 ≡ 1) × (bitXor 1 1 ≡ 0)
-xor-bits-values = (refl, refl, refl, refl)
 
 pub xor-bits-lt : (a b : ℕ) → a < 2 → b < 2 → bitXor a b < 2
 xor-bits-lt = xor-lt 1

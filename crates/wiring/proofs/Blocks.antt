@@ -32,10 +32,6 @@ use Rattle.bits.proofs.Searches.{none-below, none-below-each}
 abbrev pub strayBit : ℕ → List ℕ → Bool
 strayBit N bytes = someBelow (length bytes * 8) (λ i. leb N i && eqb (bitAt bytes i) 1)
 
-pub bytes-cover : (N i : ℕ) → i < N → i < blockBytes N * 8
-unfolding blockBytes
-bytes-cover N i l = omega arith
-
 pub bytes-hold : (N : ℕ) → N ≤ blockBytes N * 8
 unfolding blockBytes
 bytes-hold N = omega arith

@@ -10,29 +10,18 @@
 use Prim.Native.Nat.{ℕ, _≤_, _<_}
 use mathlib.Core.Bool.{Bool, true, false, cond, _&&_}
 use mathlib.Core.List.{List, [], _∷_}
-use mathlib.Core.Path.{_≡_, refl, sym, ap, ap₂, _∙_}
+use mathlib.Core.Path.{_≡_, refl, sym, ap₂, _∙_}
 use native.Mathlib.Nat.{le-antisymm}
 use native.Mathlib.Omega.{arith}
 use lib.Dec.{ltb, eqb}
 use borrow.Author.Tests.{le-ltb, ltb-false, eqb-true, eq-eqb}
-use Rattle.bits.specs.Bit.{bitAt}
-use Rattle.inner_code.specs.Code.{isCodeword}
 use Rattle.bits.proofs.Tests.{and-both}
 use Rattle.wiring.specs.Plan.{Side, left, right}
 use Rattle.wiring.specs.Block.{satisfied, firstUnsatisfied, isCodewordBlock, located}
 use Rattle.wiring.specs.declared.side.SideName.{SideName}
-use Rattle.bits.proofs.Searches.{first-le, first-all, first-all-each, first-ext}
-use Rattle.wiring.proofs.Permutation.{Whole, entry-lt}
-use Rattle.wiring.proofs.VertexWords.{vertex-ext}
+use Rattle.bits.proofs.Searches.{first-le, first-all, first-all-each}
 
 -- ---- one side
-
-pub unsatisfied-ext : {N : ℕ} {side : Side} → Whole N side → (a b : List ℕ) → ((e : ℕ) → e < N → bitAt a e ≡ bitAt b e)
-    → firstUnsatisfied side a ≡ firstUnsatisfied side b
-unfolding firstUnsatisfied satisfied
-unsatisfied-ext {side = side} w a b same =
-    first-ext (side .n) _ _
-    (λ v l. ap (isCodeword (side .row) (side .k)) (vertex-ext side a b v (λ j h. same _ (w .bit-lt _ (entry-lt w v j l h)))))
 
 -- ---- both sides
 
@@ -84,14 +73,6 @@ module _ (sides : SideName → Side) where
       → isCodewordBlock sides block ≡ true
   unfolding firstUnsatisfied
   codeword-block-back block all = none-found-back block (λ name. first-all (sides name .n) _ (all name))
-
-  pub codeword-block-ext : {N : ℕ} → ((name : SideName) → Whole N (sides name)) → (a b : List ℕ) → ((e : ℕ) → e < N → bitAt a e ≡ bitAt b e)
-      → isCodewordBlock sides a ≡ isCodewordBlock sides b
-  codeword-block-ext whole a b same =
-      codeword-block-tests a ∙ ap₂ _&&_ (side left) (side right) ∙ sym (codeword-block-tests b)
-    where
-      side : (name : SideName) → eqb (unsatisfied a name) (sides name .n) ≡ eqb (unsatisfied b name) (sides name .n)
-      side name = ap (λ (f : ℕ). eqb f (sides name .n)) (unsatisfied-ext (whole name) a b same)
 
   pub located-none : (block : List ℕ) → isCodewordBlock sides block ≡ true → located sides block ≡ []
   located-none block e =

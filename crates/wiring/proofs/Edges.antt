@@ -26,9 +26,6 @@ module _ {N : ℕ} {side : Side} (w : Whole N side) where
   pub vertex-of-lt : (e : ℕ) → e < N → vertexOf N side e < side .n
   vertex-of-lt e l = div-lt-iff-lt-mul (w .degree-pos) .1 (rw (w .entries) (place-lt w e l))
 
-  pub vertex-of-entry : (v j : ℕ) → v < side .n → j < side .d → vertexOf N side (side .bit (v * side .d + j)) ≡ v
-  vertex-of-entry v j l k = ap (λ (i : ℕ). i / side .d) (place-bit w _ (entry-lt w v j l k)) ∙ digits-div v k
-
 module _ {N : ℕ} {sides : SideName → Side} (g : Joined N sides) where
   abbrev dl : ℕ
   dl = sides left .d

@@ -17,13 +17,13 @@ use native.Mathlib.Omega.{arith}
 use native.Mathlib.Nat.{le-trans, le-step, lt-suc-self, not-suc-le-zero, eq-or-lt-of-le, le-of-suc-le-suc, ne-of-lt}
 use native.Mathlib.Numerals.{add-one}
 use lib.Arith.{digits-div}
-use lib.Bits.{bitXor, xor-self}
+use lib.Bits.{bitXor}
 use lib.Count.{ones}
 use lib.ListN.{length, getD}
 use Rattle.bits.specs.Bit.{digit, bitAt, withBit}
 use Rattle.bits.specs.Sum.{sum}
-use Rattle.bits.proofs.Sums.{sum-ext, sum-none, sum-none-each, sum-blocks, sum-reindex}
-use Rattle.bits.proofs.Xor.{digit-lt, xor-bits-lt, xor-zero-eq, ones-zero}
+use Rattle.bits.proofs.Sums.{sum-ext, sum-blocks, sum-reindex}
+use Rattle.bits.proofs.Xor.{digit-lt, xor-bits-lt}
 use Rattle.bits.proofs.Words.{word-lt, word-ext, word-digit, word-digits, word-xor, ones-word}
 use Rattle.bits.proofs.Bytes.{bitAt-lt, bitAt-same, bitAt-other, length-withBit, withBit-byte, withBit-keeps}
 use Rattle.wiring.specs.Plan.{Side}
@@ -146,8 +146,3 @@ module _ {N : ℕ} {side : Side} (w : Whole N side) (a b : List ℕ) where
       ∙ ap (λ (m : ℕ). sum m (λ i. bitXor (bitAt a (side .bit i)) (bitAt b (side .bit i)))) (sym (w .entries))
       ∙ sum-blocks (side .n) (side .d) (λ i. bitXor (bitAt a (side .bit i)) (bitAt b (side .bit i)))
       ∙ sum-ext (side .n) _ _ (λ v l. sym (vertex-differing side a b v))
-
-  pub words-determine : ((v : ℕ) → v < side .n → vertexWord side a v ≡ vertexWord side b v) → (e : ℕ) → e < N → bitAt a e ≡ bitAt b e
-  words-determine same e l =
-      xor-zero-eq _ _ (sum-none-each N _
-      (differing ∙ sum-none (side .n) _ (λ v h. rw (same v h) (ap ones (xor-self (vertexWord side b v)) ∙ ones-zero))) e l)
