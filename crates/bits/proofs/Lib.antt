@@ -6,3 +6,4 @@ pub mod Words
 pub mod Bytes
 pub mod Windows
 pub mod Fronts
+pub mod Flips

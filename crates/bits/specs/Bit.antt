@@ -6,10 +6,12 @@
 --   withBit bytes i b the byte string with its bit i made b; past the end nothing changes
 --   written front l   the list l with `front` at its beginning
 --   pairAt bytes at   the two-byte number at the index `at`, high byte first; a missing byte is 0
+--   flips N a b       the number of bits 0 .. N - 1 in which two byte strings differ
 use Prim.Native.Nat.{ℕ, zero, suc, _+_, _-_, _*_, _/_, _%_, _^_}
 use mathlib.Core.List.{List, _++_}
 use lib.ListN.{length, getD, set, drop}
 use lib.Bits.{bitXor}
+use Rattle.bits.specs.Sum.{sum}
 
 unfoldable pub digit : ℕ → ℕ → ℕ
 digit x j = x / 2 ^ j % 2
@@ -35,3 +37,7 @@ pairAt bytes at = getD bytes at 0 * 256 + getD bytes (at + 1) 0
 
 unfoldable pub written : List ℕ → List ℕ → List ℕ
 written front l = front ++ drop (length front) l
+
+unfoldable pub flips : ℕ → List ℕ → List ℕ → ℕ
+unfolding sum bitAt
+flips N a b = sum N (λ i. bitXor (bitAt a i) (bitAt b i))

@@ -9,7 +9,7 @@
 --   Reported .. reply left     the service answers `reply` and leaves the list `left`
 -- A run is a stretch of bits that pass the test, as long as it can be: from runStart test i to i - 1, for an i at which one ends.
 -- Laws are named by their subject, then by the fact: `start-` is about where a run begins, `ends-` about where one ends, `runs-`
--- about all runs, `runCount-` and `runBytes-` about their number and their bytes, `differs-` about the bits of two blocks, and
+-- about all runs, `runCount-` and `runBytes-` about their number and their bytes, `differs-` and `flips-` about the bits of two blocks, and
 -- `report-` gives answer and list at one outcome each, from the checks before it that have passed and the one that holds:
 --   report-plan (1 to 10), report-received and report-settled-block (11, 12), report-short (16), report-done
 -- At the end of a name, `-zero` and `-one-more` are a loop's start and step: a bit in the run (-inside) or not (-outside), a run
@@ -20,17 +20,17 @@ use mathlib.Core.List.{List, [], _∷_, _++_, append-nil}
 use mathlib.Core.Logic.{_⊎_, inl, inr}
 use mathlib.Core.Path.{_≡_, refl, sym, ap, _∙_}
 use native.Mathlib.Nat.{le-refl, le-step, not-suc-le-zero, eq-or-lt-of-le, le-of-suc-le-suc}
-use native.Mathlib.Decide.{decLe}
+use native.Mathlib.Decide.{decLe, ℕ-discrete}
 use native.Mathlib.Numerals.{add-one}
 use native.Mathlib.Omega.{arith}
 use lib.Bits.{bitXor, xor-zero-r}
 use lib.Dec.{ltb, leb, eqb}
 use lib.ListN.{length, getD, length-append}
-use borrow.Author.Tests.{ltb-true, lt-ltb, le-ltb, leb-true, le-leb, eqb-true, eqb-false, eq-eqb, not-true}
+use borrow.Author.Tests.{ltb-true, lt-ltb, le-ltb, leb-true, le-leb, eqb-true, eqb-false, eq-eqb, ne-eqb, not-true, not-false}
 use Rattle.bits.proofs.Tests.{and-both}
-use Rattle.bits.specs.Bit.{bitAt, written}
-use Rattle.bits.specs.Sum.{flag}
-use Rattle.bits.proofs.Sums.{sum-one-more, sum-append, flag-true, flag-false}
+use Rattle.bits.specs.Bit.{bitAt, written, flips}
+use Rattle.bits.specs.Sum.{sum, flag}
+use Rattle.bits.proofs.Sums.{sum-one-more, sum-ext, sum-append, flag-true, flag-false}
 use Rattle.bits.proofs.Xor.{xor-bits-parity}
 use Rattle.bits.proofs.Bytes.{bitAt-lt}
 use Rattle.inner_code.specs.Reply.{Reply, done, refused, refuseIf, andThen}
@@ -267,6 +267,26 @@ differs-bits a b i = refl
 
 pub differs-agree : (a b : List ℕ) (i : ℕ) → bitAt a i ≡ bitAt b i → differsAt a b i ≡ false
 differs-agree a b i e = differs-bits a b i ∙ ap not (eq-eqb _ _ e)
+
+flag-xor : (a b : ℕ) → a < 2 → b < 2 → flag (not (eqb a b)) ≡ bitXor a b
+flag-xor a b p q =
+    elim (ℕ-discrete a b) [
+      | yes e ↦ rw (eq-eqb a b e, flag-false) (omega (arith, xor-bits-parity a b p q))
+      | no u ↦ rw (ne-eqb a b u, flag-true) (omega (arith, xor-bits-parity a b p q))
+    ]
+
+module _ (a b : List ℕ) where
+  pub differs-flag : (i : ℕ) → flag (differsAt a b i) ≡ bitXor (bitAt a i) (bitAt b i)
+  unfolding differsAt
+  differs-flag i = flag-xor (bitAt a i) (bitAt b i) (bitAt-lt a i) (bitAt-lt b i)
+
+  pub differs-none : (i : ℕ) → differsAt a b i ≡ false → bitAt a i ≡ bitAt b i
+  unfolding differsAt
+  differs-none i e = eqb-true _ _ (not-false _ e)
+
+  pub flips-differ : (N : ℕ) → flips N a b ≡ sum N (λ i. flag (differsAt a b i))
+  unfolding flips
+  flips-differ N = sum-ext N _ _ (λ i l. sym (differs-flag i))
 
 module _ (N : ℕ) (received settled : List ℕ) (pass-r : blockCheck N received ≡ done []) (pass-s : blockCheck N settled ≡ done []) where
   -- past the last bit two blocks do not differ, so every run has ended before N + 1

@@ -1,5 +1,5 @@
 -- Demand 3: what the margin promises holds of the decoder.
--- The notions, of specs/Demand.antt, specs/Answer.antt and wiring specs/Block.antt:
+-- The notions, of specs/Demand.antt, specs/Answer.antt, wiring specs/Block.antt and bits specs/Bit.antt:
 --   flips N a b                        the number of bits 0 .. N - 1 in which two blocks differ
 --   Block N block                      a block of N bits
 --   Codeword plan block                a block of this plan that is a codeword
@@ -22,7 +22,7 @@ use native.Mathlib.Decide.{decLe}
 use native.Mathlib.Omega.{arith}
 use lib.ListN.{length, getD}
 use borrow.Author.Tests.{eqb-true, not-false}
-use Rattle.bits.specs.Bit.{written}
+use Rattle.bits.specs.Bit.{written, flips}
 use Rattle.inner_code.specs.Reply.{Reply, done, refused}
 use Rattle.inner_code.proofs.SheetChecks.{Sound}
 use Rattle.inner_code.proofs.InnerDistance.{distance-pos}
@@ -39,7 +39,7 @@ use Rattle.decoder.proofs.Sweeping.{sheet-mends}
 use Rattle.decoder.proofs.Settling.{settles-codeword, settles-first, settles-stays, decode-stopped, decode-settled}
 use Rattle.decoder.proofs.Settling.{check-block, check-short, check-limit, check-passed}
 use Rattle.radius.specs.Answer.{distanceOf, marginAnswer}
-use Rattle.radius.specs.Demand.{flips, stoppedBefore15, Restored}
+use Rattle.radius.specs.Demand.{stoppedBefore15, Restored}
 use Rattle.radius.proofs.Restoring.{Nears, after-restores}
 use Rattle.radius.proofs.Answers.{Covered, margin-means}
 

@@ -1,6 +1,6 @@
 -- Sweeps restore a codeword block from a block that differs from it in few bits.
 --   differsAt a b i               bit i of two blocks differs (decoder specs Report)
---   flips N a b                   the number of bits 0 .. N - 1 in which two blocks differ (specs Demand)
+--   flips N a b                   the number of bits 0 .. N - 1 in which two blocks differ (bits specs Bit)
 --   wrongAt side wrong v          how many bits of vertex v are wrong (Convergence)
 --   sweep, afterSweeps            the block after a sweep, and after i sweeps (decoder specs Sweep)
 --   sweepsNamed m F               the sweeps named for F flips, 0 where F is not covered (specs Margin)
@@ -9,21 +9,15 @@
 -- Laws are named by their subject, then by the fact: `differs-` and `flips-` are about the bits of two blocks, `sweep-` about one
 -- sweep. The theorem is after-restores.
 use Prim.Native.Nat.{ℕ, _+_, _*_, _^_, _≤_, _<_}
-use mathlib.Core.Bool.{true, false, not}
+use mathlib.Core.Bool.{true, false}
 use mathlib.Core.List.{List, []}
 use mathlib.Core.Logic.{_≢_}
 use mathlib.Core.Path.{_≡_, sym, _∙_}
-use native.Mathlib.Decide.{ℕ-discrete}
-use native.Mathlib.Omega.{arith}
-use lib.Bits.{bitXor, xor-comm}
+use lib.Bits.{bitXor}
 use lib.Count.{ones}
-use lib.Dec.{eqb}
-use borrow.Author.Tests.{eq-eqb, ne-eqb, eqb-true, not-false}
-use Rattle.bits.specs.Bit.{bitAt}
-use Rattle.bits.specs.Sum.{sum, flag}
-use Rattle.bits.proofs.Sums.{flag-false, flag-true, sum-ext}
-use Rattle.bits.proofs.Xor.{xor-bits-parity}
-use Rattle.bits.proofs.Bytes.{bitAt-lt}
+use Rattle.bits.specs.Bit.{flips}
+use Rattle.bits.proofs.Flips.{flips-comm}
+use Rattle.bits.proofs.Sums.{sum-ext}
 use Rattle.inner_code.specs.Reply.{done}
 use Rattle.inner_code.specs.Code.{isCodeword}
 use Rattle.wiring.specs.Plan.{Side, left}
@@ -36,38 +30,18 @@ use Rattle.wiring.proofs.CodewordBlocks.{codeword-block-each}
 use Rattle.decoder.specs.Visiting.{nearestOf}
 use Rattle.decoder.specs.Sweep.{sweep, turn, afterSweeps}
 use Rattle.decoder.specs.Report.{differsAt}
-use Rattle.decoder.proofs.Runs.{differs-agree}
+use Rattle.decoder.proofs.Runs.{differs-flag, differs-agree, differs-none, flips-differ}
 use Rattle.decoder.proofs.Sweeping.{Mends, sweep-word, after-block, after-bytes}
 use Rattle.radius.specs.Margin.{sweepsNamed}
-use Rattle.radius.specs.Demand.{flips}
 use Rattle.radius.proofs.Convergence.{measuresBy, wrongAt, converges}
 
 -- ---- two blocks, bit by bit
 
-flag-xor : (a b : ℕ) → a < 2 → b < 2 → flag (not (eqb a b)) ≡ bitXor a b
-flag-xor a b p q =
-    elim (ℕ-discrete a b) [
-      | yes e ↦ rw (eq-eqb a b e, flag-false) (omega (arith, xor-bits-parity a b p q))
-      | no u ↦ rw (ne-eqb a b u, flag-true) (omega (arith, xor-bits-parity a b p q))
-    ]
-
 module _ (a b : List ℕ) where
-  differs-flag : (i : ℕ) → flag (differsAt a b i) ≡ bitXor (bitAt a i) (bitAt b i)
-  unfolding differsAt
-  differs-flag i = flag-xor (bitAt a i) (bitAt b i) (bitAt-lt a i) (bitAt-lt b i)
-
-  differs-none : (i : ℕ) → differsAt a b i ≡ false → bitAt a i ≡ bitAt b i
-  unfolding differsAt
-  differs-none i e = eqb-true _ _ (not-false _ e)
-
-  flips-differ : (N : ℕ) → flips N b a ≡ sum N (λ i. flag (differsAt a b i))
-  unfolding flips
-  flips-differ N = sum-ext N _ _ (λ i l. xor-comm (bitAt b i) (bitAt a i) ∙ sym (differs-flag i))
-
   -- the words that a vertex reads differ in as many digits as its bits
   flips-vertex : (side : Side) (v : ℕ) → ones (bitXor (vertexWord side a v) (vertexWord side b v)) ≡ wrongAt side (differsAt a b) v
   unfolding wrongAt
-  flips-vertex side v = vertex-differing side a b v ∙ sum-ext (side .d) _ _ (λ j l. sym (differs-flag (side .bit (v * side .d + j))))
+  flips-vertex side v = vertex-differing side a b v ∙ sum-ext (side .d) _ _ (λ j l. sym (differs-flag a b (side .bit (v * side .d + j))))
 
 -- ---- sweeps
 
@@ -98,5 +72,5 @@ module _ {N : ℕ} {sides : SideName → Side} (g : Joined N sides) (D : SideNam
       let checked : (i : ℕ) → blockCheck N (after i) ≡ done [] = λ i. after-block sides (g .whole) i received (block .checked) in
       block-ext N (after q) c (record { bytes = after-bytes sides q received (block .bytes); checked = checked q }) whole
       (λ e l. differs-none (after q) c e
-      (converges g D F distance-pos (λ i. differsAt (after i) c) (rw flips-differ at few)
+      (converges g D F distance-pos (λ i. differsAt (after i) c) (rw (flips-comm N c received ∙ flips-differ received c N) at few)
       (λ i. sweep-mends (after i) (checked i) (turn i)) some e l))

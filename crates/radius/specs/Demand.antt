@@ -1,5 +1,4 @@
 -- The words of demand 3.
---   flips N a b                the number of bits 0 .. N - 1 in which two blocks differ
 --   stoppedBefore15 reply      a row before 15 in the table stops the call: it is refused, and not with 15
 --   Restored ..                what a decoder call is promised: it settles within q sweeps, at the first count after which the received block
 --                              is a codeword, and its output holds the sent block
@@ -7,18 +6,12 @@ use Prim.Native.Nat.{ℕ, _≤_, _<_}
 use mathlib.Core.Path.{_≡_}
 use mathlib.Core.List.{List, [], _∷_}
 use mathlib.Core.Bool.{Bool, true, false, not}
-use lib.Bits.{bitXor}
 use lib.Dec.{eqb}
-use Rattle.bits.specs.Bit.{bitAt, written}
-use Rattle.bits.specs.Sum.{sum}
+use Rattle.bits.specs.Bit.{written}
 use Rattle.inner_code.specs.Reply.{Reply, done, refused}
 use Rattle.wiring.specs.Plan.{Plan}
 use Rattle.decoder.specs.Decode.{settledAfter}
 use Rattle.decoder.specs.Answer.{decodeAnswer, decodeOutput}
-
-unfoldable pub flips : ℕ → List ℕ → List ℕ → ℕ
-unfolding sum bitAt
-flips N a b = sum N (λ i. bitXor (bitAt a i) (bitAt b i))
 
 unfoldable pub stoppedBefore15 : Reply → Bool
 stoppedBefore15 (done values) = false

@@ -16,7 +16,7 @@ use native.Mathlib.Omega.{arith}
 use lib.Count.{ones}
 use lib.Dec.{lit<}
 use lib.ListN.{length, getD, List·getD-eq-default}
-use Rattle.bits.specs.Bit.{written}
+use Rattle.bits.specs.Bit.{written, flips}
 use Rattle.bits.specs.Search.{largest}
 use Rattle.bits.proofs.Searches.{largest-bounds}
 use Rattle.bits.proofs.Bytes.{bitAt-past}
@@ -31,10 +31,9 @@ use Rattle.wiring.specs.Square.{squareWiring, squarePlan}
 use Rattle.wiring.proofs.Blocks.{block-back}
 use Rattle.radius.specs.Spread.{spread}
 use Rattle.radius.specs.Answer.{marginAnswer}
-use Rattle.radius.specs.Demand.{flips}
 use Rattle.restored.specs.Flip.{Flipped}
 use Rattle.restored.specs.Sent.{sentBlock, Received}
-use Rattle.restored.proofs.Flips.{flips-none}
+use Rattle.bits.proofs.Flips.{flips-none}
 
 -- ---- the plan
 

@@ -3,7 +3,7 @@
 use Prim.Native.Nat.{ℕ, _+_, _≤_, _<_}
 use mathlib.Core.List.{List}
 use lib.ListN.{getD}
-use Rattle.radius.specs.Demand.{flips}
+use Rattle.bits.specs.Bit.{flips}
 
 pub record Flipped (sent before after : List ℕ) (most : ℕ) : Type 0 where
   pub few : flips 64 sent after ≤ flips 64 sent before + most

@@ -1,7 +1,7 @@
 // Flips.
 ghost use mathlib.Core.Path.{_≡_};
 ghost use Prim.Native.Nat.{_≤_, _<_};
-ghost use Rattle.radius.specs.Demand.{flips};
+ghost use Rattle.bits.specs.Bit.{flips};
 ghost use Rattle.restored.specs.Flip.{Flipped};
 
 // Flips bits of a block of 64 bits that equal the sent ones, at most so many of them: each byte of `positions` names one, by its

@@ -20,7 +20,7 @@ use lib.Arith.{digits-div}
 use lib.Bits.{bitXor}
 use lib.Count.{ones}
 use lib.ListN.{length, getD}
-use Rattle.bits.specs.Bit.{digit, bitAt, withBit}
+use Rattle.bits.specs.Bit.{digit, bitAt, withBit, flips}
 use Rattle.bits.specs.Sum.{sum}
 use Rattle.bits.proofs.Sums.{sum-ext, sum-blocks, sum-reindex}
 use Rattle.bits.proofs.Xor.{digit-lt, xor-bits-lt}
@@ -139,9 +139,10 @@ module _ {N : ℕ} {side : Side} (w : Whole N side) (x : ℕ) (block : List ℕ)
 -- ---- all words of a side
 
 module _ {N : ℕ} {side : Side} (w : Whole N side) (a b : List ℕ) where
-  pub differing : sum N (λ e. bitXor (bitAt a e) (bitAt b e))
-      ≡ sum (side .n) (λ v. ones (bitXor (vertexWord side a v) (vertexWord side b v)))
-  differing =
+  -- two blocks differ in as many bits as the words of a side's vertices do: every bit stands at one vertex
+  pub flips-words : flips N a b ≡ sum (side .n) (λ v. ones (bitXor (vertexWord side a v) (vertexWord side b v)))
+  unfolding flips
+  flips-words =
       sym (sum-reindex N (side .bit) (placeOf N side) (w .bit-lt) (place-lt w) (place-bit w) (bit-place w) (λ e. bitXor (bitAt a e) (bitAt b e)))
       ∙ ap (λ (m : ℕ). sum m (λ i. bitXor (bitAt a (side .bit i)) (bitAt b (side .bit i)))) (sym (w .entries))
       ∙ sum-blocks (side .n) (side .d) (λ i. bitXor (bitAt a (side .bit i)) (bitAt b (side .bit i)))

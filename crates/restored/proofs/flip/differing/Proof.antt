@@ -3,11 +3,10 @@ use Prim.Native.Nat.{_+_, _-_, _≤_, _<_}
 use mathlib.Core.Path.{_≡_, sym, ap₂, _∙_}
 use native.Mathlib.Omega.{arith}
 use lib.Bits.{bitXor}
-use Rattle.bits.specs.Bit.{bitAt}
+use Rattle.bits.specs.Bit.{bitAt, flips}
 use denote.Ref.{now}
 use borrow.Author.Needs.{needs}
-use Rattle.radius.specs.Demand.{flips}
-use Rattle.restored.proofs.Flips.{flips-zero, flips-one-more, flips-bit}
+use Rattle.bits.proofs.Flips.{flips-zero, flips-one-more, flips-bit}
 use Rattle.restored.proofs.flip.differing.Statement.{statement}
 use Rattle.restored.proofs.flip.differing.Tie as tie
 
