@@ -5,3 +5,4 @@ pub mod Passes
 pub mod Copies
 pub mod Runs
 pub mod Reporting
+pub mod Lengths

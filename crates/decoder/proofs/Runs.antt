@@ -12,6 +12,7 @@
 -- about all runs, `runCount-` and `runBytes-` about their number and their bytes, `differs-` and `flips-` about the bits of two blocks, and
 -- `report-` gives answer and list at one outcome each, from the checks before it that have passed and the one that holds:
 --   report-plan (1 to 10), report-received and report-settled-block (11, 12), report-short (16), report-done
+-- `report-tests` is the answer as these checks in their order.
 -- At the end of a name, `-zero` and `-one-more` are a loop's start and step: a bit in the run (-inside) or not (-outside), a run
 -- that ends there (-ends) or none (-none).
 use Prim.Native.Nat.{ℕ, zero, suc, _+_, _-_, _*_, _≤_, _<_, pred}
@@ -23,15 +24,15 @@ use native.Mathlib.Nat.{le-refl, le-step, not-suc-le-zero, eq-or-lt-of-le, le-of
 use native.Mathlib.Decide.{decLe, ℕ-discrete}
 use native.Mathlib.Numerals.{add-one}
 use native.Mathlib.Omega.{arith}
-use lib.Bits.{bitXor, xor-zero-r}
+use lib.Bits.{bitXor}
 use lib.Dec.{ltb, leb, eqb}
 use lib.ListN.{length, getD, length-append}
-use borrow.Author.Tests.{ltb-true, lt-ltb, le-ltb, leb-true, le-leb, eqb-true, eqb-false, eq-eqb, ne-eqb, not-true, not-false}
+use borrow.Author.Tests.{ltb-true, lt-ltb, le-ltb, leb-true, le-leb, eqb-true, eq-eqb, ne-eqb, not-true, not-false}
 use Rattle.bits.proofs.Tests.{and-both}
 use Rattle.bits.specs.Bit.{bitAt, written, flips}
 use Rattle.bits.specs.Sum.{sum, flag}
 use Rattle.bits.proofs.Sums.{sum-one-more, sum-ext, sum-append, flag-true, flag-false}
-use Rattle.bits.proofs.Xor.{xor-bits-parity}
+use Rattle.bits.proofs.Xor.{xor-cancel, xor-bits-parity}
 use Rattle.bits.proofs.Bytes.{bitAt-lt}
 use Rattle.inner_code.specs.Reply.{Reply, done, refused, refuseIf, andThen}
 use Rattle.bits.specs.Search.{someBelow}
@@ -44,7 +45,7 @@ use Rattle.decoder.specs.Report.{differsAt, runStart, endsAt, runCount, 
 use Rattle.decoder.specs.Answer.{reportAnswer, reportList}
 use Rattle.wiring.specs.Plan.{Plan, edgeCount}
 
-holds-or-not : (b : Bool) → (b ≡ true) ⊎ (b ≡ false)
+pub holds-or-not : (b : Bool) → (b ≡ true) ⊎ (b ≡ false)
 holds-or-not true = inl refl
 holds-or-not false = inr refl
 
@@ -253,13 +254,16 @@ module _ (test : ℕ → Bool) where
 
 -- ---- the difference of two blocks
 
+flag-xor : (a b : ℕ) → a < 2 → b < 2 → flag (not (eqb a b)) ≡ bitXor a b
+flag-xor a b p q =
+    elim (ℕ-discrete a b) [
+      | yes e ↦ rw (eq-eqb a b e, flag-false) (omega (arith, xor-bits-parity a b p q))
+      | no u ↦ rw (ne-eqb a b u, flag-true) (omega (arith, xor-bits-parity a b p q))
+    ]
+
 -- a bit with its difference from another on it is the other
 bit-restored : (a b : ℕ) → a < 2 → b < 2 → b ≡ bitXor a (flag (not (eqb a b)))
-bit-restored a b ha hb =
-    elim (holds-or-not (eqb a b)) [
-      | inl e ↦ rw e (sym (eqb-true a b e) ∙ sym (ap (bitXor a) flag-false ∙ xor-zero-r a))
-      | inr e ↦ rw (e, flag-true) (omega (arith, xor-bits-parity a 1 ha (omega arith), eqb-false a b e))
-    ]
+bit-restored a b ha hb = sym (ap (bitXor a) (flag-xor a b ha hb) ∙ xor-cancel a b)
 
 pub differs-bits : (a b : List ℕ) (i : ℕ) → differsAt a b i ≡ not (eqb (bitAt a i) (bitAt b i))
 unfolding differsAt
@@ -267,13 +271,6 @@ differs-bits a b i = refl
 
 pub differs-agree : (a b : List ℕ) (i : ℕ) → bitAt a i ≡ bitAt b i → differsAt a b i ≡ false
 differs-agree a b i e = differs-bits a b i ∙ ap not (eq-eqb _ _ e)
-
-flag-xor : (a b : ℕ) → a < 2 → b < 2 → flag (not (eqb a b)) ≡ bitXor a b
-flag-xor a b p q =
-    elim (ℕ-discrete a b) [
-      | yes e ↦ rw (eq-eqb a b e, flag-false) (omega (arith, xor-bits-parity a b p q))
-      | no u ↦ rw (ne-eqb a b u, flag-true) (omega (arith, xor-bits-parity a b p q))
-    ]
 
 module _ (a b : List ℕ) where
   pub differs-flag : (i : ℕ) → flag (differsAt a b i) ≡ bitXor (bitAt a i) (bitAt b i)
@@ -288,7 +285,8 @@ module _ (a b : List ℕ) where
   unfolding flips
   flips-differ N = sum-ext N _ _ (λ i l. sym (differs-flag i))
 
-module _ (N : ℕ) (received settled : List ℕ) (pass-r : blockCheck N received ≡ done []) (pass-s : blockCheck N settled ≡ done []) where
+module _ (N : ℕ) (received settled : List ℕ) {first second : List ℕ}
+    (pass-r : blockCheck N received ≡ done first) (pass-s : blockCheck N settled ≡ done second) where
   -- past the last bit two blocks do not differ, so every run has ended before N + 1
   pub differs-past : (i : ℕ) → N ≤ i → differsAt received settled i ≡ false
   differs-past i h =
@@ -312,7 +310,7 @@ module _ (plan : Plan) (received settled list : List ℕ) where
   abbrev count : ℕ
   count = runCount (differsAt received settled) (edgeCount plan + 1)
 
-  report-tests : reportAnswer plan received settled list
+  pub report-tests : reportAnswer plan received settled list
       ≡ andThen (planCheck plan)
       (andThen (blockCheck (edgeCount plan) received)
       (andThen (blockCheck (edgeCount plan) settled) (refuseIf (ltb (length list) (4 * count)) 16 0 (done (count ∷ [])))))
