@@ -1,6 +1,6 @@
 # make run       proves and builds everything, writes the built-in square plan's margin sheet and carries a caption over a simulated link
 # make test      the gate: every proof, every wrong program refused, every stored run, the C host's tests
-# make bench     the decoder and the encoder beside plain C
+# make bench     the decoder, the nearest word and the encoder beside plain C
 # make install   the library, its header and pkg-config file, the program margin and its man page, below PREFIX
 # make uninstall takes them away again
 SHELL = /bin/bash

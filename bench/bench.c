@@ -132,6 +132,10 @@ static int by_value(const void *a, const void *b)
 static uint8_t received[MAX_EDGES / 8], mine[MAX_EDGES / 8], theirs[MAX_EDGES / 8];
 static uint8_t message[64];
 static size_t message_bytes;
+static uint64_t word;
+
+/* What the calls tell beside the value: the decoder its sums, the nearest word the bits changed as the first of them. */
+static uint16_t my_sums[LEMBIKAT_SUMS], their_sums[LEMBIKAT_SUMS];
 
 #define PLAN p->sheet, p->sheet_bytes, p->n, p->wiring, 2 * p->n * p->d
 
@@ -145,15 +149,31 @@ static size_t block_bytes(const plan *p)
 
 static uint64_t library_decodes(const plan *p)
 {
-    lembikat_answer a = lembikat_decode(PLAN, received, block_bytes(p), mine, block_bytes(p), LIMIT);
+    lembikat_decode_answer a = lembikat_decode(PLAN, received, block_bytes(p), mine, block_bytes(p), LIMIT);
+    memcpy(my_sums, a.sums, sizeof my_sums);
     return a.number * 65536u + a.value;
 }
 
 static uint64_t plain_decodes(const plan *p)
 {
     size_t sweeps = 0;
-    int number = plain_decode(PLAN, received, block_bytes(p), theirs, block_bytes(p), LIMIT, &sweeps);
+    int number = plain_decode(PLAN, received, block_bytes(p), theirs, block_bytes(p), LIMIT, &sweeps, their_sums);
     return (uint64_t)number * 65536u + sweeps;
+}
+
+static uint64_t library_finds(const plan *p)
+{
+    lembikat_word_answer a = lembikat_nearest_word(p->sheet, p->sheet_bytes, word);
+    my_sums[0] = (uint16_t)a.changed;
+    return a.number * 65536u + a.value;
+}
+
+static uint64_t plain_finds(const plan *p)
+{
+    uint64_t nearest = 0, changed = 0;
+    int number = plain_nearest_word(p->sheet, p->sheet_bytes, word, &nearest, &changed);
+    their_sums[0] = (uint16_t)changed;
+    return (uint64_t)number * 65536u + nearest;
 }
 
 static uint64_t library_encodes(const plan *p)
@@ -185,8 +205,10 @@ static int row(const plan *p, const char *damage, work library, work plain)
 {
     double a[RUNS], b[RUNS];
     unsigned calls_a = 1, calls_b = 1;
+    memset(my_sums, 0, sizeof my_sums);
+    memset(their_sums, 0, sizeof their_sums);
     uint64_t says = library(p);
-    if (says != plain(p) || memcmp(mine, theirs, block_bytes(p)) != 0) {
+    if (says != plain(p) || memcmp(mine, theirs, block_bytes(p)) != 0 || memcmp(my_sums, their_sums, sizeof my_sums) != 0) {
         printf("%s, %s: the library and plain C differ\n", p->name, damage);
         return 1;
     }
@@ -203,6 +225,8 @@ static int row(const plan *p, const char *damage, work library, work plain)
     char ends[24];
     if (library == library_encodes)
         snprintf(ends, sizeof ends, "encoded");
+    else if (library == library_finds)
+        snprintf(ends, sizeof ends, "%u changed", my_sums[0]);
     else if (says < 65536)
         snprintf(ends, sizeof ends, "%u sweep%s", (unsigned)says, says == 1 ? "" : "s");
     else
@@ -252,6 +276,15 @@ static int encoder_row(const plan *p)
     return row(p, "a message", library_encodes, plain_encodes);
 }
 
+/* The nearest word of one word. Of a plan it takes the sheet alone. */
+static int word_row(plan *p, const char *name, unsigned d, unsigned k)
+{
+    p->name = name;
+    set_sheet(p, d, k);
+    word = draw(1u << d);
+    return row(p, "a word", library_finds, plain_finds);
+}
+
 int main(int count, char **words)
 {
     static plan p;
@@ -272,5 +305,8 @@ int main(int count, char **words)
     failed |= decoder_rows(&p, 3, 160);
     set_squares(&p, "d 16 k 11, n 32", 16, 11, 32);
     failed |= encoder_row(&p);
+    failed |= word_row(&p, "house", 8, 4);
+    failed |= word_row(&p, "d 16 k 5", 16, 5);
+    failed |= word_row(&p, "d 16 k 11", 16, 11);
     return failed;
 }

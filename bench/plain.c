@@ -1,4 +1,4 @@
-/* The plain C decoder and encoder of the benchmark. */
+/* The plain C decoder, nearest word and encoder of the benchmark. */
 #include "plain.h"
 
 #include <string.h>
@@ -97,7 +97,8 @@ static int is_word(const code *c, unsigned word)
     return 0;
 }
 
-static unsigned nearest(const code *c, unsigned word)
+/* Also adds the ones of the pattern to `changed`: the search has them at hand. */
+static unsigned nearest(const code *c, unsigned word, unsigned *changed)
 {
     unsigned best = 0, fewest = 17;
     for (size_t m = 0; m < c->count; m++) {
@@ -108,6 +109,7 @@ static unsigned nearest(const code *c, unsigned word)
             best = pattern;
         }
     }
+    *changed += fewest;
     return word ^ best;
 }
 
@@ -120,17 +122,35 @@ static int is_codeword(const code *c, size_t n, const uint8_t *wiring, const uin
     return 1;
 }
 
-static void sweep(const code *c, int right, size_t n, const uint8_t *wiring, uint8_t *block)
+/* Answers how many bits were changed: each stands at one vertex of the side. */
+static unsigned sweep(const code *c, int right, size_t n, const uint8_t *wiring, uint8_t *block)
 {
+    unsigned changed = 0;
     for (size_t v = 0; v < n; v++)
-        write_word(c, right, wiring, block, v, nearest(c, read_word(c, right, wiring, block, v)));
+        write_word(c, right, wiring, block, v, nearest(c, read_word(c, right, wiring, block, v), &changed));
+    return changed;
+}
+
+int plain_nearest_word(const uint8_t *sheet, size_t sheet_bytes, uint64_t word, uint64_t *nearest_word, uint64_t *changed)
+{
+    code c;
+    unsigned ones = 0;
+    int fault = check_sheet(sheet, sheet_bytes, &c);
+    if (fault)
+        return fault;
+    if (word >> c.d)
+        return 12;
+    *nearest_word = nearest(&c, (unsigned)word, &ones);
+    *changed = ones;
+    return 0;
 }
 
 int plain_decode(const uint8_t *sheet, size_t sheet_bytes, size_t n, const uint8_t *wiring, size_t wiring_bytes,
                  const uint8_t *received, size_t received_bytes, uint8_t *output, size_t output_bytes, size_t limit,
-                 size_t *sweeps)
+                 size_t *sweeps, uint16_t sums[64])
 {
     code c;
+    memset(sums, 0, 64 * sizeof *sums);
     int fault = check_sheet(sheet, sheet_bytes, &c);
     if (!fault)
         fault = check_wiring(&c, n, wiring, wiring_bytes);
@@ -153,7 +173,9 @@ int plain_decode(const uint8_t *sheet, size_t sheet_bytes, size_t n, const uint8
         }
         if (count == limit)
             break;
-        sweep(&c, count % 2, n, wiring, output);
+        unsigned changed = sweep(&c, count % 2, n, wiring, output);
+        if (count < 64)
+            sums[count] = (uint16_t)changed;
     }
     memcpy(output, received, received_bytes);
     return 15;

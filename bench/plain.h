@@ -5,10 +5,14 @@
 #include <stddef.h>
 #include <stdint.h>
 
-/* The straightforward port of the paper: nearest word by search over the codewords, both sides tested before each sweep. */
+/* The nearest word by search over the codewords, and the bits that it changed. */
+int plain_nearest_word(const uint8_t *sheet, size_t sheet_bytes, uint64_t word, uint64_t *nearest_word, uint64_t *changed);
+
+/* The straightforward port of the paper: nearest word by search over the codewords, both sides tested before each sweep. The
+ * sums are what the visits of each of the first 64 sweeps changed, added up. */
 int plain_decode(const uint8_t *sheet, size_t sheet_bytes, size_t n, const uint8_t *wiring, size_t wiring_bytes,
                  const uint8_t *received, size_t received_bytes, uint8_t *output, size_t output_bytes, size_t limit,
-                 size_t *sweeps);
+                 size_t *sweeps, uint16_t sums[64]);
 
 /* The library's elimination, written in C: a set of rows for each bit, as eight words of 64. */
 int plain_encode(const uint8_t *sheet, size_t sheet_bytes, size_t n, const uint8_t *wiring, size_t wiring_bytes,

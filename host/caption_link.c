@@ -1,7 +1,8 @@
 /* caption_link: carries a line of caption text over a simulated link, block by block.
  *
  * It shows the calls in the order in which a host needs them: learn what a plan carries and covers, encode, decode, report,
- * read; then what a refusal looks like. Nothing is kept between calls, so there is nothing to open or to close.
+ * show how hard the decoder worked, read; then what a refusal looks like. Nothing is kept between calls, so there is nothing to
+ * open or to close.
  */
 #include "lembikat.h"
 
@@ -103,6 +104,23 @@ static size_t message_bits(void)
     return bits;
 }
 
+/* The meter: a line a sweep, with a mark for each bit that the sweep changed. Dots fill the bar up to the flips that are
+ * covered, so that it can be seen how much of the margin the link takes. The sweeps made are `limit` where the block is
+ * unsettled. */
+#define LONGEST_BAR 60
+
+static void show_meter(const lembikat_decode_answer *answer, uint64_t limit, size_t covered)
+{
+    uint64_t made = answer->number == LEMBIKAT_UNSETTLED ? limit : answer->value;
+    for (uint64_t i = 0; i < made && i < LEMBIKAT_SUMS; i++) {
+        unsigned sum = answer->sums[i];
+        printf("  sweep %llu  ", (unsigned long long)(i + 1));
+        for (unsigned bit = 0; bit < LONGEST_BAR && (bit < sum || bit < covered); bit++)
+            putchar(bit < sum ? '#' : '.');
+        printf("%s  %u bit%s\n", sum > LONGEST_BAR ? "+" : "", sum, sum == 1 ? "" : "s");
+    }
+}
+
 /* The link. It flips so many different bits of the block; the same ones in every run, so that runs can be compared. */
 static uint32_t noise = 20240229;
 
@@ -163,7 +181,8 @@ int main(void)
         send_over_link(sent, received, flips);
 
         /* On the far side. No more flips than the margin covers: the sweeps that it names are enough. */
-        uint64_t taken = must("decode", lembikat_decode(PLAN, received, sizeof received, settled, sizeof settled, sweeps));
+        lembikat_decode_answer decoded = lembikat_decode(PLAN, received, sizeof received, settled, sizeof settled, sweeps);
+        uint64_t taken = must("decode", (lembikat_answer){decoded.number, decoded.place, decoded.value});
         uint64_t runs =
             must("report", lembikat_report(PLAN, received, sizeof received, settled, sizeof settled, list, sizeof list));
         printf("block %zu: settled after %llu sweep%s, mended bits", b + 1, (unsigned long long)taken, taken == 1 ? "" : "s");
@@ -175,6 +194,7 @@ int main(void)
                 printf(" %u-%u", offset, offset + length - 1);
         }
         printf("\n");
+        show_meter(&decoded, sweeps, flips);
         must("read", lembikat_read(PLAN, settled, sizeof settled, message, sizeof message));
         for (size_t i = 0; i < bits && b * bits + i < text_bits; i++)
             if (get_bit(message, i))
@@ -190,14 +210,15 @@ int main(void)
     for (size_t i = 0; i < sizeof received; i++)
         received[i] = (uint8_t)(next_noise() >> 16);
     memset(settled, 0, sizeof settled);
-    lembikat_answer answer = lembikat_decode(PLAN, received, sizeof received, settled, sizeof settled, sweeps);
+    lembikat_decode_answer answer = lembikat_decode(PLAN, received, sizeof received, settled, sizeof settled, sweeps);
     printf("noise: refused %u: %s\n", answer.number, in_words(answer.number));
     if (answer.number != LEMBIKAT_UNSETTLED || memcmp(settled, received, sizeof settled) != 0)
         return 1;
+    show_meter(&answer, sweeps, flips);
     printf("  the output holds the received block\n");
-    answer = lembikat_locate(PLAN, received, sizeof received);
-    printf("  first vertex that reads no codeword: %s %llu\n", answer.place == LEMBIKAT_LEFT ? "left" : "right",
-           (unsigned long long)answer.value);
+    lembikat_answer located = lembikat_locate(PLAN, received, sizeof received);
+    printf("  first vertex that reads no codeword: %s %llu\n", located.place == LEMBIKAT_LEFT ? "left" : "right",
+           (unsigned long long)located.value);
 
     /* A damaged plan is refused by every call, with the place of the fault, and nothing is written. */
     memcpy(wiring + 2 * 37, wiring + 2 * 5, 2);

@@ -1,5 +1,6 @@
-/* The services as document 01 states them, by the plainest means: codewords are listed, the nearest word and the test try all
- * of them, a block is held with one byte a bit, the spread fills a table of all pairs of vertices. */
+/* The services as documents 01 and 02 state them, by the plainest means: codewords are listed, the nearest word and the test
+ * try all of them, a block is held with one byte a bit, what a sweep changed is counted on the blocks before and after it, the
+ * spread fills a table of all pairs of vertices. */
 #include "reference.h"
 
 #include <stdio.h>
@@ -9,6 +10,7 @@
 #define MAX_EDGES 32768
 #define MAX_WORDS 2048    /* 2 to the power of 11 rows */
 #define MESSAGE_EDGES 512 /* messages are for N up to this */
+#define SWEEPS_TOLD 64    /* the first sweeps, whose sums the decoder tells */
 
 typedef struct {
     unsigned d, k;
@@ -206,6 +208,31 @@ static void sweep(const plan *p, int side, uint8_t *bit)
     }
 }
 
+/* At how many places two lists of bits differ. */
+static unsigned differences(const uint8_t *bit, const uint8_t *other, size_t bits)
+{
+    unsigned count = 0;
+    for (size_t i = 0; i < bits; i++)
+        count += bit[i] != other[i];
+    return count;
+}
+
+/* The whole block is tested before each sweep, and kept, so that it can be compared with the block after the sweep. */
+static lembikat_answer settle(const plan *p, size_t limit, uint8_t *bit, uint16_t *sums)
+{
+    static uint8_t before[MAX_EDGES];
+    for (size_t count = 0;; count++) {
+        if (is_codeword(p, bit))
+            return done(0, count);
+        if (count == limit)
+            return refused(15, 0);
+        memcpy(before, bit, p->edges);
+        sweep(p, count % 2 == 0 ? LEFT : RIGHT, bit);
+        if (count < SWEEPS_TOLD)
+            sums[count] = (uint16_t)differences(before, bit, p->edges);
+    }
+}
+
 /* The largest, over u, of the sum over all w of |n G(u, w) - d d|. G(u, w) counts, at every right vertex, the pairs of an
  * edge from u and an edge from w. */
 static uint64_t spread(const plan *p)
@@ -347,14 +374,18 @@ static uint8_t the_bits[MAX_EDGES], other_bits[MAX_EDGES];
 static row the_basis[MESSAGE_EDGES];
 static size_t the_positions[MESSAGE_EDGES];
 
-lembikat_answer reference_nearest_word(const uint8_t *sheet, size_t sheet_bytes, uint64_t word)
+lembikat_word_answer reference_nearest_word(const uint8_t *sheet, size_t sheet_bytes, uint64_t word)
 {
     lembikat_answer answer = check_sheet(sheet, sheet_bytes, &the_plan);
-    if (answer.number != 0)
-        return answer;
-    if (word >= (uint64_t)1 << the_plan.d)
-        return refused(12, 0);
-    return done(0, nearest(&the_plan, (unsigned)word));
+    uint64_t changed = 0;
+    if (answer.number == 0 && word >= (uint64_t)1 << the_plan.d)
+        answer = refused(12, 0);
+    if (answer.number == 0) {
+        answer = done(0, nearest(&the_plan, (unsigned)word));
+        for (unsigned j = 0; j < the_plan.d; j++)
+            changed += (word >> j & 1) != (answer.value >> j & 1);
+    }
+    return (lembikat_word_answer){.number = answer.number, .place = answer.place, .value = answer.value, .changed = changed};
 }
 
 lembikat_answer reference_locate(const uint8_t *sheet, size_t sheet_bytes, size_t n, const uint8_t *wiring, size_t wiring_bytes,
@@ -370,32 +401,31 @@ lembikat_answer reference_locate(const uint8_t *sheet, size_t sheet_bytes, size_
     return first_unsatisfied(p, the_bits);
 }
 
-lembikat_answer reference_decode(const uint8_t *sheet, size_t sheet_bytes, size_t n, const uint8_t *wiring, size_t wiring_bytes,
-                                 const uint8_t *received, size_t received_bytes, uint8_t *output, size_t output_bytes,
-                                 size_t limit)
+lembikat_decode_answer reference_decode(const uint8_t *sheet, size_t sheet_bytes, size_t n, const uint8_t *wiring,
+                                        size_t wiring_bytes, const uint8_t *received, size_t received_bytes, uint8_t *output,
+                                        size_t output_bytes, size_t limit)
 {
     plan *p = &the_plan;
+    lembikat_decode_answer told = {.sums = {0}};
     lembikat_answer answer = check_plan(sheet, sheet_bytes, n, wiring, wiring_bytes, p);
     if (answer.number == 0)
         answer = check_block(p, received, received_bytes);
-    if (answer.number != 0)
-        return answer;
-    if (output_bytes < received_bytes)
-        return refused(13, 0);
-    if (limit > 4096)
-        return refused(14, 0);
-    unpack(received, p->edges, the_bits);
-    for (size_t count = 0;; count++) {
-        if (is_codeword(p, the_bits)) {
+    if (answer.number == 0 && output_bytes < received_bytes)
+        answer = refused(13, 0);
+    if (answer.number == 0 && limit > 4096)
+        answer = refused(14, 0);
+    if (answer.number == 0) {
+        unpack(received, p->edges, the_bits);
+        answer = settle(p, limit, the_bits, told.sums);
+        if (answer.number == 0)
             pack(the_bits, p->edges, output);
-            return done(0, count);
-        }
-        if (count == limit)
-            break;
-        sweep(p, count % 2 == 0 ? LEFT : RIGHT, the_bits);
+        else
+            memcpy(output, received, received_bytes);
     }
-    memcpy(output, received, received_bytes);
-    return refused(15, 0);
+    told.number = answer.number;
+    told.place = answer.place;
+    told.value = answer.value;
+    return told;
 }
 
 lembikat_answer reference_report(const uint8_t *sheet, size_t sheet_bytes, size_t n, const uint8_t *wiring, size_t wiring_bytes,

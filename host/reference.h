@@ -1,20 +1,20 @@
-/* A second, slow and plain set of the services, for tests alone: what document 01 says, by listing and searching.
+/* A second, slow and plain set of the services, for tests alone: what documents 01 and 02 say, by listing and searching.
  *
- * Parameters and answers are those of the lembikat_ calls, so that a test can put the two side by side. Only the type of the
- * answer is shared with the library. */
+ * Parameters and answers are those of the lembikat_ calls, so that a test can put the two side by side. Only the types of
+ * the answers are shared with the library. */
 #ifndef REFERENCE_H
 #define REFERENCE_H
 
 #include "lembikat.h"
 
-lembikat_answer reference_nearest_word(const uint8_t *sheet, size_t sheet_bytes, uint64_t word);
+lembikat_word_answer reference_nearest_word(const uint8_t *sheet, size_t sheet_bytes, uint64_t word);
 
 lembikat_answer reference_locate(const uint8_t *sheet, size_t sheet_bytes, size_t n, const uint8_t *wiring, size_t wiring_bytes,
                                  const uint8_t *block, size_t block_bytes);
 
-lembikat_answer reference_decode(const uint8_t *sheet, size_t sheet_bytes, size_t n, const uint8_t *wiring, size_t wiring_bytes,
-                                 const uint8_t *received, size_t received_bytes, uint8_t *output, size_t output_bytes,
-                                 size_t limit);
+lembikat_decode_answer reference_decode(const uint8_t *sheet, size_t sheet_bytes, size_t n, const uint8_t *wiring,
+                                        size_t wiring_bytes, const uint8_t *received, size_t received_bytes, uint8_t *output,
+                                        size_t output_bytes, size_t limit);
 
 lembikat_answer reference_report(const uint8_t *sheet, size_t sheet_bytes, size_t n, const uint8_t *wiring, size_t wiring_bytes,
                                  const uint8_t *received, size_t received_bytes, const uint8_t *settled, size_t settled_bytes,

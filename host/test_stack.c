@@ -52,46 +52,46 @@ static uint8_t zeros[LEMBIKAT_MAX_BLOCK_BYTES], noise[LEMBIKAT_MAX_BLOCK_BYTES],
 static uint8_t list[LEMBIKAT_MAX_LIST_BYTES];
 static uint8_t message[LEMBIKAT_MAX_MESSAGE_BYTES], block[LEMBIKAT_MAX_MESSAGE_BYTES];
 static size_t message_bytes;
-static lembikat_answer answer;
+static uint32_t number; /* what the last call answered */
 
 static void nearest_word(void)
 {
-    answer = lembikat_nearest_word(sheet, sizeof sheet, 0xbeef);
+    number = lembikat_nearest_word(sheet, sizeof sheet, 0xbeef).number;
 }
 
 static void locate(void)
 {
-    answer = lembikat_locate(LARGE_PLAN, zeros, sizeof zeros); /* a codeword, so that both sides are looked at */
+    number = lembikat_locate(LARGE_PLAN, zeros, sizeof zeros).number; /* a codeword, so that both sides are looked at */
 }
 
 static void decode(void)
 {
-    answer = lembikat_decode(LARGE_PLAN, noise, sizeof noise, output, sizeof output, SWEEPS);
+    number = lembikat_decode(LARGE_PLAN, noise, sizeof noise, output, sizeof output, SWEEPS).number;
 }
 
 static void report(void)
 {
-    answer = lembikat_report(LARGE_PLAN, zeros, sizeof zeros, noise, sizeof noise, list, sizeof list);
+    number = lembikat_report(LARGE_PLAN, zeros, sizeof zeros, noise, sizeof noise, list, sizeof list).number;
 }
 
 static void spread(void)
 {
-    answer = lembikat_spread(LARGE_PLAN);
+    number = lembikat_spread(LARGE_PLAN).number;
 }
 
 static void margin(void)
 {
-    answer = lembikat_margin(LARGE_PLAN, 1);
+    number = lembikat_margin(LARGE_PLAN, 1).number;
 }
 
 static void encode(void)
 {
-    answer = lembikat_encode(SMALL_PLAN, message, message_bytes, block, sizeof block);
+    number = lembikat_encode(SMALL_PLAN, message, message_bytes, block, sizeof block).number;
 }
 
 static void read_block(void)
 {
-    answer = lembikat_read(SMALL_PLAN, block, sizeof block, message, sizeof message);
+    number = lembikat_read(SMALL_PLAN, block, sizeof block, message, sizeof message).number;
 }
 
 static void nothing(void)
@@ -178,8 +178,8 @@ int main(void)
             printf("FAILED: %s is allowed %zu\n", calls[i].name, calls[i].allowed);
             bad = 1;
         }
-        if (answer.number != calls[i].number) {
-            printf("FAILED: %s answered %u instead of %u\n", calls[i].name, answer.number, calls[i].number);
+        if (number != calls[i].number) {
+            printf("FAILED: %s answered %u instead of %u\n", calls[i].name, number, calls[i].number);
             bad = 1;
         }
     }

@@ -2,7 +2,8 @@
  *
  * Part one runs every record of a stream of calls and compares the line that it gives with the expected one. Part two makes
  * 20,000 calls from a fixed seed, about half of them with faults, and compares every answer and every lent byte with
- * reference.c. The last line is `test_vectors: N passed, M failed`; the exit status is 1 where one failed.
+ * reference.c; before them it tries some borders that chance does not meet. The last line is `test_vectors: N passed, M
+ * failed`; the exit status is 1 where one failed.
  *
  * The sanitizers do not see into the library. So every call is made twice: once with buffers on the heap, what is written
  * between canaries, and once with every buffer ending where a page begins that may neither be read nor written. Both must
@@ -20,6 +21,11 @@
 #include <unistd.h>
 
 _Static_assert(sizeof(size_t) == 8, "numbers of the stream have 64 bits and are handed on as sizes");
+
+/* The library lays its answers out field by field: where a compiler put a gap the two would not speak of the same bytes. */
+_Static_assert(sizeof(lembikat_answer) == 16, "the answer has a gap");
+_Static_assert(sizeof(lembikat_word_answer) == 24, "the nearest word's answer has a gap");
+_Static_assert(sizeof(lembikat_decode_answer) == 144, "the decoder's answer has a gap");
 
 #define RANDOM_CALLS 20000
 #define SHOWN_FAILURES 10
@@ -48,17 +54,19 @@ typedef struct {
 
 /* What came out of it. */
 typedef struct {
-    lembikat_answer answer;
+    lembikat_answer answer;       /* the part that all answers have */
+    uint64_t changed;             /* the nearest word's; 0 of the other services */
+    uint16_t sums[LEMBIKAT_SUMS]; /* the decoder's; 0 of the other services */
     uint8_t lent[ROOM];
     const char *trouble; /* what was touched that must not be, or NULL */
 } outcome;
 
 /* The library and the reference have the same eight functions. */
 typedef struct {
-    lembikat_answer (*nearest_word)(const uint8_t *, size_t, uint64_t);
+    lembikat_word_answer (*nearest_word)(const uint8_t *, size_t, uint64_t);
     lembikat_answer (*locate)(const uint8_t *, size_t, size_t, const uint8_t *, size_t, const uint8_t *, size_t);
-    lembikat_answer (*decode)(const uint8_t *, size_t, size_t, const uint8_t *, size_t, const uint8_t *, size_t, uint8_t *,
-                              size_t, size_t);
+    lembikat_decode_answer (*decode)(const uint8_t *, size_t, size_t, const uint8_t *, size_t, const uint8_t *, size_t,
+                                     uint8_t *, size_t, size_t);
     lembikat_answer (*report)(const uint8_t *, size_t, size_t, const uint8_t *, size_t, const uint8_t *, size_t,
                               const uint8_t *, size_t, uint8_t *, size_t);
     lembikat_answer (*spread)(const uint8_t *, size_t, size_t, const uint8_t *, size_t);
@@ -95,29 +103,46 @@ static void *take(size_t size)
 
 /* ---- one call ---- */
 
-static lembikat_answer invoke(const services *s, const call *c, uint8_t *const at[FIELDS])
+static void invoke(const services *s, const call *c, uint8_t *const at[FIELDS], outcome *o)
 {
     const uint8_t *sheet = at[SHEET], *wiring = at[WIRING], *first = at[FIRST], *second = at[SECOND];
     uint8_t *lent = at[LENT];
     size_t sheet_size = c->field[SHEET].size, wiring_size = c->field[WIRING].size;
     size_t first_size = c->field[FIRST].size, second_size = c->field[SECOND].size, lent_size = c->field[LENT].size;
+    o->changed = 0;
+    memset(o->sums, 0, sizeof o->sums);
     switch (c->service) {
-    case 1:
-        return s->nearest_word(sheet, sheet_size, c->number);
+    case 1: {
+        lembikat_word_answer word = s->nearest_word(sheet, sheet_size, c->number);
+        o->answer = (lembikat_answer){word.number, word.place, word.value};
+        o->changed = word.changed;
+        break;
+    }
     case 3:
-        return s->locate(sheet, sheet_size, c->n, wiring, wiring_size, first, first_size);
-    case 4:
-        return s->decode(sheet, sheet_size, c->n, wiring, wiring_size, first, first_size, lent, lent_size, c->number);
+        o->answer = s->locate(sheet, sheet_size, c->n, wiring, wiring_size, first, first_size);
+        break;
+    case 4: {
+        lembikat_decode_answer decoded =
+            s->decode(sheet, sheet_size, c->n, wiring, wiring_size, first, first_size, lent, lent_size, c->number);
+        o->answer = (lembikat_answer){decoded.number, decoded.place, decoded.value};
+        memcpy(o->sums, decoded.sums, sizeof o->sums);
+        break;
+    }
     case 5:
-        return s->report(sheet, sheet_size, c->n, wiring, wiring_size, first, first_size, second, second_size, lent, lent_size);
+        o->answer =
+            s->report(sheet, sheet_size, c->n, wiring, wiring_size, first, first_size, second, second_size, lent, lent_size);
+        break;
     case 6:
-        return s->spread(sheet, sheet_size, c->n, wiring, wiring_size);
+        o->answer = s->spread(sheet, sheet_size, c->n, wiring, wiring_size);
+        break;
     case 7:
-        return s->margin(sheet, sheet_size, c->n, wiring, wiring_size, c->number);
+        o->answer = s->margin(sheet, sheet_size, c->n, wiring, wiring_size, c->number);
+        break;
     case 8:
-        return s->encode(sheet, sheet_size, c->n, wiring, wiring_size, first, first_size, lent, lent_size);
+        o->answer = s->encode(sheet, sheet_size, c->n, wiring, wiring_size, first, first_size, lent, lent_size);
+        break;
     default:
-        return s->read(sheet, sheet_size, c->n, wiring, wiring_size, first, first_size, lent, lent_size);
+        o->answer = s->read(sheet, sheet_size, c->n, wiring, wiring_size, first, first_size, lent, lent_size);
     }
 }
 
@@ -159,7 +184,7 @@ static void run_on_heap(const services *s, const call *c, outcome *o)
         at[f] = f == LENT ? around + CANARIES : take(size);
         memcpy(at[f], c->field[f].data, size);
     }
-    o->answer = invoke(s, c, at);
+    invoke(s, c, at, o);
     look_after(c, at, o);
     for (size_t i = 0; i < CANARIES; i++)
         if (around[i] != canary(i) || around[CANARIES + lent + i] != canary(i))
@@ -194,13 +219,14 @@ static void run_fenced(const services *s, const call *c, outcome *o)
     /* Buffers that are only read may be one and the same. */
     if (c->field[FIRST].size == c->field[SECOND].size && same_bytes(at[FIRST], at[SECOND], c->field[FIRST].size))
         at[SECOND] = at[FIRST];
-    o->answer = invoke(s, c, at);
+    invoke(s, c, at, o);
     look_after(c, at, o);
 }
 
 static int same_outcome(const call *c, const outcome *a, const outcome *b)
 {
     return a->answer.number == b->answer.number && a->answer.place == b->answer.place && a->answer.value == b->answer.value &&
+           a->changed == b->changed && memcmp(a->sums, b->sums, sizeof a->sums) == 0 &&
            same_bytes(a->lent, b->lent, c->field[LENT].size);
 }
 
@@ -227,6 +253,30 @@ static int failed(int bad)
         return 0;
     failures++;
     return failures <= SHOWN_FAILURES;
+}
+
+#define SUMS_ROOM (6 * LEMBIKAT_SUMS) /* five digits and a comma each, a zero at the end */
+
+/* The sums as one word: joined by commas, without the zeros at the end. */
+static void put_sums(char *to, const uint16_t *sums)
+{
+    size_t told = LEMBIKAT_SUMS;
+    while (told > 0 && sums[told - 1] == 0)
+        told--;
+    strcpy(to, "-");
+    for (size_t i = 0; i < told; i++)
+        to += sprintf(to, "%s%u", i == 0 ? "" : ",", sums[i]);
+}
+
+static void show(const char *who, const call *c, const outcome *o)
+{
+    char sums[SUMS_ROOM];
+    printf("  %s number %u place %u value %llu lent", who, o->answer.number, o->answer.place,
+           (unsigned long long)o->answer.value);
+    for (size_t i = 0; i < c->field[LENT].size && i < 64; i++)
+        printf("%s%02x", i == 0 ? " " : "", o->lent[i]);
+    put_sums(sums, o->sums);
+    printf(" changed %llu sums %s\n", (unsigned long long)o->changed, sums);
 }
 
 /* ---- part one: the stored stream ---- */
@@ -302,14 +352,16 @@ static call next_record(void)
     return c;
 }
 
-/* The line that a call gives: the answer, then the whole lent buffer where there is one. */
+/* The line that a call gives: the answer, then the whole lent buffer where there is one, then the sums of the decoder. */
 static const char *line_of(const call *c, const outcome *o)
 {
-    static char line[2 * ROOM + 100];
+    static char line[2 * ROOM + SUMS_ROOM + 100];
     char *end = line;
     lembikat_answer a = o->answer;
     if (a.number != LEMBIKAT_DONE)
         end += sprintf(end, "refused %u %u", a.number, a.place);
+    else if (c->service == 1)
+        end += sprintf(end, "ok %llu %llu", (unsigned long long)a.value, (unsigned long long)o->changed);
     else if (c->service >= 8)
         end += sprintf(end, "ok");
     else if (c->service != 3)
@@ -323,6 +375,10 @@ static const char *line_of(const call *c, const outcome *o)
         end += sprintf(end, "%s", size == 0 ? " -" : " ");
         for (size_t i = 0; i < size; i++)
             end += sprintf(end, "%02x", o->lent[i]);
+    }
+    if (c->service == 4) {
+        *end++ = ' ';
+        put_sums(end, o->sums);
     }
     return line;
 }
@@ -343,6 +399,15 @@ static const char *next_line(char **text)
     return line;
 }
 
+/* What is shown of a line: 200 characters from here on, so that the place where it leaves the other line is among them. */
+static const char *shown(const char *line, const char *other)
+{
+    size_t same = 0;
+    while (line[same] != '\0' && line[same] == other[same])
+        same++;
+    return line + (same > 100 ? same - 100 : 0);
+}
+
 static void part_one(const char *stream_name, const char *expected_name)
 {
     size_t stream_size, expected_size;
@@ -361,14 +426,18 @@ static void part_one(const char *stream_name, const char *expected_name)
             continue;
         }
         run_all(&c);
-        if (failed(want == NULL || strcmp(line_of(&c, &by_library), want) != 0 || by_library.trouble != NULL))
+        const char *line = line_of(&c, &by_library);
+        if (want == NULL)
+            want = "(no line)";
+        if (failed(strcmp(line, want) != 0 || by_library.trouble != NULL))
             printf("FAILED: record %zu (%s)\n  expected %.200s\n  library  %.200s\n  %s\n", records, service_names[c.service],
-                   want == NULL ? "(no line)" : want, line_of(&c, &by_library),
-                   by_library.trouble == NULL ? "" : by_library.trouble);
+                   shown(want, line), shown(line, want), by_library.trouble == NULL ? "" : by_library.trouble);
         /* The stored lines also vouch for the reference, which part two leans on. */
-        if (failed(!same_outcome(&c, &by_library, &by_reference)))
-            printf("FAILED: record %zu (%s)\n  expected  %.200s\n  reference %.200s\n", records, service_names[c.service],
-                   want == NULL ? "(no line)" : want, line_of(&c, &by_reference));
+        if (failed(!same_outcome(&c, &by_library, &by_reference))) {
+            printf("FAILED: record %zu (%s) beside the reference\n", records, service_names[c.service]);
+            show("reference", &c, &by_reference);
+            show("library  ", &c, &by_library);
+        }
     }
     if (failed(next_line(&text) != NULL))
         printf("FAILED: there are more expected lines than records\n");
@@ -613,13 +682,19 @@ static void draw_codeword(uint8_t *block)
     }
 }
 
+/* Any block. */
+static void draw_noise(uint8_t *block)
+{
+    draw_bytes(block, plan.block);
+    if (plan.edges % 8 != 0)
+        block[plan.block - 1] &= (uint8_t)(0xff00u >> plan.edges % 8);
+}
+
 /* A block as it might be received: now and then anything, mostly a codeword with some bits flipped. */
 static void draw_block(uint8_t *block)
 {
     if (one_in(8)) {
-        draw_bytes(block, plan.block);
-        if (plan.edges % 8 != 0)
-            block[plan.block - 1] &= (uint8_t)(0xff00u >> plan.edges % 8);
+        draw_noise(block);
         return;
     }
     draw_codeword(block);
@@ -786,11 +861,14 @@ static void spoil(call *c)
     }
 }
 
+/* Few sweeps, many, or about as many as have their sums told. */
 static uint64_t draw_limit(void)
 {
     size_t work = plan.n << plan.k; /* what the reference tries in a sweep */
     if (work <= 512 && one_in(3))
         return one_in(2) ? LEMBIKAT_MAX_LIMIT : draw(LEMBIKAT_MAX_LIMIT);
+    if (work <= 8192 && one_in(3))
+        return LEMBIKAT_SUMS - 1 + draw(3);
     if (work <= 65536 && one_in(3))
         return draw(31);
     return draw(work <= 65536 ? 7 : 4);
@@ -818,7 +896,10 @@ static call draw_whole_call(unsigned service)
         c.field[FIRST] = (bytes){first, plan.block};
         break;
     case 4:
-        draw_block(first);
+        if (one_in(3))
+            draw_noise(first); /* so that more blocks stay unsettled */
+        else
+            draw_block(first);
         c.field[FIRST] = (bytes){first, plan.block};
         c.field[LENT] = (bytes){lent, plan.block + spare};
         c.number = draw_limit();
@@ -866,15 +947,6 @@ static call draw_whole_call(unsigned service)
     return c;
 }
 
-static void show(const char *who, const call *c, const outcome *o)
-{
-    printf("  %s number %u place %u value %llu lent", who, o->answer.number, o->answer.place,
-           (unsigned long long)o->answer.value);
-    for (size_t i = 0; i < c->field[LENT].size && i < 64; i++)
-        printf("%s%02x", i == 0 ? " " : "", o->lent[i]);
-    printf("\n");
-}
-
 /* Compares the library with the reference on one call of part two. */
 static void compare(const char *kind, size_t i, const call *c)
 {
@@ -908,6 +980,123 @@ static void border_calls(void)
     }
 }
 
+/* A call of the decoder on what stands in the sheet, the wiring and the first block. */
+static call decoder_call(size_t n, uint64_t limit)
+{
+    call c = {.service = 4, .n = n, .number = limit};
+    size_t block = LEMBIKAT_BLOCK_BYTES(n, plan.d);
+    c.field[SHEET] = (bytes){sheet, 2 + 2 * (size_t)plan.k};
+    c.field[WIRING] = (bytes){wiring, 2 * n * plan.d};
+    c.field[FIRST] = (bytes){first, block};
+    c.field[LENT] = (bytes){lent, block};
+    return c;
+}
+
+/* A chain: each vertex reads two bits that must be alike and, where they are not, gives its second bit the value of the first.
+ * A 1 at the head is handed on by one place in each sweep, so the block settles only after 2n - 2 sweeps, or 2n - 1 where the
+ * first to hand it on is a right vertex. The last bit hears from the head too, and is changed to and fro until the 1 arrives:
+ * sweep 1 changes one bit, every later one two. */
+static void chain_call(size_t n, int right_first, size_t limit)
+{
+    static size_t calls;
+    size_t count = right_first ? 2 * n - 1 : 2 * n - 2, made = count <= limit ? count : limit;
+    plan.d = 2;
+    plan.k = 1;
+    memcpy(sheet, (const uint8_t[]){2, 1, 0, 3}, 4);
+    for (size_t v = 0; v < n; v++) {
+        put_pair(wiring, 2 * v, 2 * v + 1);
+        put_pair(wiring, 2 * v + 1, 2 * v + 2);
+    }
+    if (right_first) { /* from bit 0 by right vertex 0 to bit 2, .. to bit 2n - 1, by the last right vertex to bit 1 */
+        put_pair(wiring, 0, 0);
+        put_pair(wiring, 2 * n - 1, 1);
+    } else { /* from bit 0 by left vertex 0 to bit 1, .. by the last left vertex to bit 2n - 1 */
+        put_pair(wiring, 2 * n - 2, 0);
+        put_pair(wiring, 2 * n - 1, 2 * n - 1);
+    }
+    memset(first, 0, LEMBIKAT_BLOCK_BYTES(n, 2));
+    flip(first, 0);
+    call c = decoder_call(n, limit);
+    compare("chain", calls++, &c);
+
+    int right = by_library.answer.number == (count <= limit ? LEMBIKAT_DONE : LEMBIKAT_UNSETTLED) &&
+                by_library.answer.value == (count <= limit ? count : 0);
+    for (size_t i = 0; i < LEMBIKAT_SUMS; i++)
+        right &= by_library.sums[i] == (i >= made ? 0 : i == 0 ? 1 : 2);
+    if (failed(!right)) {
+        printf("FAILED: chain of n %zu with limit %zu, which settles after %zu sweeps\n", n, limit, count);
+        show("library  ", &c, &by_library);
+    }
+}
+
+/* Counts and limits below, at and above the sweeps whose sums are told, and the latest count of all chains. */
+static void chain_calls(void)
+{
+    static const size_t sizes[] = {2, 3, 31, 32, 33, 34}, limits[] = {0, 1, 2, 3, 62, 63, 64, 65, 66, 67, LEMBIKAT_MAX_LIMIT};
+    for (size_t i = 0; i < sizeof sizes / sizeof sizes[0]; i++)
+        for (size_t j = 0; j < sizeof limits / sizeof limits[0]; j++) {
+            chain_call(sizes[i], 0, limits[j]);
+            chain_call(sizes[i], 1, limits[j]);
+        }
+    chain_call(LEMBIKAT_MAX_VERTICES, 1, LEMBIKAT_MAX_LIMIT - 2);
+    chain_call(LEMBIKAT_MAX_VERTICES, 1, LEMBIKAT_MAX_LIMIT - 1);
+}
+
+/* The largest sum: at each of 2,048 vertices the word is sixteen ones, the codewords are zero and a lone 1, and 15 bits are
+ * changed. No plan has more: sixteen ones get fewer with any codeword put on them. */
+static void largest_sum(void)
+{
+    plan.d = 16;
+    plan.k = 1;
+    memcpy(sheet, (const uint8_t[]){16, 1, 0, 1}, 4);
+    for (size_t i = 0; i < MAX_EDGES; i++)
+        put_pair(wiring, i, i);
+    memset(first, 0xff, MAX_BLOCK);
+    call c = decoder_call(LEMBIKAT_MAX_VERTICES, 1);
+    compare("largest sum", 0, &c);
+    if (failed(by_library.answer.number != LEMBIKAT_DONE || by_library.answer.value != 1 ||
+               by_library.sums[0] != 15 * LEMBIKAT_MAX_VERTICES)) {
+        printf("FAILED: one sweep changes 15 bits at every vertex\n");
+        show("library  ", &c, &by_library);
+    }
+}
+
+/* How the decoder's random calls ended, by their limit, since what the sums tell depends on both: a codeword from the start,
+ * settled after some sweeps, unsettled. */
+enum { AT_ONCE, SWEPT, UNSETTLED, ENDS };
+static const size_t limit_from[] = {0, 1, 2, 3, LEMBIKAT_SUMS - 1, LEMBIKAT_SUMS, LEMBIKAT_SUMS + 1, LEMBIKAT_SUMS + 2};
+#define LIMITS (sizeof limit_from / sizeof limit_from[0])
+static size_t ends_by_limit[LIMITS][ENDS];
+
+static void note_end(uint64_t limit, lembikat_answer answer)
+{
+    size_t i = LIMITS - 1;
+    while (limit < limit_from[i])
+        i--;
+    if (answer.number == LEMBIKAT_UNSETTLED)
+        ends_by_limit[i][UNSETTLED]++;
+    else if (answer.number == LEMBIKAT_DONE)
+        ends_by_limit[i][answer.value == 0 ? AT_ONCE : SWEPT]++;
+}
+
+static void show_ends(void)
+{
+    printf("the decoder's by limit  at once    swept unsettled\n");
+    for (size_t i = 0; i < LIMITS; i++) {
+        const size_t *ends = ends_by_limit[i];
+        char limits[32];
+        if (i + 1 == LIMITS)
+            snprintf(limits, sizeof limits, "%zu and above", limit_from[i]);
+        else if (limit_from[i + 1] - limit_from[i] == 1)
+            snprintf(limits, sizeof limits, "%zu", limit_from[i]);
+        else
+            snprintf(limits, sizeof limits, "%zu to %zu", limit_from[i], limit_from[i + 1] - 1);
+        printf("%22s %8zu %8zu %9zu\n", limits, ends[AT_ONCE], ends[SWEPT], ends[UNSETTLED]);
+        if (failed(ends[AT_ONCE] == 0 || (ends[SWEPT] == 0 && limit_from[i] != 0) || ends[UNSETTLED] == 0))
+            printf("FAILED: no random call with this limit ended in one of these ways\n");
+    }
+}
+
 static void part_two(void)
 {
     static const unsigned called[8] = {1, 3, 4, 5, 6, 7, 8, 9};
@@ -920,6 +1109,8 @@ static void part_two(void)
         compare("random", i, &c);
         if (by_reference.answer.number <= LAST_REFUSAL)
             ended[by_reference.answer.number][c.service]++;
+        if (c.service == 4)
+            note_end(c.number, by_reference.answer);
     }
 
     printf("random calls: %d; how they ended\n  number", RANDOM_CALLS);
@@ -944,6 +1135,7 @@ static void part_two(void)
         if (failed(all == 0))
             printf("FAILED: no random call ended in %u\n", number);
     }
+    show_ends();
 }
 
 int main(int argc, char **argv)
@@ -954,6 +1146,8 @@ int main(int argc, char **argv)
     }
     part_one(argv[1], argv[2]);
     border_calls();
+    chain_calls();
+    largest_sum();
     part_two();
     printf("test_vectors: %zu passed, %zu failed\n", cases - failures, failures);
     return failures != 0;

@@ -64,10 +64,10 @@ extern "C" {
 #endif
 
 /* The version, as text (pkg-config tells the same) and as numbers; the last two are below 1,000 each. LEMBIKAT_VERSION_NUMBER
- * rises with every version. A host asks for a version or a later one so:
- *   #if LEMBIKAT_VERSION_AT_LEAST(1, 0, 0) */
-#define LEMBIKAT_VERSION "1.0"
-#define LEMBIKAT_VERSION_MAJOR 1
+ * rises with every version, the first number where a caller must change its code. A host asks for a version or a later one so:
+ *   #if LEMBIKAT_VERSION_AT_LEAST(2, 0, 0) */
+#define LEMBIKAT_VERSION "2.0"
+#define LEMBIKAT_VERSION_MAJOR 2
 #define LEMBIKAT_VERSION_MINOR 0
 #define LEMBIKAT_VERSION_PATCH 0
 #define LEMBIKAT_VERSION_AS_NUMBER(major, minor, patch) (1000000L * (major) + 1000L * (minor) + (patch))
@@ -117,7 +117,7 @@ enum lembikat_outcome {
     LEMBIKAT_NO_CODEWORD = 22,
 };
 
-/* What every call answers.
+/* What a call answers. The answers of the nearest word and of the decoder begin alike and tell more.
  *   number   LEMBIKAT_DONE, else the number of the refusal. It is 32 bits wide whatever a compiler makes of an enum
  *   place    the row or entry at fault for 5, 6, 9 and 10; 0 with every other refusal. Of a call that is done: 0, but for
  *            lembikat_locate
@@ -129,6 +129,33 @@ typedef struct {
     uint64_t value;
 } lembikat_answer;
 
+/* What lembikat_nearest_word answers: number, place and value as above, and
+ *   changed  how many bits of the word it changed, 0 where the word is a codeword; 0 with a refusal
+ */
+typedef struct {
+    uint32_t number;
+    uint32_t place;
+    uint64_t value;
+    uint64_t changed;
+} lembikat_word_answer;
+
+#define LEMBIKAT_SUMS 64 /* the sweeps whose sums a decoder call tells */
+
+/* What lembikat_decode answers: number, place and value as above, and
+ *   sums     how hard the decoder worked, sweep by sweep: sums[i] is how many bits sweep i + 1 changed, those in which the
+ *            block after i sweeps and the block after i + 1 sweeps differ. Each sum is one sweep's own, not a running total;
+ *            a sweep changes at most 32,768 bits, so 16 bits hold it.
+ *            Sweeps that were not made have 0. A block that settled had `value` sweeps; with LEMBIKAT_UNSETTLED `limit` sweeps
+ *            were made, and their sums are told too. With any other refusal all sums are 0. Sweeps after the 64th are not told.
+ * What one sweep changed a later one may change back; lembikat_report tells how the settled block differs from the received.
+ */
+typedef struct {
+    uint32_t number;
+    uint32_t place;
+    uint64_t value;
+    uint16_t sums[LEMBIKAT_SUMS];
+} lembikat_decode_answer;
+
 /* The sides, as lembikat_locate tells them in `place`. */
 #define LEMBIKAT_NONE 0
 #define LEMBIKAT_LEFT 1
@@ -136,8 +163,8 @@ typedef struct {
 
 /* The nearest inner codeword of a word of d bits: of all error patterns that turn the word into a codeword the one with
  * fewest ones, of those the smallest as a number, is put on the word.
- *   value: the codeword.  Refusals: 1 to 6, 12.  Stack: at most 5 KiB. */
-lembikat_answer lembikat_nearest_word(const uint8_t *sheet, size_t sheet_bytes, uint64_t word);
+ *   value: the codeword.  changed: the ones of the pattern.  Refusals: 1 to 6, 12.  Stack: at most 5 KiB. */
+lembikat_word_answer lembikat_nearest_word(const uint8_t *sheet, size_t sheet_bytes, uint64_t word);
 
 /* The first vertex that reads no inner codeword, the left side before the right, the lowest number first.
  *   place: LEMBIKAT_NONE where the block is a codeword, else LEMBIKAT_LEFT or LEMBIKAT_RIGHT; value: the vertex.
@@ -149,10 +176,11 @@ lembikat_answer lembikat_locate(const uint8_t *sheet, size_t sheet_bytes, size_t
  * block settles at the first count from 0 to `limit` after which it is a codeword. A block that differs from a codeword in no
  * more bits than lembikat_margin covers settles at that codeword within the sweeps that it names.
  *   output: the settled block at the front; with LEMBIKAT_UNSETTLED the received block; else untouched.  value: the sweeps.
+ *   sums: the bits that each of the first 64 sweeps changed, with LEMBIKAT_UNSETTLED too.
  *   Refusals: 1 to 12, 13, 14, 15.  Stack: at most 12 KiB. */
-lembikat_answer lembikat_decode(const uint8_t *sheet, size_t sheet_bytes, size_t n, const uint8_t *wiring, size_t wiring_bytes,
-                                const uint8_t *received, size_t received_bytes, uint8_t *output, size_t output_bytes,
-                                size_t limit);
+lembikat_decode_answer lembikat_decode(const uint8_t *sheet, size_t sheet_bytes, size_t n, const uint8_t *wiring,
+                                       size_t wiring_bytes, const uint8_t *received, size_t received_bytes, uint8_t *output,
+                                       size_t output_bytes, size_t limit);
 
 /* Lists the maximal runs of bits at which a received and a settled block differ, in rising order. A run takes four bytes of
  * the list: its bit offset and its length, two bytes each, high byte first. Neither block need be a codeword.

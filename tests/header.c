@@ -24,6 +24,10 @@
 #error "the largest sizes do not fit one another"
 #endif
 
+#if LEMBIKAT_SUMS != 64 || LEMBIKAT_MAX_EDGES > 65535
+#error "the decoder tells the sums of 64 sweeps, each in 16 bits"
+#endif
+
 /* Without a default: the compiler complains where a name of the enum is missing here. */
 static const char *name_of(enum lembikat_outcome outcome)
 {
@@ -61,7 +65,13 @@ static const char *name_of(enum lembikat_outcome outcome)
 int main(void)
 {
     lembikat_answer answer = {LEMBIKAT_DONE, LEMBIKAT_NONE, 0};
+    lembikat_word_answer word;
+    lembikat_decode_answer decoded;
     if (sizeof answer.number != sizeof(uint32_t))
+        return 1;
+    /* The fields of an answer follow one another without a gap, as the library fills them. */
+    if (sizeof answer != 16 || sizeof word != 24 || sizeof word.changed != 8 || sizeof decoded != 144 ||
+        sizeof decoded.sums != 128)
         return 1;
     printf("version %s, numbers %d %d %d\n", LEMBIKAT_VERSION, MAJOR, MINOR, PATCH);
     for (; answer.number <= LEMBIKAT_NO_CODEWORD; answer.number++)

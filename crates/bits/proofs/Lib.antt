@@ -7,3 +7,4 @@ pub mod Bytes
 pub mod Windows
 pub mod Fronts
 pub mod Flips
+pub mod Values

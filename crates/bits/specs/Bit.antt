@@ -5,10 +5,11 @@
 --   putDigit x j b    the number x with its digit of weight 2^j made b
 --   withBit bytes i b the byte string with its bit i made b; past the end nothing changes
 --   written front l   the list l with `front` at its beginning
+--   values n f        the list of f 0 .. f (n - 1)
 --   pairAt bytes at   the two-byte number at the index `at`, high byte first; a missing byte is 0
 --   flips N a b       the number of bits 0 .. N - 1 in which two byte strings differ
 use Prim.Native.Nat.{ℕ, zero, suc, _+_, _-_, _*_, _/_, _%_, _^_}
-use mathlib.Core.List.{List, _++_}
+use mathlib.Core.List.{List, [], _∷_, _++_}
 use lib.ListN.{length, getD, set, drop}
 use lib.Bits.{bitXor}
 use Rattle.bits.specs.Sum.{sum}
@@ -37,6 +38,10 @@ pairAt bytes at = getD bytes at 0 * 256 + getD bytes (at + 1) 0
 
 unfoldable pub written : List ℕ → List ℕ → List ℕ
 written front l = front ++ drop (length front) l
+
+unfoldable pub values : ℕ → (ℕ → ℕ) → List ℕ
+values zero f = []
+values (suc n) f = values n f ++ (f n ∷ [])
 
 unfoldable pub flips : ℕ → List ℕ → List ℕ → ℕ
 unfolding sum bitAt

@@ -1,14 +1,20 @@
 -- From an enum's case to what a C host is told.
---   telling         the answer told of a case is the one told of the defined reply, where the service's answer is that case
---   telling-place   the same of the locator
-use mathlib.Core.Path.{_≡_, sym, ap, _∙_}
+--   telling        what is told of a case is what is told of the defined reply, where the service's answer is that case; `tell` is told, toldWord
+--                  or toldPlace
+--   telling-sums   the same of the decoder, whose sums are told beside
+use Prim.Native.Nat.{ℕ}
+use mathlib.Core.List.{List}
+use mathlib.Core.Path.{_≡_, sym, ap, ap₂, _∙_}
 use Rattle.inner_code.specs.Reply.{Reply}
-use Rattle.c_api.specs.Answer.{told, toldPlace}
-use Rattle.c_api.specs.declared.Answer.{Answer}
+use Rattle.c_api.specs.Answer.{toldDecode}
+use Rattle.c_api.specs.declared.DecodeAnswer.{DecodeAnswer}
 
-module _ {E : Type 0} (of : E → Reply) {answer case : E} {reply : Reply} {a : Answer} (is : answer ≡ case) (said : of answer ≡ reply) where
-  pub telling : a ≡ told (of case) → a ≡ told reply
-  telling here = here ∙ ap told (sym (ap of is) ∙ said)
+module _ {E : Type 0} (of : E → Reply) {answer case : E} {reply : Reply} (is : answer ≡ case) (said : of answer ≡ reply) where
+  reply-is : of case ≡ reply
+  reply-is = sym (ap of is) ∙ said
 
-  pub telling-place : a ≡ toldPlace (of case) → a ≡ toldPlace reply
-  telling-place here = here ∙ ap toldPlace (sym (ap of is) ∙ said)
+  pub telling : {A : Type 0} (tell : Reply → A) {a : A} → a ≡ tell (of case) → a ≡ tell reply
+  telling tell here = here ∙ ap tell reply-is
+
+  pub telling-sums : {sums defined : List ℕ} {a : DecodeAnswer} → sums ≡ defined → a ≡ toldDecode (of case) sums → a ≡ toldDecode reply defined
+  telling-sums same here = here ∙ ap₂ toldDecode reply-is same

@@ -1,7 +1,8 @@
-// The services as a C host calls them: numbers and byte slices in, one small struct out by value. A slice is a pointer and a length in C;
+// The services as a C host calls them: numbers and byte slices in, one struct out by value. A slice is a pointer and a length in C;
 // include/lembikat.h is the other side. Nothing is kept between calls.
 use decoder::Decoded;
 use decoder::Reported;
+use decoder::SUMS;
 use inner_code::Nearest;
 use inner_code::Refusal;
 use messages::Encoded;
@@ -16,12 +17,12 @@ ghost use Rattle.inner_code.specs.Reply.{done, refused};
 ghost use Rattle.inner_code.specs.Answer.{nearestAnswer};
 ghost use Rattle.wiring.specs.Plan.{planOf};
 ghost use Rattle.wiring.specs.Answer.{locateAnswer, sideNumber};
-ghost use Rattle.decoder.specs.Answer.{decodeAnswer, decodeOutput, reportAnswer, reportList};
+ghost use Rattle.decoder.specs.Answer.{decodeAnswer, decodeSums, decodeOutput, reportAnswer, reportList};
 ghost use Rattle.radius.specs.Answer.{spreadAnswer, marginAnswer};
 ghost use Rattle.messages.specs.Answer.{encodeAnswer, encodeOutput, readAnswer, readOutput};
-ghost use Rattle.c_api.specs.Answer.{told, toldPlace};
+ghost use Rattle.c_api.specs.Answer.{told, toldWord, toldDecode, toldPlace};
 
-// What every call answers. Number 0: the call is done, and `value` is its value. Any other number is the paper's refusal, and `place` the
+// What a call answers. Number 0: the call is done, and `value` is its value. Any other number is the paper's refusal, and `place` the
 // row or entry at fault. The locator alone uses both fields of a call that is done: `place` is 0 for none, 1 for left and 2 for right, and
 // `value` the vertex.
 #[repr(C)]
@@ -31,14 +32,45 @@ pub struct Answer {
     pub value: u64,
 }
 
-// The nearest codeword of a word. Refusals 1 to 6 and 12.
+// What the nearest word answers: as above, and how many bits it changed, 0 with a refusal.
+#[repr(C)]
+pub struct WordAnswer {
+    pub number: u32,
+    pub place: u32,
+    pub value: u64,
+    pub changed: u64,
+}
+
+// What the decoder answers: as above, and how many bits each of the first sweeps changed, 0 for a sweep that was not made.
+#[repr(C)]
+pub struct DecodeAnswer {
+    pub number: u32,
+    pub place: u32,
+    pub value: u64,
+    pub sums: [u16; SUMS],
+}
+
+// The nearest codeword of a word, and how many bits it changes. Refusals 1 to 6 and 12.
 #[no_mangle]
-pub extern "C" fn lembikat_nearest_word(sheet: &[u8], word: u64) -> Answer
-    ensures { λ r. ⌜ r ≡ told (nearestAnswer (now (sheet .entry)) word) ⌝ }
+pub extern "C" fn lembikat_nearest_word(sheet: &[u8], word: u64) -> WordAnswer
+    ensures { λ r. ⌜ r ≡ toldWord (nearestAnswer (now (sheet .entry)) word) ⌝ }
 {
     match inner_code::nearest_word(sheet, word) {
-        Nearest::Word(nearest) => done(nearest),
-        Nearest::Refused(r) => refused(r),
+        Nearest::Word {
+            word: nearest,
+            changed,
+        } => WordAnswer {
+            number: 0,
+            place: 0,
+            value: nearest,
+            changed,
+        },
+        Nearest::Refused(refusal) => WordAnswer {
+            number: refusal.number,
+            place: refusal.place,
+            value: 0,
+            changed: 0,
+        },
     }
 }
 
@@ -55,7 +87,7 @@ pub extern "C" fn lembikat_locate(sheet: &[u8], n: usize, wiring: &[u8], block: 
 }
 
 // Decodes a received block into the front of `output`; the value is the number of sweeps. Refusals 1 to 15; with 15 the front of `output`
-// holds the received block, and no other refusal writes a byte.
+// holds the received block, and no other refusal writes a byte. The sums are told with 15 too; with any other refusal they are 0.
 #[no_mangle]
 pub extern "C" fn lembikat_decode(
     sheet: &[u8],
@@ -64,13 +96,27 @@ pub extern "C" fn lembikat_decode(
     received: &[u8],
     output: &mut [u8],
     limit: usize,
-) -> Answer
-    ensures { λ r. ⌜ r ≡ told (decodeAnswer (planOf (now (sheet .entry)) n (now (wiring .entry))) (now (received .entry)) (now (output .entry)) limit) ⌝ }
+) -> DecodeAnswer
+    ensures { λ r. ⌜ r ≡ toldDecode (decodeAnswer (planOf (now (sheet .entry)) n (now (wiring .entry))) (now (received .entry)) (now (output .entry)) limit)
+        (decodeSums (planOf (now (sheet .entry)) n (now (wiring .entry))) (now (received .entry)) (now (output .entry)) limit) ⌝ }
     ensures { λ _. ⌜ now (output .exit) ≡ decodeOutput (planOf (now (sheet .entry)) n (now (wiring .entry))) (now (received .entry)) (now (output .entry)) limit ⌝ }
 {
-    match decoder::decode(sheet, n, wiring, received, output, limit) {
-        Decoded::Settled(sweeps) => done(sweeps as u64),
-        Decoded::Refused(r) => refused(r),
+    let decoding = decoder::decode(sheet, n, wiring, received, output, limit);
+    let outcome = decoding.outcome;
+    let sums = decoding.sums;
+    match outcome {
+        Decoded::Settled(sweeps) => DecodeAnswer {
+            number: 0,
+            place: 0,
+            value: sweeps as u64,
+            sums,
+        },
+        Decoded::Refused(refusal) => DecodeAnswer {
+            number: refusal.number,
+            place: refusal.place,
+            value: 0,
+            sums,
+        },
     }
 }
 

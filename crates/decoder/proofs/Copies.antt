@@ -1,10 +1,11 @@
 -- The copy of the received block at the front of the output: what the decoder answers and leaves once the copy is swept.
 --   written front l               the list l with `front` at its beginning (bits specs Bit)
 --   decodeCheck ..                what stops a decoder call before it decodes (specs Answer)
---   decodeAnswer, decodeOutput    what the decoder answers, and its output at exit (specs Answer)
+--   decodeAnswer, decodeSums, decodeOutput    what the decoder answers, the sums that it tells, and its output at exit (specs Answer)
 --   Passed plan received output H  what a call knows that nothing stops before it decodes
 -- Laws are named `copy-` and the fact: `copied` is the output with the copy, its first `size` bytes are lent on, and `swept` comes back for them.
-use Prim.Native.Nat.{ℕ, _≤_, _<_}
+use Prim.Native.Nat.{ℕ, _≤_, _<_, min}
+use native.Mathlib.Nat.{min-eq-left, min-eq-right}
 use mathlib.Core.List.{List, [], _∷_, _++_}
 use mathlib.Core.Path.{_≡_, sym, ap, _∙_}
 use native.Mathlib.Omega.{arith}
@@ -19,8 +20,8 @@ use Rattle.wiring.specs.Wiring.{planCheck}
 use Rattle.wiring.specs.Block.{blockBytes, blockCheck}
 use Rattle.wiring.proofs.Blocks.{block-sized, block-clear, block-back}
 use Rattle.wiring.proofs.Plans.{plan-sound, plan-back}
-use Rattle.decoder.specs.Decode.{sweptBlock, settlesAt}
-use Rattle.decoder.specs.Answer.{decodeCheck, decodeAnswer, decodeOutput}
+use Rattle.decoder.specs.Decode.{sweptBlock, settlesAt, meter}
+use Rattle.decoder.specs.Answer.{decodeCheck, decodeAnswer, decodeSums, decodeOutput}
 use Rattle.decoder.proofs.Settling.{decode-unsettled, decode-settled}
 
 -- ---- a call that nothing stops before it decodes
@@ -52,28 +53,40 @@ check-means plan received output H {values} e =
 
 module _ (plan : Plan) (received output : List ℕ) (H : ℕ) (checked : decodeCheck plan received output H ≡ done []) {copied : List ℕ}
     (swept : List ℕ) (size : ℕ) {count : ℕ} (copy : copied ≡ written received output) (sized : size ≡ length received)
-    (counted : count ≡ settlesAt plan (take size copied) H) (kept : length swept ≡ length (take size copied)) where
+    {sums : List ℕ} (counted : count ≡ settlesAt plan (take size copied) H) (told : sums ≡ meter plan (take size copied) (min count H))
+    (kept : length swept ≡ length (take size copied)) where
   copy-part : take size copied ≡ received
   copy-part = ap (take size) copy ∙ written-part received output size sized
 
   copy-count : settlesAt plan received H ≡ count
   copy-count = sym (counted ∙ ap (λ (block : List ℕ). settlesAt plan block H) copy-part)
 
+  copy-told : sums ≡ meter plan received (min count H)
+  copy-told = told ∙ ap (λ (block : List ℕ). meter plan block (min count H)) copy-part
+
   copy-whole : swept ++ drop size copied ≡ written swept output
   copy-whole = ap (λ (l : List ℕ). swept ++ drop size l) copy ∙ written-over received swept output size sized (kept ∙ ap length copy-part)
 
   pub copy-settled : (count ≤ H → swept ≡ sweptBlock plan count (take size copied)) → count ≤ H
-      → (done (count ∷ []) ≡ decodeAnswer plan received output H) × (swept ++ drop size copied ≡ decodeOutput plan received output H)
+      → (done (count ∷ []) ≡ decodeAnswer plan received output H)
+      × ((sums ≡ decodeSums plan received output H) × (swept ++ drop size copied ≡ decodeOutput plan received output H))
   copy-settled leaves l =
       let r = decode-settled plan received output H checked count copy-count l in (
         sym (r .answer),
-        copy-whole ∙ ap (λ (block : List ℕ). written block output) (leaves l ∙ ap (sweptBlock plan count) copy-part) ∙ sym (r .leaves),
+        (
+          copy-told ∙ ap (meter plan received) (min-eq-left l) ∙ sym (r .tells),
+          copy-whole ∙ ap (λ (block : List ℕ). written block output) (leaves l ∙ ap (sweptBlock plan count) copy-part) ∙ sym (r .leaves),
+        ),
       )
 
   pub copy-unsettled : {again : List ℕ} → H < count → again ≡ written received (swept ++ drop size copied)
-      → (refused 15 0 ≡ decodeAnswer plan received output H) × (again ≡ decodeOutput plan received output H)
+      → (refused 15 0 ≡ decodeAnswer plan received output H)
+      × ((sums ≡ decodeSums plan received output H) × (again ≡ decodeOutput plan received output H))
   copy-unsettled past e =
       let r = decode-unsettled plan received output H checked (omega (arith, copy-count)) in (
         sym (r .answer),
-        e ∙ ap (written received) copy-whole ∙ written-again received swept output (kept ∙ ap length copy-part) ∙ sym (r .leaves),
+        (
+          copy-told ∙ ap (meter plan received) (min-eq-right (omega arith)) ∙ sym (r .tells),
+          e ∙ ap (written received) copy-whole ∙ written-again received swept output (kept ∙ ap length copy-part) ∙ sym (r .leaves),
+        ),
       )

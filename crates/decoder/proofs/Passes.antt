@@ -1,37 +1,44 @@
--- Sweeps in turn as the code makes them: each sweep's number of changed vertices tells whether the block before it was settled.
+-- Sweeps in turn as the code makes them: each sweep's number of changed bits is its sum, and tells whether the block before it was settled.
 --   SideSwept plan name before changed after finder   one sweep as the code makes it (specs Visiting)
 --   settledAfter plan block i              the block after i sweeps is a codeword (specs Decode)
 --   settlesAt plan block H                 the first count from 0 to H after which it is, H + 1 where none is (specs Decode)
---   Pass plan received i changed after     sweep i + 1 leaves `after`, and `changed` is 0 exactly if its side was satisfied
---   Swept plan received count block        the block after `count` sweeps, at no count before which it was settled
+--   sweepSum, meter                        how many bits a sweep changes, and the sums of those that are made (specs Decode)
+--   Pass plan received i changed after     sweep i + 1 leaves `after`; `changed` is its sum, and is 0 exactly if its side was satisfied
+--   Told plan received H i sums            the sums of the first i sweeps, of H at most
+--   Swept plan received H count block sums the block after `count` sweeps, at no count before which it was settled, and their sums
 -- Laws are named by their subject, then by the fact: `turn-` is about the side of a sweep, `settled-` about settled blocks, `pass-` about one
--- sweep of the code, `swept-` about all sweeps so far, and `settle-` gives what the code answers and leaves at one way out each: after the
+-- sweep of the code, `told-` about sums, `swept-` about all sweeps so far, and `settle-` gives what the code answers and leaves at one way out each: after the
 -- first two sweeps (-zero, -one), after a later one (-later), and at the limit (-never).
-use Prim.Native.Nat.{ℕ, _+_, _≤_, _<_, zero-le}
+use Prim.Native.Nat.{ℕ, _+_, _≤_, _<_, zero-le, min}
 use mathlib.Core.Bool.{Bool, true, false, true≢false}
 use mathlib.Core.List.{List, []}
 use mathlib.Core.Path.{_≡_, refl, sym, ap, ap₂, _∙_}
-use native.Mathlib.Nat.{le-refl}
+use native.Mathlib.Nat.{le-refl, min-eq-left, min-eq-right}
 use native.Mathlib.Decide.{decLe}
 use native.Mathlib.Numerals.{add-one}
 use native.Mathlib.Omega.{arith}
 use borrow.Author.Count.{below-more}
 use borrow.Author.Tests.{eq-eqb}
 use Rattle.bits.proofs.Searches.{first-all, first-all-each}
+use lib.ListN.{length, replicate}
+use Rattle.bits.specs.Bit.{flips}
 use Rattle.inner_code.specs.Reply.{done}
+use Rattle.inner_code.specs.Sheet.{degree}
 use Rattle.wiring.specs.Plan.{Plan, Side, edgeCount, left, right, sideOf}
 use Rattle.wiring.specs.Wiring.{planCheck}
 use Rattle.wiring.specs.Block.{satisfied, firstUnsatisfied, isCodewordBlock, blockCheck}
 use Rattle.wiring.specs.declared.side.SideName.{SideName}
-use Rattle.wiring.proofs.Permutation.{Joined}
+use Rattle.wiring.proofs.Permutation.{Joined, edges-le}
 use Rattle.wiring.proofs.VertexWords.{vertex-lt}
 use Rattle.wiring.proofs.CodewordBlocks.{codeword-block-each}
 use Rattle.wiring.proofs.Plans.{plan-sound, plan-joined}
 use Rattle.decoder.specs.Sweep.{sweep, other, turn, afterSweeps}
-use Rattle.decoder.specs.Decode.{sweptBlock, settledAfter, settlesAt}
-use Rattle.decoder.specs.Visiting.{changedBy, SideSwept}
-use Rattle.decoder.proofs.Sweeping.{Mends, sheet-mends, sweep-fixed, after-one-more, after-stays, settled-by-next}
+use Rattle.decoder.specs.Decode.{sweptBlock, settledAfter, settlesAt, sweepSum, meter}
+use Rattle.decoder.specs.Visiting.{changedBy, SideSwept, noted}
+use Rattle.decoder.proofs.Sweeping.{Mends, sheet-mends, sweep-fixed, sweep-flips}
+use Rattle.decoder.proofs.Sweeping.{after-one-more, after-stays, after-block, settled-by-next}
 use Rattle.decoder.proofs.Settling.{settles-at, settles-none}
+use Rattle.decoder.proofs.Metering.{length-meter, sum-le, meter-zero, noted-more, noted-still}
 use Rattle.decoder.proofs.Visiting.{changed-zero, changed-zero-back}
 
 pub turn-zero : left ≡ turn 0
@@ -70,10 +77,15 @@ pub record Pass (plan : Plan) (received : List ℕ) (i changed : ℕ) (after : L
   pub leaves : after ≡ sweptBlock plan (i + 1) received
   pub clean : changed ≡ 0 → firstUnsatisfied (sideOf plan (turn i)) (sweptBlock plan i received) ≡ plan .n
   pub dirty : (changed ≡ 0 → ⊥) → firstUnsatisfied (sideOf plan (turn i)) (sweptBlock plan i received) ≡ plan .n → ⊥
+  pub counted : changed ≡ sweepSum plan received i
 
-pub record Swept (plan : Plan) (received : List ℕ) (count : ℕ) (block : List ℕ) : Type 0 where
+pub record Told (plan : Plan) (received : List ℕ) (H i : ℕ) (sums : List ℕ) : Type 0 where
+  pub sums-are : sums ≡ meter plan received (min i H)
+
+pub record Swept (plan : Plan) (received : List ℕ) (H count : ℕ) (block sums : List ℕ) : Type 0 where
   pub block-is : block ≡ sweptBlock plan count received
   pub unsettled : (j : ℕ) → j < count → settledAfter plan received j ≡ false
+  pub told : Told plan received H count sums
 
 -- plan and received block have passed their checks
 pub record Begun (plan : Plan) (received : List ℕ) : Type 0 where
@@ -89,6 +101,13 @@ module _ {plan : Plan} {received : List ℕ} (b : Begun plan received) where
 
   -- ---- one sweep
 
+  -- the bits that a defined sweep changes are those that its vertices change
+  pub sum-changed : (i : ℕ) → sweepSum plan received i ≡ changedBy (sideOf plan (turn i)) (plan .n) (sweptBlock plan i received)
+  unfolding sweepSum
+  sum-changed i =
+      ap (flips (edgeCount plan) (sweptBlock plan i received)) (after-one-more (sideOf plan) i received)
+      ∙ sweep-flips (joined .whole (turn i)) _ (after-block (sideOf plan) (joined .whole) i received (b .block-done)) (mends (turn i))
+
   pub pass : {i : ℕ} {name : SideName} {block : List ℕ} {changed : ℕ} {after finder : List ℕ}
       → SideSwept plan name block changed after finder → name ≡ turn i → block ≡ sweptBlock plan i received → Pass plan received i changed after
   pass {i} {name} {block} swept at e =
@@ -97,7 +116,28 @@ module _ {plan : Plan} {received : List ℕ} (b : Begun plan received) where
         leaves = swept .leaves ∙ ap₂ (λ (s : SideName) (l : List ℕ). sweep (sideOf plan s) l) at e ∙ sym (after-one-more (sideOf plan) i received);
         clean = λ none. sym here ∙ clean-side (mends name) block (sym (swept .counted) ∙ none);
         dirty = λ some all. some (swept .counted ∙ clean-side-back (mends name) block (here ∙ all));
+        counted = swept .counted ∙ ap₂ (λ (s : SideName) (l : List ℕ). changedBy (sideOf plan s) (plan .n) l) at e ∙ sym (sum-changed i);
       }
+
+  -- it fits in 16 bits
+  pub pass-few : {i changed : ℕ} {after : List ℕ} → Pass plan received i changed after → changed < 65536
+  pass-few {i} a =
+      let (s, w) = plan-sound plan (b .plan-done) in
+      omega (arith, a .counted, sum-le plan received i, edges-le (plan .n) (degree (plan .sheet)) (w .n-high) (s .degree-high))
+
+  -- ---- sums
+
+  pub told-start : (H : ℕ) {sums : List ℕ} → sums ≡ replicate 64 0 → Told plan received H 0 sums
+  told-start H e =
+      let none : min 0 H ≡ 0 = min-eq-left zero-le in
+      record { sums-are = e ∙ meter-zero plan received ∙ ap (meter plan received) (sym none) }
+
+  pub told-more : {H i changed : ℕ} {sums more after : List ℕ} → Told plan received H i sums → Pass plan received i changed after
+      → more ≡ noted sums i H changed → Told plan received H (i + 1) more
+  told-more {H} {i} so-far a e = record { sums-are = noted-more plan received H i (so-far .sums-are) (a .counted) e }
+
+  pub told-sized : {H i : ℕ} {sums : List ℕ} → Told plan received H i sums → length sums ≡ 64
+  told-sized {H} {i} so-far = ap length (so-far .sums-are) ∙ length-meter plan received (min i H)
 
   -- ---- settled blocks
 
@@ -132,57 +172,68 @@ module _ {plan : Plan} {received : List ℕ} (b : Begun plan received) where
 
   -- ---- all sweeps so far
 
-  pub swept-two : {first second : ℕ} {one-left two-left : List ℕ} → Pass plan received 0 first one-left → Pass plan received 1 second two-left
-      → (second ≡ 0 → ⊥) → Swept plan received 2 two-left
-  swept-two one two some =
+  pub swept-two : {H second : ℕ} {two-left sums : List ℕ} → Pass plan received 1 second two-left
+      → (second ≡ 0 → ⊥) → Told plan received H 2 sums → Swept plan received H 2 two-left sums
+  swept-two two some told =
       let last = pass-unsettled two some in
       record {
         block-is = two .leaves;
         unsettled = below-more _ 1 (below-more _ 0 (λ j l. absurd (omega arith)) (settled-before 0 1 last)) last;
+        told = told;
       }
 
-  pub swept-more : {count changed : ℕ} {block after : List ℕ} → Swept plan received count block
-      → Pass plan received count changed after → (changed ≡ 0 → ⊥) → Swept plan received (count + 1) after
-  swept-more {count} so-far a some =
-      record { block-is = a .leaves; unsettled = below-more _ count (so-far .unsettled) (pass-unsettled a some) }
+  pub swept-more : {H count changed : ℕ} {block after sums more : List ℕ} → Swept plan received H count block sums
+      → Pass plan received count changed after → (changed ≡ 0 → ⊥) → more ≡ noted sums count H changed
+      → Swept plan received H (count + 1) after more
+  swept-more {count = count} so-far a some e =
+      record {
+        block-is = a .leaves;
+        unsettled = below-more _ count (so-far .unsettled) (pass-unsettled a some);
+        told = told-more (so-far .told) a e;
+      }
 
   -- ---- the ways out
 
-  abbrev Answer : ℕ → ℕ → List ℕ → Type 0
-  Answer H count block = (count ≡ settlesAt plan received H) × (count ≤ H → block ≡ sweptBlock plan count received)
+  abbrev Answer : ℕ → ℕ → List ℕ → List ℕ → Type 0
+  Answer H count block sums =
+      (count ≡ settlesAt plan received H) × ((sums ≡ meter plan received (min count H)) × (count ≤ H → block ≡ sweptBlock plan count received))
 
   -- the block settled at `count`, and some more sweeps have not changed it
-  found : (H count more : ℕ) {block : List ℕ} → count ≤ H + 1 → ((j : ℕ) → j < count → settledAfter plan received j ≡ false)
-      → settledAfter plan received count ≡ true → block ≡ sweptBlock plan (count + more) received → Answer H count block
-  found H count more h before here e = (
+  found : (H count more : ℕ) {block sums : List ℕ} → count ≤ H + 1 → ((j : ℕ) → j < count → settledAfter plan received j ≡ false)
+      → settledAfter plan received count ≡ true → block ≡ sweptBlock plan (count + more) received → Told plan received H count sums
+      → Answer H count block sums
+  found H count more h before here e told = (
     elim (decLe count H) [
       | yes l ↦ sym (settles-at plan received H count l here before)
       | no l ↦
           let past : count ≡ H + 1 = omega arith in
           past ∙ sym (settles-none plan received H (λ i q. before i (omega arith)))
     ],
-    λ l. e ∙ settled-stays count more here,
+    (told .sums-are, λ l. e ∙ settled-stays count more here),
   )
 
-  pub settle-zero : (H : ℕ) {first second : ℕ} {one-left two-left : List ℕ} → Pass plan received 0 first one-left
-      → Pass plan received 1 second two-left → first ≡ 0 → second ≡ 0 → Answer H 0 two-left
-  settle-zero H one two none still =
+  pub settle-zero : {H first second : ℕ} {one-left two-left sums : List ℕ} → Pass plan received 0 first one-left
+      → Pass plan received 1 second two-left → Told plan received H 1 sums → first ≡ 0 → second ≡ 0 → Answer H 0 two-left sums
+  settle-zero {H} one two told none still =
       found H 0 2 zero-le (λ j l. absurd (omega arith))
       (ap (isCodewordBlock (sideOf plan)) (sym (first-same one none)) ∙ pass-settled (le-refl 1) two still) (two .leaves)
+      (record { sums-are = told .sums-are ∙ noted-still plan received H 0 (sym (one .counted) ∙ none) })
 
-  pub settle-one : (H : ℕ) {first second : ℕ} {one-left two-left : List ℕ} → Pass plan received 0 first one-left
-      → Pass plan received 1 second two-left → (first ≡ 0 → ⊥) → second ≡ 0 → Answer H 1 two-left
-  settle-one H one two some still =
+  pub settle-one : {H first second : ℕ} {one-left two-left sums : List ℕ} → Pass plan received 0 first one-left
+      → Pass plan received 1 second two-left → Told plan received H 1 sums → (first ≡ 0 → ⊥) → second ≡ 0 → Answer H 1 two-left sums
+  settle-one {H} one two told some still =
       found H 1 1 (omega arith) (below-more _ 0 (λ j l. absurd (omega arith)) (pass-unsettled one some))
-      (pass-settled (le-refl 1) two still) (two .leaves)
+      (pass-settled (le-refl 1) two still) (two .leaves) told
 
-  pub settle-later : {H count changed : ℕ} {block after : List ℕ} → Swept plan received count block → Pass plan received count changed after
-      → changed ≡ 0 → 1 ≤ count → count ≤ H → Answer H count after
+  pub settle-later : {H count changed : ℕ} {block after sums : List ℕ} → Swept plan received H count block sums
+      → Pass plan received count changed after → changed ≡ 0 → 1 ≤ count → count ≤ H → Answer H count after sums
   settle-later {H} {count} so-far a none low high =
-      found H count 1 (omega arith) (so-far .unsettled) (pass-settled low a none) (a .leaves)
+      found H count 1 (omega arith) (so-far .unsettled) (pass-settled low a none) (a .leaves) (so-far .told)
 
-  pub settle-never : {H count : ℕ} {block : List ℕ} → Swept plan received count block → H < count → Answer H (H + 1) block
-  settle-never {H} so-far past = (
-    sym (settles-none plan received H (λ i l. so-far .unsettled i (omega arith))),
-    λ l. absurd (omega arith),
-  )
+  pub settle-never : {H count : ℕ} {block sums : List ℕ} → Swept plan received H count block sums → H < count → Answer H (H + 1) block sums
+  settle-never {H} {count} so-far past =
+      let here : min count H ≡ H = min-eq-right (omega arith) in
+      let next : min (H + 1) H ≡ H = min-eq-right (omega arith) in (
+        sym (settles-none plan received H (λ i l. so-far .unsettled i (omega arith))),
+        (so-far .told .sums-are ∙ ap (meter plan received) (here ∙ sym next), λ l. absurd (omega arith)),
+      )

@@ -4,18 +4,19 @@
 --   settlesAt plan block H       the first count from 0 to H after which it is, H + 1 where none is (specs Decode)
 --   trial plan received H        what a trial ends in (specs Decode)
 --   decodeCheck ..               what stops a decoder call before it decodes (specs Answer)
---   decodeAnswer, decodeOutput   what the decoder answers, and its output at exit (specs Answer)
---   Decoded .. reply left        the decoder answers `reply` and leaves the output `left`
+--   decodeAnswer, decodeSums, decodeOutput   what the decoder answers, the sums that it tells, and its output at exit (specs Answer)
+--   Decoded .. reply sums left   the decoder answers `reply`, tells `sums` and leaves the output `left`
 -- Laws are named by their subject, then by the fact: `settles-` is about the count at which a block settles, `check-` about the tests
--- before a decoding, one outcome each, and `decode-` gives answer and output at one outcome each: a check that refuses (-stopped), 15
+-- before a decoding, one outcome each, and `decode-` gives answer, sums and output at one outcome each: a check that refuses (-stopped), 15
 -- (-unsettled) and the rest (-settled).
-use Prim.Native.Nat.{ℕ, _+_, _-_, _≤_, _<_}
+use Prim.Native.Nat.{ℕ, _+_, _-_, _≤_, _<_, min}
+use native.Mathlib.Nat.{min-eq-left, min-eq-right}
 use mathlib.Core.Bool.{Bool, true, false, not}
 use mathlib.Core.List.{List, [], _∷_}
 use mathlib.Core.Path.{_≡_, refl, sym, ap, _∙_}
 use native.Mathlib.Omega.{arith}
 use lib.Dec.{leb, ltb}
-use lib.ListN.{length}
+use lib.ListN.{length, replicate}
 use borrow.Author.Tests.{lt-ltb, le-ltb, le-leb, lt-leb, not-true, not-false}
 use Rattle.bits.specs.Bit.{written}
 use Rattle.bits.specs.Search.{firstFailing}
@@ -26,8 +27,8 @@ use Rattle.inner_code.proofs.SheetChecks.{Sound}
 use Rattle.wiring.specs.Plan.{Plan, edgeCount, sideOf}
 use Rattle.wiring.specs.Wiring.{planCheck}
 use Rattle.wiring.specs.Block.{blockBytes, blockCheck}
-use Rattle.decoder.specs.Decode.{sweptBlock, settledAfter, settlesAt, trial}
-use Rattle.decoder.specs.Answer.{decodeCheck, decodeAnswer, decodeOutput}
+use Rattle.decoder.specs.Decode.{sweptBlock, settledAfter, settlesAt, meter, trial}
+use Rattle.decoder.specs.Answer.{decodeCheck, decodeAnswer, decodeSums, decodeOutput}
 use Rattle.decoder.proofs.Sweeping.{sheet-mends, after-stays}
 
 -- ---- where a block settles
@@ -65,35 +66,45 @@ module _ (plan : Plan) (block : List ℕ) where
 
 -- ---- what the decoder answers and leaves
 
-pub record Decoded (plan : Plan) (received output : List ℕ) (H : ℕ) (reply : Reply) (left : List ℕ) : Type 0 where
+pub record Decoded (plan : Plan) (received output : List ℕ) (H : ℕ) (reply : Reply) (sums left : List ℕ) : Type 0 where
   pub answer : decodeAnswer plan received output H ≡ reply
+  pub tells : decodeSums plan received output H ≡ sums
   pub leaves : decodeOutput plan received output H ≡ left
 
 module _ (plan : Plan) (received output : List ℕ) (H : ℕ) where
   -- a check that refuses leaves the output as it is
   pub decode-stopped : {number place : ℕ} → decodeCheck plan received output H ≡ refused number place
-      → Decoded plan received output H (refused number place) output
-  unfolding decodeAnswer decodeOutput
+      → Decoded plan received output H (refused number place) (replicate 64 0) output
+  unfolding decodeAnswer decodeSums decodeOutput
   decode-stopped {number} {place} e =
-      record { answer = andThen-refused _ _ number place e; leaves = ifDone-refused _ _ output number place e }
+      record {
+        answer = andThen-refused _ _ number place e;
+        tells = ifDone-refused _ _ (replicate 64 0) number place e;
+        leaves = ifDone-refused _ _ output number place e;
+      }
 
   module _ {values : List ℕ} (pass : decodeCheck plan received output H ≡ done values) where
-    pub decode-unsettled : H < settlesAt plan received H → Decoded plan received output H (refused 15 0) (written received output)
-    unfolding decodeAnswer decodeOutput trial
+    pub decode-unsettled : H < settlesAt plan received H
+        → Decoded plan received output H (refused 15 0) (meter plan received H) (written received output)
+    unfolding decodeAnswer decodeSums decodeOutput trial
     decode-unsettled past =
         let late : leb (settlesAt plan received H) H ≡ false = lt-leb _ _ past in
+        let made : min (settlesAt plan received H) H ≡ H = min-eq-right (omega arith) in
         record {
           answer = andThen-passed _ _ values pass ∙ refuse-taken _ 15 0 _ (ap not late);
+          tells = ifDone-done _ _ (replicate 64 0) values pass ∙ ap (meter plan received) made;
           leaves = ifDone-done _ _ output values pass ∙ rw late;
         }
 
     pub decode-settled : (count : ℕ) → settlesAt plan received H ≡ count → count ≤ H
-        → Decoded plan received output H (done (count ∷ [])) (written (sweptBlock plan count received) output)
-    unfolding decodeAnswer decodeOutput trial
+        → Decoded plan received output H (done (count ∷ [])) (meter plan received count) (written (sweptBlock plan count received) output)
+    unfolding decodeAnswer decodeSums decodeOutput trial
     decode-settled count e l =
         let in-time : leb (settlesAt plan received H) H ≡ true = rw e (le-leb count H l) in
+        let made : min (settlesAt plan received H) H ≡ count = rw e (min-eq-left l) in
         record {
           answer = andThen-passed _ _ values pass ∙ refuse-passed _ 15 0 _ (ap not in-time) ∙ ap (λ (c : ℕ). done (c ∷ [])) e;
+          tells = ifDone-done _ _ (replicate 64 0) values pass ∙ ap (meter plan received) made;
           leaves = ifDone-done _ _ output values pass ∙ rw (in-time, e);
         }
 

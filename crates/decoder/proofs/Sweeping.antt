@@ -2,6 +2,7 @@
 --   visited map side m block     the block after vertices 0 .. m - 1 of a side are visited in turn (specs Sweep)
 --   nearestOf side w             the nearest word of w by the side's inner code (specs Visiting)
 --   sweep side block             the block after every vertex of a side is visited (specs Sweep)
+--   changedBy side m block       how many bits the vertices 0 .. m - 1 of a side change (specs Visiting)
 --   turn i                       the side of sweep i + 1: left first, then in turn (specs Sweep)
 --   afterSweeps sides i block    the block after i sweeps (specs Sweep)
 --   vertexWord side block v      the word that vertex v reads (wiring specs Block)
@@ -22,14 +23,17 @@ use native.Mathlib.Nat.{le-refl, le-step, lt-suc-self, not-suc-le-zero, eq-or-lt
 use native.Mathlib.Numerals.{add-one}
 use native.Mathlib.Omega.{arith}
 use lib.Arith.{digits-lt}
+use lib.Bits.{bitXor}
+use lib.Count.{ones}
 use lib.Dec.{eqb}
 use lib.ListN.{length, getD}
 use borrow.Author.Tests.{eq-eqb}
-use Rattle.bits.specs.Bit.{bitAt}
+use Rattle.bits.specs.Bit.{bitAt, flips}
+use Rattle.bits.proofs.Sums.{sum-ext}
 use Rattle.bits.proofs.Searches.{first-all}
 use Rattle.inner_code.specs.Reply.{done}
 use Rattle.inner_code.specs.Code.{isCodeword}
-use Rattle.inner_code.proofs.NearestWord.{nearest-codeword, nearest-lt, nearest-fixed}
+use Rattle.inner_code.proofs.NearestWord.{nearest-codeword, nearest-lt, nearest-fixed, changed-ones}
 use Rattle.inner_code.proofs.SheetChecks.{Sound}
 use Rattle.wiring.specs.Plan.{Plan, Side, sideOf}
 use Rattle.wiring.specs.Block.{vertexWord, withWord, satisfied, firstUnsatisfied, isCodewordBlock, blockCheck}
@@ -37,8 +41,9 @@ use Rattle.wiring.specs.declared.side.SideName.{SideName}
 use Rattle.wiring.proofs.Permutation.{Whole}
 use Rattle.wiring.proofs.Blocks.{bytes-hold, block-sized, block-clear, block-back}
 use Rattle.wiring.proofs.VertexWords.{vertex-lt, length-scattered, scattered-bytes, scattered-other, withWord-same, withWord-fixed, withWord-other}
+use Rattle.wiring.proofs.VertexWords.{flips-words}
 use Rattle.wiring.proofs.CodewordBlocks.{codeword-block-each}
-use Rattle.decoder.specs.Visiting.{nearestOf}
+use Rattle.decoder.specs.Visiting.{nearestOf, changedBy}
 use Rattle.decoder.specs.Sweep.{visited, sweep, other, turn, afterSweeps}
 
 -- ---- vertices visited in turn
@@ -148,6 +153,15 @@ module _ {N : ℕ} {side : Side} (whole : Whole N side) (block : List ℕ) (pass
       block-back N _ (length-visited (nearestOf side) side (side .n) block ∙ block-sized N block pass)
       (λ i h. visited-other (nearestOf side) side (side .n) block i
       (λ j l e. omega (arith, whole .bit-lt j (rw (whole .entries) at l))) ∙ block-clear N block pass i h)
+
+  -- the ones of the patterns that a side's vertices put on their words add up to the bits that the sweep changes
+  pub sweep-flips : Mends side → flips N block (sweep side block) ≡ changedBy side (side .n) block
+  unfolding changedBy
+  sweep-flips mends =
+      flips-words whole block (sweep side block)
+      ∙ sum-ext (side .n) _ _ (λ v l.
+      ap (λ (x : ℕ). ones (bitXor (vertexWord side block v) x)) (sweep-word mends v l)
+      ∙ changed-ones (side .row) (side .k) (side .d) (vertexWord side block v))
 
   pub sweep-satisfied : Mends side → (v : ℕ) → v < side .n → satisfied side (sweep side block) v ≡ true
   unfolding satisfied

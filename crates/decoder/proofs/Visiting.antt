@@ -1,25 +1,24 @@
--- One sweep as the code makes it: vertices that are passed over, vertices that are mended, and how many change.
---   changes                    the nearest word of what a vertex reads is another word (specs Visiting)
---   changedBy                  how many of a side's first vertices so change (specs Visiting)
+-- One sweep as the code makes it: vertices that are passed over, vertices that are mended, and how many bits change.
+--   changedAt, changedBy       how many bits a word's nearest word changes, and those of a side's first vertices together (specs Visiting)
 --   PassedOver, SideSwept      what passing over vertices and a whole sweep give (specs Visiting)
 --   visited, sweep, nearestOf  the block after some vertices, and after all, have their nearest word (specs Sweep, Visiting)
---   Visits side before v changed block   the first v vertices are visited: `changed` of them changed, and the block is `block`
+--   Visits side before v changed block   the first v vertices are visited: `changed` bits changed, and the block is `block`
 --   Passing side block from v  the words of the vertices from .. v - 1 are their own nearest ones
--- Laws are named by their subject, then by the fact: `changed-` is about the number of vertices that change, `visits-` about the block so
+-- Laws are named by their subject, then by the fact: `changed-` is about the number of bits that change, `visits-` about the block so
 -- far, `passing-` and `passed-` about vertices that stay, `word-` about one vertex's word in the code, `ready-` about a checked plan.
-use Prim.Native.Nat.{ℕ, zero, suc, _+_, _-_, _^_, _≤_, _<_}
-use mathlib.Core.Bool.{Bool, true, false, not}
+use Prim.Native.Nat.{ℕ, zero, suc, _+_, _-_, _*_, _^_, _≤_, _<_}
+use mathlib.Core.Bool.{Bool, true, false}
 use mathlib.Core.List.{List}
 use mathlib.Core.Path.{_≡_, refl, sym, ap, ap₂, _∙_}
-use native.Mathlib.Nat.{le-refl, add-zero}
+use native.Mathlib.Nat.{le-refl, le-trans, le-of-eq, add-zero}
 use native.Mathlib.Decide.{ℕ-discrete}
 use native.Mathlib.Omega.{arith}
-use borrow.Author.Tests.{eq-eqb, ne-eqb, eqb-true, not-false}
-use Rattle.bits.specs.Sum.{flag}
-use Rattle.bits.proofs.Tests.{flag-zero}
-use Rattle.bits.proofs.Sums.{sum-zero, sum-one-more, sum-none, sum-none-each, count-le, flag-true, flag-false}
+use Rattle.bits.proofs.Sums.{sum-zero, sum-one-more, sum-mono, sum-const, sum-none, sum-none-each}
 use lib.ListN.{length}
 use Rattle.inner_code.specs.Sheet.{degree}
+use Rattle.inner_code.specs.declared.nearest.Step.{Step}
+use Rattle.inner_code.proofs.NearestWord.{changed-none, changed-none-back, changed-le}
+use Rattle.inner_code.proofs.SheetChecks.{Sound}
 use Rattle.inner_code.proofs.Finding.{OwnNearest, Found}
 use Rattle.wiring.specs.Plan.{Plan, Side, edgeCount, sideOf}
 use Rattle.wiring.specs.Access.{readWord, writtenWord}
@@ -28,36 +27,42 @@ use Rattle.wiring.proofs.VertexWords.{vertex-lt}
 use Rattle.wiring.proofs.VertexAccess.{read-inside, write-inside}
 use Rattle.wiring.proofs.Plans.{plan-sound, plan-joined}
 use Rattle.wiring.specs.Block.{vertexWord, withWord}
-use Rattle.wiring.proofs.Permutation.{Whole}
+use Rattle.wiring.proofs.Permutation.{Whole, edges-le}
 use Rattle.decoder.specs.Sweep.{visited, sweep}
-use Rattle.decoder.specs.Visiting.{changes, changedBy, Ready, PassedOver, nearestOf}
+use Rattle.decoder.specs.Visiting.{changedAt, changedBy, Ready, PassedOver, nearestOf}
 use Rattle.decoder.proofs.Sweeping.{length-visited, visited-one-more, visited-skip, visited-later}
 
--- ---- how many vertices change
+-- ---- how many bits change
 
 module _ (side : Side) (block : List ℕ) where
-  changed-none : changedBy side 0 block ≡ 0
+  changed-start : changedBy side 0 block ≡ 0
   unfolding changedBy
-  changed-none = sum-zero (λ v. flag (changes side block v))
+  changed-start = sum-zero (λ v. changedAt side (vertexWord side block v))
 
-  changed-one-more : (v : ℕ) → changedBy side (v + 1) block ≡ changedBy side v block + flag (changes side block v)
+  changed-one-more : (v : ℕ) → changedBy side (v + 1) block ≡ changedBy side v block + changedAt side (vertexWord side block v)
   unfolding changedBy
   changed-one-more v = sum-one-more v _
 
-  changed-le : (m : ℕ) → changedBy side m block ≤ m
-  unfolding changedBy
-  changed-le m = count-le m (λ v. changes side block v)
-
   -- none, exactly if every word of the side is its own nearest one
   pub changed-zero : (m : ℕ) → changedBy side m block ≡ 0 → (v : ℕ) → v < m → nearestOf side (vertexWord side block v) ≡ vertexWord side block v
-  unfolding changedBy changes
-  changed-zero m e v l = eqb-true _ _ (not-false _ (flag-zero _ (sum-none-each m (λ v. flag (changes side block v)) e v l)))
+  unfolding changedBy
+  changed-zero m e v l = changed-none _ _ _ _ (sum-none-each m (λ v. changedAt side (vertexWord side block v)) e v l)
 
   pub changed-zero-back : (m : ℕ) → ((v : ℕ) → v < m → nearestOf side (vertexWord side block v) ≡ vertexWord side block v)
       → changedBy side m block ≡ 0
-  unfolding changedBy changes
+  unfolding changedBy
   changed-zero-back m same =
-      sum-none m (λ v. flag (changes side block v)) (λ v l. ap (λ (t : Bool). flag (not t)) (eq-eqb _ _ (same v l)) ∙ flag-false)
+      sum-none m (λ v. changedAt side (vertexWord side block v)) (λ v l. changed-none-back _ _ _ _ (same v l))
+
+-- a vertex changes d bits at most
+changed-by-le : (plan : Plan) → Sound (plan .sheet) → (name : SideName) (m : ℕ) (block : List ℕ)
+    → changedBy (sideOf plan name) m block ≤ m * degree (plan .sheet)
+unfolding changedBy
+changed-by-le plan s name m block =
+    le-trans
+    (sum-mono m _ (λ v. degree (plan .sheet)) (λ v l.
+    changed-le _ _ _ (s .degree-high) (s .rows-lt) _ (vertex-lt (sideOf plan name) block v)))
+    (le-of-eq (sum-const m (degree (plan .sheet))))
 
 -- ---- vertices visited so far
 
@@ -67,10 +72,18 @@ pub record Visits (side : Side) (before : List ℕ) (v changed : ℕ) (block : L
 
 pub visits-none : {side : Side} {before : List ℕ} → Visits side before 0 0 before
 unfolding visited
-visits-none {side} {before} = record { counted = sym (changed-none side before); swept = refl }
+visits-none {side} {before} = record { counted = sym (changed-start side before); swept = refl }
 
-pub visits-le : {side : Side} {before : List ℕ} {v changed : ℕ} {block : List ℕ} → Visits side before v changed block → changed ≤ v
-visits-le {side} {before} {v} all = omega (arith, all .counted, changed-le side before v)
+pub visits-le : {plan : Plan} {finder : List ℕ} → Ready plan finder → (name : SideName) {before : List ℕ} {v changed : ℕ} {block : List ℕ}
+    → v ≤ plan .n → Visits (sideOf plan name) before v changed block → changed ≤ 32768
+visits-le {plan} ready name {before} {v} within all =
+    let sound = plan-sound plan (ready .plan-done) in
+    omega (
+      arith,
+      all .counted,
+      changed-by-le plan (sound .0) name v before,
+      edges-le v (degree (plan .sheet)) (le-trans within (sound .1 .n-high)) (sound .0 .degree-high),
+    )
 
 module _ {N : ℕ} {side : Side} (whole : Whole N side) {before block : List ℕ} {v changed : ℕ} (below : v < side .n)
     (so-far : Visits side before v changed block) where
@@ -81,19 +94,11 @@ module _ {N : ℕ} {side : Side} (whole : Whole N side) {before block : List ℕ
   abbrev Stays : Type 0
   Stays = nearestOf side (vertexWord side block v) ≡ vertexWord side block v
 
-  visit-changes : (Stays → ⊥) → changes side before v ≡ true
-  unfolding changes
-  visit-changes moves = rw (← visit-first) (ap not (ne-eqb _ _ moves))
-
-  visit-stays : Stays → changes side before v ≡ false
-  unfolding changes
-  visit-stays stays = rw (← visit-first) (ap not (eq-eqb _ _ stays))
-
-  pub visits-changed : {mended : ℕ} {after : List ℕ} → (Stays → ⊥) → mended ≡ nearestOf side (vertexWord side block v)
-      → after ≡ withWord side v mended block → Visits side before (v + 1) (changed + 1) after
-  visits-changed moves mapped e =
+  pub visits-changed : {mended bits : ℕ} {after : List ℕ} → mended ≡ nearestOf side (vertexWord side block v)
+      → bits ≡ changedAt side (vertexWord side block v) → after ≡ withWord side v mended block → Visits side before (v + 1) (changed + bits) after
+  visits-changed mapped told e =
       record {
-        counted = omega (arith, changed-one-more side before v, ap flag (visit-changes moves), flag-true, so-far .counted);
+        counted = omega (arith, changed-one-more side before v, told ∙ ap (changedAt side) visit-first, so-far .counted);
         swept = e
             ∙ ap₂ (λ (x : ℕ) (l : List ℕ). withWord side v x l)
             (mapped ∙ ap (λ (l : List ℕ). nearestOf side (vertexWord side l v)) (so-far .swept)) (so-far .swept)
@@ -103,7 +108,12 @@ module _ {N : ℕ} {side : Side} (whole : Whole N side) {before block : List ℕ
   pub visits-kept : Stays → Visits side before (v + 1) changed block
   visits-kept stays =
       record {
-        counted = omega (arith, changed-one-more side before v, ap flag (visit-stays stays), flag-false, so-far .counted);
+        counted = omega (
+          arith,
+          changed-one-more side before v,
+          sym (ap (changedAt side) visit-first) ∙ changed-none-back _ _ _ _ stays,
+          so-far .counted,
+        );
         swept = so-far .swept
             ∙ sym (visited-skip (nearestOf side) side v before (rw (so-far .swept) at stays));
       }
@@ -180,9 +190,13 @@ module _ {plan : Plan} {finder : List ℕ} (ready : Ready plan finder) (name : S
       → nearestOf (sideOf plan name) (vertexWord (sideOf plan name) block v) ≡ vertexWord (sideOf plan name) block v → ⊥
   word-moves own e = rw word-is at (own .changes e (plan .sheet) (ready .finds) word-lt)
 
-  pub word-found : {mended : ℕ} {after : List ℕ} → Found finder word mended after
-      → mended ≡ nearestOf (sideOf plan name) (vertexWord (sideOf plan name) block v)
+  pub word-found : {step : Step} {after : List ℕ} → Found finder word step after
+      → step .word ≡ nearestOf (sideOf plan name) (vertexWord (sideOf plan name) block v)
   word-found found = found .nearest (plan .sheet) (ready .finds) word-lt ∙ ap (nearestOf (sideOf plan name)) word-is
+
+  pub word-counted : {step : Step} {after : List ℕ} → Found finder word step after
+      → step .changed ≡ changedAt (sideOf plan name) (vertexWord (sideOf plan name) block v)
+  word-counted found = found .counted (plan .sheet) (ready .finds) word-lt ∙ ap (changedAt (sideOf plan name)) word-is
 
 -- the word put where the code puts it
 pub word-put : {plan : Plan} {finder : List ℕ} → Ready plan finder → (name : SideName) (block : List ℕ) (mended : ℕ)

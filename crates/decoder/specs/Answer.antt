@@ -1,12 +1,13 @@
 -- What the services of this layer answer, and what they leave in the lent buffers.
 --   decodeCheck ..               what stops a decoder call before it decodes: 1 to 12, 13, 14
 --   decodeAnswer, decodeOutput   the decoder: these, 15, or the sweep count; its output at exit has the trial's block at the front
+--   decodeSums ..                the 64 sums that it tells beside: the trial's, and zeros where it is stopped before it decodes
 --   reportAnswer, reportList     the report: 1 to 12, 16, or the number of pairs; its list at exit has the runs at the front
 --   decodeReply, reportReply     the paper's number, place and values for each case of an answer in the code
 use Prim.Native.Nat.{ℕ, _+_, _*_}
 use mathlib.Core.List.{List, [], _∷_}
 use mathlib.Core.Bool.{not}
-use lib.ListN.{length}
+use lib.ListN.{length, replicate}
 use lib.Dec.{ltb}
 use Rattle.bits.specs.Bit.{written}
 use Rattle.inner_code.specs.Reply.{Reply, done, refused, refuseIf, andThen, ifDone}
@@ -34,6 +35,10 @@ decodeAnswer plan received output H =
 unfoldable pub decodeOutput : Plan → List ℕ → List ℕ → ℕ → List ℕ
 unfolding ifDone written decodeCheck trial
 decodeOutput plan received output H = ifDone (decodeCheck plan received output H) (written (trial plan received H .block) output) output
+
+unfoldable pub decodeSums : Plan → List ℕ → List ℕ → ℕ → List ℕ
+unfolding ifDone decodeCheck trial
+decodeSums plan received output H = ifDone (decodeCheck plan received output H) (trial plan received H .sums) (replicate 64 0)
 
 -- no bit after N - 1 is set in either block, so every run has ended before N + 1
 unfoldable pub reportAnswer : Plan → List ℕ → List ℕ → List ℕ → Reply

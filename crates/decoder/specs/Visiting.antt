@@ -1,18 +1,20 @@
 -- How the code sweeps and counts what a sweep changes: none of this is needed to believe a contract of a service.
 --   nearestOf side w            the nearest word of w by the side's inner code
---   changes side block v        the nearest word of what vertex v reads is another word
---   changedBy side m block      at how many of the vertices 0 .. m - 1 of a side it is
+--   changedAt side w            how many bits the nearest word of w changes
+--   changedBy side m block      how many bits the vertices 0 .. m - 1 of a side change, each by the nearest word of what it reads
 --   Ready plan finder           the plan is accepted, and the finder finds its sheet's nearest words
---   SideSwept plan name before changed after finder  one sweep as the code makes it: how many vertices it changed, the block that it leaves, and a finder that still finds
+--   SideSwept plan name before changed after finder  one sweep as the code makes it: how many bits it changed, the block that it leaves, and a finder that still finds
+--   noted sums i H changed      the sums with that of sweep i + 1 in them, where it is one of the H sweeps and one that is told
 --   PassedOver side block from to   the words of the vertices from .. to - 1 are their own nearest ones, and that of `to` is not unless to is n
-use Prim.Native.Nat.{ℕ, _≤_, _<_}
+use Prim.Native.Nat.{ℕ, _≤_, _<_, min}
 use mathlib.Core.List.{List, []}
-use mathlib.Core.Bool.{Bool, not}
+use mathlib.Core.Bool.{cond}
 use mathlib.Core.Path.{_≡_}
-use lib.Dec.{eqb}
-use Rattle.bits.specs.Sum.{sum, flag}
+use lib.Dec.{ltb}
+use lib.ListN.{set}
+use Rattle.bits.specs.Sum.{sum}
 use Rattle.inner_code.specs.Reply.{done}
-use Rattle.inner_code.specs.Code.{nearestWord}
+use Rattle.inner_code.specs.Code.{nearestWord, bitsChanged}
 use Rattle.inner_code.specs.Finding.{Finds}
 use Rattle.wiring.specs.Plan.{Plan, Side, sideOf}
 use Rattle.wiring.specs.Wiring.{planCheck}
@@ -23,13 +25,12 @@ use Rattle.decoder.specs.Sweep.{sweep}
 abbrev pub nearestOf : Side → ℕ → ℕ
 nearestOf side w = nearestWord (side .row) (side .k) (side .d) w
 
-unfoldable pub changes : Side → List ℕ → ℕ → Bool
-unfolding vertexWord
-changes side block v = not (eqb (nearestOf side (vertexWord side block v)) (vertexWord side block v))
+abbrev pub changedAt : Side → ℕ → ℕ
+changedAt side w = bitsChanged (side .row) (side .k) (side .d) w
 
 unfoldable pub changedBy : Side → ℕ → List ℕ → ℕ
-unfolding sum flag changes
-changedBy side m block = sum m (λ v. flag (changes side block v))
+unfolding sum vertexWord
+changedBy side m block = sum m (λ v. changedAt side (vertexWord side block v))
 
 pub record Ready (plan : Plan) (finder : List ℕ) : Type 0 where
   pub plan-done : planCheck plan ≡ done []
@@ -39,6 +40,9 @@ pub record SideSwept (plan : Plan) (name : SideName) (before : List ℕ) (change
   pub counted : changed ≡ changedBy (sideOf plan name) (sideOf plan name .n) before
   pub leaves : after ≡ sweep (sideOf plan name) before
   pub finds : Finds (plan .sheet) finder
+
+unfoldable pub noted : List ℕ → ℕ → ℕ → ℕ → List ℕ
+noted sums i H changed = cond (ltb i (min H 64)) (set sums i changed) sums
 
 pub record PassedOver (side : Side) (block : List ℕ) (from to : ℕ) : Type 0 where
   pub after : from ≤ to

@@ -5,6 +5,8 @@ mod settle;
 mod sweep;
 
 pub use decoding::Decoded;
+pub use decoding::Decoding;
 pub use decoding::decode;
 pub use report::Reported;
 pub use report::report_runs;
+pub use settle::SUMS;

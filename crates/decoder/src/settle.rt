@@ -5,15 +5,25 @@ use inner_code::FINDER_WORDS;
 use wiring::SideName;
 ghost use mathlib.Core.List.{[]};
 ghost use mathlib.Core.Path.{_≡_};
-ghost use Prim.Native.Nat.{_≤_};
+ghost use Prim.Native.Nat.{_≤_, _<_, min};
+ghost use lib.ListN.{length};
 ghost use Rattle.inner_code.specs.Reply.{done};
 ghost use Rattle.wiring.specs.Plan.{planOf, edgeCount};
 ghost use Rattle.wiring.specs.Block.{blockCheck};
-ghost use Rattle.decoder.specs.Decode.{sweptBlock, settlesAt};
-ghost use Rattle.decoder.specs.Visiting.{Ready};
+ghost use Rattle.decoder.specs.Decode.{sweptBlock, settlesAt, meter};
+ghost use Rattle.decoder.specs.Visiting.{Ready, noted};
 
-// Sweeps a block until it settles and answers after how many sweeps it did, `limit` + 1 where it did not within `limit`. No pass is made
-// for the test alone: a sweep that changes no vertex says that its side was satisfied, and the side swept before it always is.
+// The sweeps whose sums are told.
+pub const SUMS: usize = 64;
+
+// After how many sweeps a block settled, one more than the limit where it did not, and how many bits each sweep up to there changed.
+pub(crate) struct Settling {
+    pub count: usize,
+    pub sums: [u16; SUMS],
+}
+
+// Sweeps a block until it settles. No pass is made for the test alone: a sweep that changes no bit says that its side was satisfied, and the
+// side swept before it always is. Sweeps made beyond the count or the limit are such tests, and their sums are not told.
 pub(crate) fn settle(
     sheet: &[u8],
     n: usize,
@@ -21,30 +31,49 @@ pub(crate) fn settle(
     finder: &mut [u16; FINDER_WORDS],
     limit: usize,
     block: &mut [u8],
-) -> usize
+) -> Settling
     requires { ⌜ limit ≤ 4096 ⌝ }
     requires { ⌜ Ready (planOf (now sheet) n (now wiring)) (now finder) ⌝ }
     requires { ⌜ blockCheck (edgeCount (planOf (now sheet) n (now wiring))) (now block) ≡ done [] ⌝ }
-    ensures { λ r. ⌜ r ≡ settlesAt (planOf (now (sheet .entry)) n (now (wiring .entry))) (now (block .entry)) limit ⌝ }
-    ensures { λ r. ⌜ (r ≤ limit → now (block .exit) ≡ sweptBlock (planOf (now (sheet .entry)) n (now (wiring .entry))) r (now (block .entry))) ⌝ }
+    ensures { λ r. ⌜ r .count ≡ settlesAt (planOf (now (sheet .entry)) n (now (wiring .entry))) (now (block .entry)) limit ⌝ }
+    ensures { λ r. ⌜ r .sums ≡ meter (planOf (now (sheet .entry)) n (now (wiring .entry))) (now (block .entry)) (min (r .count) limit) ⌝ }
+    ensures { λ r. ⌜ (r .count ≤ limit → now (block .exit) ≡ sweptBlock (planOf (now (sheet .entry)) n (now (wiring .entry))) (r .count) (now (block .entry))) ⌝ }
 {
+    let mut sums = [0u16; SUMS];
     let first = sweep_side(sheet, n, wiring, SideName::Left, finder, block);
+    note(&mut sums, 0, limit, first);
     let second = sweep_side(sheet, n, wiring, SideName::Right, finder, block);
     if second == 0 {
         if first == 0 {
-            return 0;
+            return Settling { count: 0, sums };
         }
-        return 1;
+        return Settling { count: 1, sums };
     }
+    note(&mut sums, 1, limit, second);
     let mut side = SideName::Left;
     let mut count = 2;
     while count <= limit {
         let changed = sweep_side(sheet, n, wiring, side, finder, block);
         if changed == 0 {
-            return count;
+            return Settling { count, sums };
         }
+        note(&mut sums, count, limit, changed);
         side = other_side(side);
         count += 1;
     }
-    limit + 1
+    let past = limit + 1;
+    Settling { count: past, sums }
+}
+
+// Notes how many bits sweep `i` + 1 changed, where it is within the limit and its sum is told.
+fn note(sums: &mut [u16; SUMS], i: usize, limit: usize, changed: usize)
+    requires { ⌜ length (now sums) ≡ 64 ⌝ }
+    requires { ⌜ changed < 65536 ⌝ }
+    ensures { λ _. ⌜ now (sums .exit) ≡ noted (now (sums .entry)) i limit changed ⌝ }
+{
+    if i < limit {
+        if i < SUMS {
+            sums[i] = changed as u16;
+        }
+    }
 }

@@ -7,7 +7,7 @@ ghost use Rattle.wiring.specs.Plan.{planOf, sideOf};
 ghost use Rattle.decoder.specs.Sweep.{other};
 ghost use Rattle.decoder.specs.Visiting.{Ready, SideSwept, PassedOver};
 
-// Puts the nearest word at every vertex of a side of a checked plan and answers at how many vertices that was another word.
+// Puts the nearest word at every vertex of a side of a checked plan and answers how many bits that changed: what the steps tell, added up.
 pub(crate) fn sweep_side(
     sheet: &[u8],
     n: usize,
@@ -26,9 +26,9 @@ pub(crate) fn sweep_side(
         v = pass_over(sheet, n, wiring, side, finder, block, v);
         if v < n {
             let word = wiring::read_word(side, wiring, d, block, v);
-            let mended = inner_code::find_nearest(finder, word);
-            wiring::write_word(side, wiring, d, v, mended, block);
-            changed += 1;
+            let step = inner_code::find_nearest(finder, word);
+            wiring::write_word(side, wiring, d, v, step.word, block);
+            changed += step.changed as usize;
             v += 1;
         }
     }

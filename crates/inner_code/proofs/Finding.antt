@@ -3,7 +3,8 @@
 --   Finds sheet finder               the finder finds the sheet's nearest words (specs Finding)
 --   Prepared, leftIn, ownNearest, searchedIn, foundWord, foundFinder   what the code answers and leaves (specs Finding)
 --   OwnNearest finder w r            r tells whether w is its own nearest word
---   Found before w r after           r is the nearest word of w, and what finds before finds after
+--   Leads before w x after           x is the nearest word of w, and what finds before finds after
+--   Found before w r after           r is the step to the nearest word of w, and what finds before finds after
 -- Laws are named by their subject, then by the fact: `placed-` is about a part put into a list, as many turns as have been made (-none,
 -- -one-more, -all) or lent and back (-back), `house-` about the house code's sheet, `table-` about the word in the table, `left-` about what
 -- the rows leave of a word, `search-` about the nearest of the listed codewords, `leader-` about the leaders kept, `own-` and `found-` about
@@ -18,6 +19,7 @@ use native.Mathlib.Decide.{ℕ-discrete}
 use native.Mathlib.Omega.{arith}
 use borrow.Author.Tests.{eqb-true, eqb-false, eq-eqb, ne-eqb, le-leb, lt-leb}
 use lib.Bits.{bitXor}
+use lib.Count.{ones}
 use lib.Dec.{eqb}
 use lib.ListN.{length, getD, set, take, drop, replicate, length-set, length-append, length-drop, length-replicate, getD-replicate, List·getD-append}
 use lib.Pow.{pow-mono}
@@ -25,13 +27,15 @@ use lib.Seq.{ext-getD, getD-append-add, take-all, length-take-le, getD-take, get
 use Rattle.bits.specs.Window.{at}
 use Rattle.bits.proofs.Xor.{xor-cancel}
 use Rattle.inner_code.specs.Reply.{done}
-use Rattle.inner_code.specs.Code.{combination, isCodeword, nearestPattern, nearestWord}
-use Rattle.inner_code.specs.Reduction.{reduced, reducedBy, echelon, withEchelon, searched, Lists}
+use Rattle.inner_code.specs.Code.{combination, isCodeword, nearestPattern, nearestWord, bitsChanged}
+use Rattle.inner_code.specs.Reduction.{reduced, reducedBy, echelon, withEchelon, searched, stepTo, Lists}
+use Rattle.inner_code.specs.declared.nearest.Step.{Step}
 use Rattle.inner_code.specs.Sheet.{degree, rowCount, rowOf, sheetCheck}
 use Rattle.inner_code.specs.House.{houseSheet, HouseTable}
 use Rattle.inner_code.specs.Finding.{kindIn, rowsIn, listedIn, basisIn, tableIn, nameIn, leaderIn, wordIn, Finds, Placed}
 use Rattle.inner_code.specs.Finding.{ByTable, ByCodewords, Prepared, leftIn, ownNearest, searchedIn, foundWord, foundFinder}
 use Rattle.inner_code.proofs.NearestWord.{searched-ext, nearest-codeword, nearest-fixed, nearest-searched}
+use Rattle.inner_code.proofs.NearestWord.{step-word, step-changed, changed-ones}
 use Rattle.inner_code.proofs.EchelonForm.{codeword-reduced, reduced-codeword, reducedBy-echelon, length-withEchelon, withEchelon-at}
 use Rattle.inner_code.proofs.Cosets.{coset-pattern, coset-lt}
 use Rattle.inner_code.proofs.Listings.{lists-fits, lists-word}
@@ -302,10 +306,17 @@ pub record OwnNearest (finder : List ℕ) (w : ℕ) (r : Bool) : Type 0 where
   pub changes : r ≡ false → (sheet : List ℕ) → Finds sheet finder → w < 2 ^ degree sheet
       → nearestWord (rowOf sheet) (rowCount sheet) (degree sheet) w ≡ w → ⊥
 
--- r is the nearest word of w, and what finds before finds after
-pub record Found (before : List ℕ) (w r : ℕ) (after : List ℕ) : Type 0 where
+record Leads (before : List ℕ) (w x : ℕ) (after : List ℕ) : Type 0 where
+  nearest : (sheet : List ℕ) → Finds sheet before → w < 2 ^ degree sheet
+      → x ≡ nearestWord (rowOf sheet) (rowCount sheet) (degree sheet) w
+  finds : (sheet : List ℕ) → Finds sheet before → Finds sheet after
+
+-- r is the step to the nearest word of w, and what finds before finds after
+pub record Found (before : List ℕ) (w : ℕ) (r : Step) (after : List ℕ) : Type 0 where
   pub nearest : (sheet : List ℕ) → Finds sheet before → w < 2 ^ degree sheet
-      → r ≡ nearestWord (rowOf sheet) (rowCount sheet) (degree sheet) w
+      → r .word ≡ nearestWord (rowOf sheet) (rowCount sheet) (degree sheet) w
+  pub counted : (sheet : List ℕ) → Finds sheet before → w < 2 ^ degree sheet
+      → r .changed ≡ bitsChanged (rowOf sheet) (rowCount sheet) (degree sheet) w
   pub finds : (sheet : List ℕ) → Finds sheet before → Finds sheet after
 
 pub own-means : (finder : List ℕ) (w : ℕ) {r : Bool} → r ≡ ownNearest finder w → OwnNearest finder w r
@@ -325,22 +336,22 @@ own-means finder w {r} e =
           }
     ]
 
-pub found-means : (finder : List ℕ) (w : ℕ) {r : ℕ} {after : List ℕ} → r ≡ foundWord finder w → after ≡ foundFinder finder w
-    → Found finder w r after
-found-means finder w {r} {after} word-is after-is =
+found-leads : (finder : List ℕ) (w : ℕ) → Leads finder w (foundWord finder w) (foundFinder finder w)
+found-leads finder w =
     elim (ℕ-discrete (kindIn finder) 1) [
       | yes kind ↦
           same (found-table finder w kind) (record { nearest = λ sheet f w-lt. table-nearest f w w-lt kind; finds = λ sheet f. f })
       | no kind ↦ untabled kind
     ]
   where
-    same : {x : ℕ} {l : List ℕ} → (x ≡ foundWord finder w) × (l ≡ foundFinder finder w) → Found finder w x l → Found finder w r after
-    same e m = rw (word-is ∙ sym (e .0), after-is ∙ sym (e .1)) m
+    same : {x : ℕ} {l : List ℕ} → (x ≡ foundWord finder w) × (l ≡ foundFinder finder w) → Leads finder w x l
+        → Leads finder w (foundWord finder w) (foundFinder finder w)
+    same e m = rw (sym (e .0), sym (e .1)) m
 
     left : ℕ
     left = leftIn finder w
 
-    untabled : (kindIn finder ≡ 1 → ⊥) → Found finder w r after
+    untabled : (kindIn finder ≡ 1 → ⊥) → Leads finder w (foundWord finder w) (foundFinder finder w)
     untabled kind =
         elim (ℕ-discrete left 0) [
           | yes none ↦
@@ -362,6 +373,18 @@ found-means finder w {r} {after} word-is after-is =
       where
         search-told : listedIn finder ≤ 2048 → searchedIn finder w ≡ searched (wordIn finder) (listedIn finder) w
         search-told few = search-few finder w few
+
+pub found-means : (finder : List ℕ) (w : ℕ) {r : Step} {after : List ℕ} → r ≡ stepTo w (foundWord finder w) → after ≡ foundFinder finder w
+    → Found finder w r after
+found-means finder w step-is after-is =
+    let leads = found-leads finder w in
+    record {
+      nearest = λ sheet f w-lt. step-word w _ step-is ∙ leads .nearest sheet f w-lt;
+      counted = λ sheet f w-lt.
+          step-changed w _ step-is ∙ ap (λ (x : ℕ). ones (bitXor w x)) (leads .nearest sheet f w-lt)
+          ∙ changed-ones (rowOf sheet) (rowCount sheet) (degree sheet) w;
+      finds = λ sheet f. rw after-is (leads .finds sheet f);
+    }
 
 -- ---- a finder set up
 

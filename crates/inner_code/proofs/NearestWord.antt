@@ -2,7 +2,10 @@
 --   key p                   ones of p first, then p: of two patterns the nearer has the smaller key
 --   nearestPattern, nearestWord   the found pattern, and w with it on
 --   searched words n w      what a search over listed codewords finds
--- `key-` laws compare patterns, `nearest-` laws say what the found word is. They hold for any rows below 2^d and any d up to 16.
+--   bitsChanged row k d w   how many bits the nearest word changes
+--   stepTo w x              the step from w to x: x, and the number of bits that it changes
+-- `key-` laws compare patterns, `nearest-` laws say what the found word is, `changed-` laws how many bits it changes, `step-` laws what a step
+-- tells. They hold for any rows below 2^d and any d up to 16.
 use mathlib.Core.Path.{_≡_, refl, sym, ap, ap₂, _∙_, subst}
 use mathlib.Core.Logic.{_⊎_, ⊎-elim}
 use mathlib.Core.Bool.{Bool, true, false, cond}
@@ -12,7 +15,7 @@ use native.Mathlib.Omega.{arith}
 use lib.Bits.{bitXor, xor-lt, xor-self, xor-comm, xor-zero-r}
 use lib.Count.{ones, ones-le}
 use lib.Pow.{pow-mono, pow-pos}
-use Rattle.bits.proofs.Xor.{xor-cancel, xor-zero-eq, ones-zero, ones-triangle}
+use Rattle.bits.proofs.Xor.{xor-cancel, xor-zero-eq, ones-zero, ones-none, ones-triangle}
 use mathlib.Core.List.{List, [], _∷_}
 use borrow.Author.Tests.{le-leb, lt-leb}
 use Rattle.inner_code.specs.Reply.{done, refused}
@@ -20,8 +23,9 @@ use Rattle.inner_code.specs.Answer.{nearestAnswer}
 use Rattle.inner_code.specs.Sheet.{degree, rowCount, rowOf, sheetCheck}
 use Rattle.inner_code.proofs.Replies.{andThen-refused, andThen-passed, refuse-taken, refuse-passed}
 use Rattle.bits.specs.Search.{least}
-use Rattle.inner_code.specs.Code.{combination, isCodeword, key, noKey, nearestPattern, nearestWord, distance}
-use Rattle.inner_code.specs.Reduction.{leastKey, searched}
+use Rattle.inner_code.specs.Code.{combination, isCodeword, key, noKey, nearestPattern, nearestWord, bitsChanged, distance}
+use Rattle.inner_code.specs.declared.nearest.Step.{Step}
+use Rattle.inner_code.specs.Reduction.{leastKey, searched, stepTo}
 use Rattle.bits.proofs.Searches.{least-one-more, least-le, least-top, least-ge, least-found, least-ext}
 use Rattle.inner_code.proofs.Combinations.{codeword-zero, codeword-xor, codeword-lt, codeword-found, codeword-combination}
 use Rattle.inner_code.proofs.InnerDistance.{distance-le}
@@ -194,6 +198,37 @@ module _ (row : ℕ → ℕ) (k d : ℕ) (d-high : d ≤ 16) (rows-lt : (i : ℕ
           (least-le noKey (leads w) (2 ^ d) (bitXor (words m) w)
           (xor-lt d (words m) w (codeword-lt row d k (words m) rows-lt (word-codeword m l)) h)))
 
+-- ---- the step to a word, and how many bits the nearest word changes
+
+pub step-put : (w p : ℕ) → record { word = bitXor w p; changed = ones p } ≡ stepTo w (bitXor w p)
+unfolding stepTo
+step-put w p = rw (xor-cancel w p)
+
+pub step-word : (w x : ℕ) {r : Step} → r ≡ stepTo w x → r .word ≡ x
+unfolding stepTo
+step-word w x e = ap (λ (s : Step). s .word) e
+
+pub step-changed : (w x : ℕ) {r : Step} → r ≡ stepTo w x → r .changed ≡ ones (bitXor w x)
+unfolding stepTo
+step-changed w x e = ap (λ (s : Step). s .changed) e
+
+module _ (row : ℕ → ℕ) (k d w : ℕ) where
+  pub changed-ones : ones (bitXor w (nearestWord row k d w)) ≡ bitsChanged row k d w
+  unfolding nearestWord bitsChanged
+  changed-ones = ap ones (xor-cancel w (nearestPattern row k d w))
+
+  -- none, exactly if the word is its own nearest one
+  pub changed-none : bitsChanged row k d w ≡ 0 → nearestWord row k d w ≡ w
+  unfolding nearestWord bitsChanged
+  changed-none e = ap (bitXor w) (ones-none _ e) ∙ xor-zero-r w
+
+  pub changed-none-back : nearestWord row k d w ≡ w → bitsChanged row k d w ≡ 0
+  changed-none-back e = sym changed-ones ∙ ap (λ (x : ℕ). ones (bitXor w x)) e ∙ ap ones (xor-self w) ∙ ones-zero
+
+pub changed-le : (row : ℕ → ℕ) (k d : ℕ) → d ≤ 16 → ((i : ℕ) → i < k → row i < 2 ^ d) → (w : ℕ) → w < 2 ^ d → bitsChanged row k d w ≤ d
+changed-le row k d high rows-lt w h =
+    rw (← changed-ones row k d w) (ones-le d _ (xor-lt d w _ h (nearest-lt row k d high rows-lt w h)))
+
 -- ---- the service's answer
 
 pub nearest-answer-refused : (sheet : List ℕ) (w n p : ℕ) → sheetCheck sheet ≡ refused n p → nearestAnswer sheet w ≡ refused n p
@@ -205,6 +240,7 @@ unfolding nearestAnswer
 nearest-answer-high sheet w e h = andThen-passed _ _ [] e ∙ refuse-taken _ 12 0 _ (le-leb _ _ h)
 
 pub nearest-answer-word : (sheet : List ℕ) (w : ℕ) → sheetCheck sheet ≡ done [] → w < 2 ^ degree sheet
-    → nearestAnswer sheet w ≡ done (nearestWord (rowOf sheet) (rowCount sheet) (degree sheet) w ∷ [])
+    → nearestAnswer sheet w
+    ≡ done (nearestWord (rowOf sheet) (rowCount sheet) (degree sheet) w ∷ bitsChanged (rowOf sheet) (rowCount sheet) (degree sheet) w ∷ [])
 unfolding nearestAnswer
 nearest-answer-word sheet w e h = andThen-passed _ _ [] e ∙ refuse-passed _ 12 0 _ (lt-leb _ _ h)

@@ -6,6 +6,7 @@
 --   noKey                 more than the key of any pattern of 16 bits
 --   nearestPattern row k d w  of all patterns below 2^d that turn w into a codeword, the one of the least key
 --   nearestWord row k d w the paper's nearest word: that pattern put on w
+--   bitsChanged row k d w how many bits that changes: the ones of the pattern
 use Prim.Native.Nat.{ℕ, zero, suc, _+_, _*_, _%_, _^_}
 use mathlib.Core.Bool.{Bool, cond}
 use lib.Dec.{eqb}
@@ -40,3 +41,7 @@ nearestPattern row k d w = least noKey (λ p. cond (isCodeword row k (bitXor w p
 unfoldable pub nearestWord : (ℕ → ℕ) → ℕ → ℕ → ℕ → ℕ
 unfolding nearestPattern
 nearestWord row k d w = bitXor w (nearestPattern row k d w)
+
+unfoldable pub bitsChanged : (ℕ → ℕ) → ℕ → ℕ → ℕ → ℕ
+unfolding nearestPattern
+bitsChanged row k d w = ones (nearestPattern row k d w)

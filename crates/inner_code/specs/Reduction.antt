@@ -8,6 +8,7 @@
 --   fewestOnes words n    the fewest ones in a nonzero one of words 0 .. words (n - 1), 17 where there is none
 --   leastKey words n w    the least key of a pattern that leads w to one of words 0 .. words (n - 1)
 --   searched words n w    w with the pattern of that key on it
+--   stepTo w x            the step from a word to another: that one, and the number of bits that it changes
 --   doubled n r m l       the list l with r put on its words 0 .. m - 1, at the places n .. n + m - 1
 --   listed row k l        the list l with the codewords of k rows at its places 0 .. 2^k - 1, by doubling
 --   Lists row k l r m     the list m is l with the codewords of k rows listed, of 11 at most, and r is how many they are; where l has no
@@ -22,6 +23,7 @@ use lib.Count.{ones}
 use lib.Dec.{eqb}
 use Rattle.bits.specs.Search.{least}
 use Rattle.inner_code.specs.Code.{key, noKey}
+use Rattle.inner_code.specs.declared.nearest.Step.{Step}
 
 unfoldable pub reduceBy : ℕ → ℕ → ℕ
 reduceBy b w = min w (bitXor w b)
@@ -59,6 +61,9 @@ leastKey words n w = least noKey (λ m. key (bitXor (words m) w)) n
 unfoldable pub searched : (ℕ → ℕ) → ℕ → ℕ → ℕ
 unfolding leastKey
 searched words n w = bitXor w (leastKey words n w % 65536)
+
+unfoldable pub stepTo : ℕ → ℕ → Step
+stepTo w x = record { word = x; changed = ones (bitXor w x) }
 
 unfoldable pub doubled : ℕ → ℕ → ℕ → List ℕ → List ℕ
 doubled count row zero l = l

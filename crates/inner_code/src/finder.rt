@@ -3,12 +3,15 @@
 use crate::codewords::MAX_CODEWORDS;
 use crate::codewords::list_codewords;
 use crate::house::HouseCode;
+use crate::nearest::Step;
 use crate::nearest::nearest_listed;
+use crate::nearest::put_on;
 ghost use mathlib.Core.Bool.{true, false};
 ghost use mathlib.Core.Path.{_≡_};
 ghost use Prim.Native.Nat.{_+_, _≤_, min};
 ghost use lib.ListN.{length};
 ghost use Rattle.inner_code.specs.House.{houseSheet};
+ghost use Rattle.inner_code.specs.Reduction.{stepTo};
 ghost use Rattle.inner_code.specs.Finding.{Placed, Prepared, leftIn, ownNearest, searchedIn, foundWord, foundFinder};
 
 // How many numbers of 16 bits a finder has. Its large parts begin at multiples of 32 numbers, which fill a cache line.
@@ -65,26 +68,26 @@ pub fn is_own_nearest(finder: &[u16; FINDER_WORDS], word: u16) -> bool
     left_of(finder, word) == 0
 }
 
-// The nearest word of a word: the table's, the word itself where the rows leave nothing of it, and else the nearest of the codewords. What the
-// rows leave of a word names its coset: the leader found for a coset is kept beside that name, so that most cosets are searched once.
-pub fn find_nearest(finder: &mut [u16; FINDER_WORDS], word: u16) -> u16
-    ensures { λ r. ⌜ r ≡ foundWord (now (finder .entry)) word ⌝ }
+// The step to a word's nearest word: the table's, the word itself where the rows leave nothing of it, and else the nearest of the codewords.
+// What the rows leave of a word names its coset: the leader found for a coset is kept beside that name, so that most cosets are searched once.
+pub fn find_nearest(finder: &mut [u16; FINDER_WORDS], word: u16) -> Step
+    ensures { λ r. ⌜ r ≡ stepTo word (foundWord (now (finder .entry)) word) ⌝ }
     ensures { λ _. ⌜ now (finder .exit) ≡ foundFinder (now (finder .entry)) word ⌝ }
 {
     if finder[KIND] == TABLED {
-        return finder[TABLE + (word % 256) as usize];
+        return put_on(word, word ^ finder[TABLE + (word % 256) as usize]);
     }
     let left = left_of(finder, word);
     if left == 0 {
-        return word;
+        return put_on(word, 0);
     }
     let slot = LEADERS + 2 * (left % SLOTS) as usize;
     if finder[slot] == left {
-        return word ^ finder[slot + 1];
+        return put_on(word, finder[slot + 1]);
     }
     let nearest = search(finder, word);
     finder[slot] = left;
-    finder[slot + 1] = word ^ nearest;
+    finder[slot + 1] = word ^ nearest.word;
     nearest
 }
 
@@ -105,13 +108,13 @@ fn left_of(finder: &[u16; FINDER_WORDS], word: u16) -> u16
     left
 }
 
-// The nearest to a word of the codewords that are listed.
-fn search(finder: &[u16; FINDER_WORDS], word: u16) -> u16
-    ensures { λ r. ⌜ r ≡ searchedIn (now (finder .entry)) word ⌝ }
+// The step to the nearest of the codewords that are listed.
+fn search(finder: &[u16; FINDER_WORDS], word: u16) -> Step
+    ensures { λ r. ⌜ r ≡ stepTo word (searchedIn (now (finder .entry)) word) ⌝ }
 {
     let count = widened(finder[LISTED]);
     if count > MAX_CODEWORDS {
-        return word;
+        return put_on(word, 0);
     }
     let end = WORDS + count;
     let all = &finder[..];

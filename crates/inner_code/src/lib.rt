@@ -17,6 +17,7 @@ pub use finder::prepare_finder;
 pub use house::HouseCode;
 pub use membership::residue;
 pub use nearest::Nearest;
+pub use nearest::Step;
 pub use nearest::nearest_listed;
 pub use nearest::nearest_word;
 pub use refusal::Refusal;

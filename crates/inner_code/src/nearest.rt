@@ -7,20 +7,27 @@ use crate::sheet::Sheet;
 use crate::sheet::check_sheet;
 ghost use mathlib.Core.Path.{_≡_};
 ghost use Prim.Native.Nat.{_^_, min};
+ghost use lib.Bits.{bitXor};
 ghost use lib.ListN.{length};
 ghost use Rattle.bits.specs.Window.{at};
 ghost use Rattle.inner_code.specs.Answer.{nearestAnswer, nearestReply};
 ghost use Rattle.inner_code.specs.Sheet.{rowOf};
 ghost use Rattle.inner_code.specs.Code.{combination};
-ghost use Rattle.inner_code.specs.Reduction.{searched};
+ghost use Rattle.inner_code.specs.Reduction.{searched, stepTo};
 
-// The nearest codeword, or the refusal.
+// The nearest codeword and how many bits it changes, or the refusal.
 pub enum Nearest {
-    Word(u64),
+    Word { word: u64, changed: u64 },
     Refused(Refusal),
 }
 
-// The nearest codeword of a word, by the sheet's rows. Refusals 1 to 6, then 12 for a word at or above 2^d.
+// One step of the nearest word: the word that takes another's place, and how many bits that changes.
+pub struct Step {
+    pub word: u16,
+    pub changed: u32,
+}
+
+// The nearest codeword of a word, by the sheet's rows, and how many bits it changes. Refusals 1 to 6, then 12 for a word at or above 2^d.
 pub fn nearest_word(sheet: &[u8], word: u64) -> Nearest
     ensures { λ r. ⌜ nearestReply r ≡ nearestAnswer (now (sheet .entry)) word ⌝ }
 {
@@ -35,24 +42,30 @@ pub fn nearest_word(sheet: &[u8], word: u64) -> Nearest
                     place: 0,
                 });
             }
-            Nearest::Word(nearest_of_rows(sheet, k, word as u16) as u64)
+            let step = nearest_of_rows(sheet, k, word as u16);
+            let nearest = step.word as u64;
+            let changed = step.changed as u64;
+            Nearest::Word {
+                word: nearest,
+                changed,
+            }
         }
     }
 }
 
 // The codewords of the first k rows are listed and searched.
-fn nearest_of_rows(sheet: &[u8], k: usize, word: u16) -> u16
-    ensures { λ r. ⌜ r ≡ searched (combination (rowOf (now (sheet .entry))) (min k 11)) (2 ^ min k 11) word ⌝ }
+fn nearest_of_rows(sheet: &[u8], k: usize, word: u16) -> Step
+    ensures { λ r. ⌜ r ≡ stepTo word (searched (combination (rowOf (now (sheet .entry))) (min k 11)) (2 ^ min k 11) word) ⌝ }
 {
     let mut words = [0u16; MAX_CODEWORDS];
     let count = list_codewords(sheet, k, &mut words);
     nearest_listed(&words[0..count], word)
 }
 
-// The word of a list that is nearest to `word`: patterns are compared by the one number ones * 65536 + pattern. For an
-// empty list it is `word` itself.
-pub fn nearest_listed(words: &[u16], word: u16) -> u16
-    ensures { λ r. ⌜ r ≡ searched (at (now (words .entry))) (length (now (words .entry))) word ⌝ }
+// The step to the word of a list that is nearest to `word`: patterns are compared by the one number ones * 65536 + pattern. For an
+// empty list it is the step to `word` itself.
+pub fn nearest_listed(words: &[u16], word: u16) -> Step
+    ensures { λ r. ⌜ r ≡ stepTo word (searched (at (now (words .entry))) (length (now (words .entry))) word) ⌝ }
 {
     let mut best: u32 = 1114112;
     let mut m = 0;
@@ -64,5 +77,15 @@ pub fn nearest_listed(words: &[u16], word: u16) -> u16
         }
         m += 1;
     }
-    word ^ (best % 65536) as u16
+    put_on(word, (best % 65536) as u16)
+}
+
+// The step that a pattern makes: it is put on the word and changes as many bits as it has ones.
+pub(crate) fn put_on(word: u16, pattern: u16) -> Step
+    ensures { λ r. ⌜ r ≡ stepTo word (bitXor word pattern) ⌝ }
+{
+    Step {
+        word: word ^ pattern,
+        changed: u16::count_ones(pattern),
+    }
 }

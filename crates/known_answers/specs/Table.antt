@@ -9,27 +9,27 @@ use Prim.Native.Nat.{ℕ}
 use mathlib.Core.List.{List, [], _∷_}
 use mathlib.Core.Bool.{Bool, true, false, _&&_}
 use lib.Dec.{eqb}
+use lib.ListN.{replicate}
 use Rattle.inner_code.specs.Reply.{Reply, done, refused}
-use Rattle.inner_code.specs.Code.{nearestWord}
-use Rattle.inner_code.specs.Sheet.{rowOf}
+use Rattle.inner_code.specs.Answer.{nearestAnswer}
 use Rattle.inner_code.specs.House.{houseSheet}
 use Rattle.wiring.specs.Plan.{Plan, planOf}
 use Rattle.wiring.specs.Square.{squareWiring, squarePlan}
-use Rattle.decoder.specs.Answer.{decodeAnswer, decodeOutput}
+use Rattle.decoder.specs.Answer.{decodeAnswer, decodeSums, decodeOutput}
 use Rattle.radius.specs.Margin.{sweepsNamed}
 use Rattle.radius.specs.Ranges.{equalSides}
 use Rattle.radius.specs.Answer.{marginAnswer}
 use Rattle.messages.specs.Message.{encodedBlock}
 
 pub data Row : Type 0 where
-  -- a house word and its nearest word
-  house : ℕ → ℕ → Row
+  -- a house word, its nearest word and the bits that it changes
+  house : ℕ → ℕ → ℕ → Row
   -- the square plan: F flips and the margin's answer
   square : ℕ → Reply → Row
   -- the margin's numbers alone: n, d, D, R, F and the sweeps named, 0 where F is not covered
   margin : ℕ → ℕ → ℕ → ℕ → ℕ → ℕ → Row
-  -- the pair plan: a received byte and a limit, the decoder's answer and the byte in its output
-  pair : ℕ → ℕ → Reply → ℕ → Row
+  -- the pair plan: a received byte and a limit, the decoder's answer, the byte in its output and the sum of its first sweep; the others are 0
+  pair : ℕ → ℕ → Reply → ℕ → ℕ → Row
   -- the pair plan: a message byte and the byte that it encodes to
   message : ℕ → ℕ → Row
 
@@ -52,13 +52,14 @@ abbrev pub pairPlan : Plan
 pairPlan = planOf (2 ∷ 1 ∷ 0 ∷ 3 ∷ []) 1 (0 ∷ 0 ∷ 0 ∷ 1 ∷ [])
 
 unfoldable pub holds : Row → Bool
-unfolding nearestWord sameReply sameList squareWiring marginAnswer sweepsNamed decodeAnswer decodeOutput encodedBlock
-holds (house word nearest) = eqb (nearestWord (rowOf houseSheet) 4 8 word) nearest
+unfolding nearestAnswer sameReply sameList squareWiring marginAnswer sweepsNamed decodeAnswer decodeSums decodeOutput encodedBlock
+holds (house word nearest changed) = sameReply (nearestAnswer houseSheet word) (done (nearest ∷ changed ∷ []))
 holds (square flips reply) = sameReply (marginAnswer squarePlan flips) reply
 holds (margin n d D R flips sweeps) = eqb (sweepsNamed (equalSides n d D R) flips) sweeps
-holds (pair received limit reply left) =
+holds (pair received limit reply left sum) =
     sameReply (decodeAnswer pairPlan (received ∷ []) (0 ∷ []) limit) reply
-    && sameList (decodeOutput pairPlan (received ∷ []) (0 ∷ []) limit) (left ∷ [])
+    && (sameList (decodeOutput pairPlan (received ∷ []) (0 ∷ []) limit) (left ∷ [])
+    && sameList (decodeSums pairPlan (received ∷ []) (0 ∷ []) limit) (sum ∷ replicate 63 0))
 holds (message byte encoded) = sameList (encodedBlock pairPlan (byte ∷ [])) (encoded ∷ [])
 
 unfoldable pub allHold : List Row → Bool
@@ -68,10 +69,10 @@ allHold (row ∷ rows) = holds row && allHold rows
 
 unfoldable pub table : List Row
 table =
-    house 0x01 0x00
-    ∷ house 0x07 0x0f
-    ∷ house 0x03 0x00
-    ∷ house 0xc0 0xc3
+    house 0x01 0x00 1
+    ∷ house 0x07 0x0f 1
+    ∷ house 0x03 0x00 2
+    ∷ house 0xc0 0xc3 2
     ∷ square 1 (done (1 ∷ []))
     ∷ square 2 (done (2 ∷ []))
     ∷ square 3 (done (2 ∷ []))
@@ -81,6 +82,7 @@ table =
     ∷ margin 15 8 8 112 12 0
     ∷ margin 31 16 16 480 63 4
     ∷ margin 31 16 16 480 64 0
-    ∷ pair 0x80 1 (done (1 ∷ [])) 0xc0
+    ∷ pair 0x80 1 (done (1 ∷ [])) 0xc0 1
+    ∷ pair 0x80 0 (refused 15 0) 0x80 0
     ∷ message 0x80 0xc0
     ∷ []

@@ -6,8 +6,8 @@
 --   sweepsNamed m F               the sweeps named for F flips, 0 where F is not covered (specs Margin)
 --   Nears side D                  what is needed of a side's nearest word: a word that differs from a codeword in fewer than D/2 digits
 --                                 is mended to it
--- Laws are named by their subject, then by the fact: `differs-` and `flips-` are about the bits of two blocks, `sweep-` about one
--- sweep. The theorem is after-restores.
+-- Laws are named by their subject, then by the fact: `flips-` is about the bits of two blocks, `sweep-` about one sweep. The theorem is
+-- after-restores.
 use Prim.Native.Nat.{ℕ, _+_, _*_, _^_, _≤_, _<_}
 use mathlib.Core.Bool.{true, false}
 use mathlib.Core.List.{List, []}

@@ -12,7 +12,8 @@ pub fn decode(received: &[u8], output: &mut [u8], limit: usize) -> Decoded
 {
     let sheet = inner_code::HouseCode::sheet();
     let wiring = square_wiring();
-    decoder::decode(&sheet, 8, &wiring, received, output, limit)
+    let decoding = decoder::decode(&sheet, 8, &wiring, received, output, limit);
+    decoding.outcome
 }
 
 // The square plan's wiring: n = d = 8, entry v * 8 + j is edge 8 * j + v.

@@ -88,9 +88,14 @@ fn on_block(service: u8, sheet: &[u8], n: usize, wiring: &[u8], block: &[u8]) {
 
 fn nearest(sheet: &[u8], word: u64) {
     match inner_code::nearest_word(sheet, word) {
-        Nearest::Word(w) => {
+        Nearest::Word {
+            word: nearest,
+            changed,
+        } => {
             output::text(b"ok ");
-            output::number(w);
+            output::number(nearest);
+            output::text(b" ");
+            output::number(changed);
         }
         Nearest::Refused(r) => {
             output::refused(r.number, r.place);
@@ -168,7 +173,10 @@ fn margin(sheet: &[u8], n: usize, wiring: &[u8], flips: u64) {
 }
 
 fn decode(sheet: &[u8], n: usize, wiring: &[u8], received: &[u8], output: &mut [u8], limit: usize) {
-    match decoder::decode(sheet, n, wiring, received, output, limit) {
+    let decoding = decoder::decode(sheet, n, wiring, received, output, limit);
+    let outcome = decoding.outcome;
+    let sums = decoding.sums;
+    match outcome {
         Decoded::Settled(sweeps) => {
             output::text(b"ok ");
             output::number(sweeps as u64);
@@ -179,6 +187,8 @@ fn decode(sheet: &[u8], n: usize, wiring: &[u8], received: &[u8], output: &mut [
     }
     output::text(b" ");
     output::bytes(output);
+    output::text(b" ");
+    output::sums(&sums);
 }
 
 fn encode(sheet: &[u8], n: usize, wiring: &[u8], message: &[u8], output: &mut [u8]) {

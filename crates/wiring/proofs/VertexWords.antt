@@ -6,7 +6,7 @@
 --   bitAt block i                 bit i of the block (bits specs Bit)
 --   digit w j                     the binary digit of weight 2^j of the number w (bits specs Bit)
 -- Laws are named by their subject, then by the fact: `vertex-` is about one word that is read, `scattered-` about digits that are
--- written, `withWord-` about a word that is, `words-` about all words of a side. At the end of a name, `-lt` is a bound, `-ext` equality
+-- written, `withWord-` about a word that is, `flips-` about the bits in which all words of a side differ. At the end of a name, `-lt` is a bound, `-ext` equality
 -- from the bits, `-same` and `-other` what is written to and what is not, `-fixed` a write of what stands there, `-one-more` and `-step` one
 -- more digit.
 use Prim.Native.Nat.{ℕ, zero, suc, _+_, _-_, _*_, _/_, _^_, _≤_, _<_}

@@ -32,7 +32,7 @@ returns : tie.Need-returns
 unfolding told
 returns c = (
   telling encodeReply (c .before .enum-told .given .1)
-      (encoded (c .before .before .before) .encode .ensures .0) (c .done .ensures),
+      (encoded (c .before .before .before) .encode .ensures .0) told (c .done .ensures),
   encoded (c .before .before .before) .encode .ensures .1,
 )
 
@@ -43,7 +43,7 @@ returns-2 : tie.Need-returns-2
 unfolding told
 returns-2 c = (
   telling encodeReply (c .before .before .r .given .1)
-      (encoded (c .before .before .before .before) .encode .ensures .0) (c .refused .ensures),
+      (encoded (c .before .before .before .before) .encode .ensures .0) told (c .refused .ensures),
   encoded (c .before .before .before .before) .encode .ensures .1,
 )
 

@@ -2,7 +2,7 @@
 use borrow.Author.Needs.{needs}
 use Rattle.wiring.specs.Answer.{locateReply}
 use Rattle.c_api.specs.Answer.{told, toldPlace}
-use Rattle.c_api.proofs.Telling.{telling-place}
+use Rattle.c_api.proofs.Telling.{telling}
 use Rattle.c_api.proofs.lembikat_locate.Statement.{statement}
 use Rattle.c_api.proofs.lembikat_locate.Tie as tie
 
@@ -29,15 +29,15 @@ refused-requires c κs = search needs
 
 returns : tie.Need-returns
 unfolding told toldPlace
-returns c = telling-place locateReply (c .before .enum-told .given .1) (c .before .before .before .locate .ensures) (c .done .ensures)
+returns c = telling locateReply (c .before .enum-told .given .1) (c .before .before .before .locate .ensures) toldPlace (c .done .ensures)
 
 returns-2 : tie.Need-returns-2
 unfolding told toldPlace
-returns-2 c = telling-place locateReply (c .before .before .side .given .1) (c .before .before .before .before .locate .ensures) (c .found .ensures)
+returns-2 c = telling locateReply (c .before .before .side .given .1) (c .before .before .before .before .locate .ensures) toldPlace (c .found .ensures)
 
 returns-3 : tie.Need-returns-3
 unfolding told toldPlace
-returns-3 c = telling-place locateReply (c .before .before .r .given .1) (c .before .before .before .before .locate .ensures) (c .refused .ensures)
+returns-3 c = telling locateReply (c .before .before .r .given .1) (c .before .before .before .before .locate .ensures) toldPlace (c .refused .ensures)
 
 pub lembikat-locate-spec : {M : Type 1} → statement M
 lembikat-locate-spec =

@@ -23,11 +23,11 @@ refused-requires c κs = search needs
 
 returns : tie.Need-returns
 unfolding told
-returns c = telling marginReply (c .before .before .sweeps .given .1) (c .before .before .before .before .margin-sweeps .ensures) (c .done .ensures)
+returns c = telling marginReply (c .before .before .sweeps .given .1) (c .before .before .before .before .margin-sweeps .ensures) told (c .done .ensures)
 
 returns-2 : tie.Need-returns-2
 unfolding told
-returns-2 c = telling marginReply (c .before .before .r .given .1) (c .before .before .before .before .margin-sweeps .ensures) (c .refused .ensures)
+returns-2 c = telling marginReply (c .before .before .r .given .1) (c .before .before .before .before .margin-sweeps .ensures) told (c .refused .ensures)
 
 pub lembikat-margin-spec : {M : Type 1} → statement M
 lembikat-margin-spec =

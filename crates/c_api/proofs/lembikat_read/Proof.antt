@@ -32,7 +32,7 @@ returns : tie.Need-returns
 unfolding told
 returns c = (
   telling takenReply (c .before .enum-told .given .1)
-      (taken (c .before .before .before) .read-block .ensures .0) (c .done .ensures),
+      (taken (c .before .before .before) .read-block .ensures .0) told (c .done .ensures),
   taken (c .before .before .before) .read-block .ensures .1,
 )
 
@@ -43,7 +43,7 @@ returns-2 : tie.Need-returns-2
 unfolding told
 returns-2 c = (
   telling takenReply (c .before .before .r .given .1)
-      (taken (c .before .before .before .before) .read-block .ensures .0) (c .refused .ensures),
+      (taken (c .before .before .before .before) .read-block .ensures .0) told (c .refused .ensures),
   taken (c .before .before .before .before) .read-block .ensures .1,
 )
 

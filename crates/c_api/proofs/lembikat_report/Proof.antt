@@ -32,7 +32,7 @@ returns : tie.Need-returns
 unfolding told
 returns c = (
   telling reportReply (c .before .before .pairs .given .1)
-      (reported (c .before .before .before .before) .report-runs .ensures .0) (c .done .ensures),
+      (reported (c .before .before .before .before) .report-runs .ensures .0) told (c .done .ensures),
   reported (c .before .before .before .before) .report-runs .ensures .1,
 )
 
@@ -43,7 +43,7 @@ returns-2 : tie.Need-returns-2
 unfolding told
 returns-2 c = (
   telling reportReply (c .before .before .r .given .1)
-      (reported (c .before .before .before .before) .report-runs .ensures .0) (c .refused .ensures),
+      (reported (c .before .before .before .before) .report-runs .ensures .0) told (c .refused .ensures),
   reported (c .before .before .before .before) .report-runs .ensures .1,
 )
 

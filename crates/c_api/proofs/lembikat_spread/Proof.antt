@@ -23,11 +23,11 @@ refused-requires c κs = search needs
 
 returns : tie.Need-returns
 unfolding told
-returns c = telling spreadReply (c .before .before .spread .given .1) (c .before .before .before .before .plan-spread .ensures) (c .done .ensures)
+returns c = telling spreadReply (c .before .before .spread .given .1) (c .before .before .before .before .plan-spread .ensures) told (c .done .ensures)
 
 returns-2 : tie.Need-returns-2
 unfolding told
-returns-2 c = telling spreadReply (c .before .before .r .given .1) (c .before .before .before .before .plan-spread .ensures) (c .refused .ensures)
+returns-2 c = telling spreadReply (c .before .before .r .given .1) (c .before .before .before .before .plan-spread .ensures) told (c .refused .ensures)
 
 pub lembikat-spread-spec : {M : Type 1} → statement M
 lembikat-spread-spec =

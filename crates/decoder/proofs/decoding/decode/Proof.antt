@@ -1,11 +1,12 @@
 -- `decoder::decode` meets its contract: each return is the outcome of the first test that refuses, and past them all `decode_copy` gives the
 -- answer.
 use mathlib.Core.Path.{_≡_, refl, sym, ap, _∙_}
-use mathlib.Core.List.{[]}
+use mathlib.Core.List.{List, []}
 use native.Mathlib.Omega.{arith}
 use Prim.Native.Nat.{ℕ, _*_}
 use borrow.Author.Needs.{needs}
 use denote.Ref.{now}
+use lib.ListN.{replicate}
 use Rattle.inner_code.specs.Reply.{Reply, done, refused}
 use Rattle.inner_code.proofs.SheetChecks.{sound-accepted}
 use Rattle.inner_code.proofs.Finding.{prepared-finds}
@@ -14,6 +15,7 @@ use Rattle.wiring.specs.Block.{blockCheck}
 use Rattle.wiring.specs.Checking.{checkReply}
 use Rattle.wiring.proofs.Blocks.{block-sized}
 use Rattle.wiring.proofs.Plans.{PlanAccepted, plan-accepted, plan-refused}
+use Rattle.decoder.specs.Answer.{decodeCheck, decodeAnswer, decodeSums, decodeOutput}
 use Rattle.decoder.proofs.Settling.{decode-stopped, check-plan, check-block, check-short, check-limit, check-passed}
 use Rattle.decoder.proofs.decoding.decode.Statement.{statement}
 use Rattle.decoder.proofs.decoding.decode.Tie as tie
@@ -26,6 +28,9 @@ check-plan-requires c κs = search needs
 
 enum-known-values : tie.Need-enum-known-values
 enum-known-values c = search needs
+
+refuse-requires : tie.Need-refuse-requires
+refuse-requires c κs = search needs
 
 enum-known-values-2 : tie.Need-enum-known-values-2
 enum-known-values-2 c = search needs
@@ -60,6 +65,9 @@ checked c reply e =
 enum-known-r : tie.Need-enum-known-r
 enum-known-r c = search needs
 
+refuse-requires-2 : tie.Need-refuse-requires-2
+refuse-requires-2 c κs = search needs
+
 enum-told : tie.Need-enum-told
 enum-told c = search needs
 
@@ -71,25 +79,40 @@ ready c = c .before .before .before
 block : (c : tie.After-enum-told) → blockCheck (edgeCount (planIn (start (ready c)))) (now (start (ready c) .args .received)) ≡ done []
 block c = checked (c .before .before) (done []) (ap checkReply (c .enum-told .given .1))
 
+-- a call that is stopped answers with `refuse`
+stopped : (plan : Plan) (received output : List ℕ) (H : ℕ) {number place : ℕ} {reply : Reply} {sums : List ℕ}
+    → decodeCheck plan received output H ≡ refused number place → reply ≡ refused number place → sums ≡ replicate 64 0
+    → (reply ≡ decodeAnswer plan received output H)
+    × ((sums ≡ decodeSums plan received output H) × (output ≡ decodeOutput plan received output H))
+stopped plan received output H stops answers tells =
+    let r = decode-stopped plan received output H stops in
+    (answers ∙ sym (r .answer), (tells ∙ sym (r .tells), sym (r .leaves)))
+
+refuse-requires-3 : tie.Need-refuse-requires-3
+refuse-requires-3 c κs = search needs
+
+refuse-requires-4 : tie.Need-refuse-requires-4
+refuse-requires-4 c κs = search needs
+
 returns : tie.Need-returns
 returns c =
-    let passed = c .before in
-    let args = start (ready passed) .args in
-    let pass = block passed in
-    let r = decode-stopped _ _ _ _
-    (check-short _ (now (args .received)) (now (args .output)) (args .limit) (plan (ready passed) .plan-done) pass
-    (omega (arith, block-sized _ _ pass))) in
-    (sym (r .answer), sym (r .leaves))
-
-returns-2 : tie.Need-returns-2
-returns-2 c =
     let passed = c .before .before in
     let args = start (ready passed) .args in
     let pass = block passed in
-    let r = decode-stopped _ _ _ _
+    stopped _ _ _ _
+    (check-short _ (now (args .received)) (now (args .output)) (args .limit) (plan (ready passed) .plan-done) pass
+    (omega (arith, block-sized _ _ pass)))
+    (c .refuse3 .ensures .0) (c .refuse3 .ensures .1)
+
+returns-2 : tie.Need-returns-2
+returns-2 c =
+    let passed = c .before .before .before in
+    let args = start (ready passed) .args in
+    let pass = block passed in
+    stopped _ _ _ _
     (check-limit _ (now (args .received)) (now (args .output)) (args .limit) (plan (ready passed) .plan-done) pass
-    (omega (arith, block-sized _ _ pass)) (omega arith)) in
-    (sym (r .answer), sym (r .leaves))
+    (omega (arith, block-sized _ _ pass)) (omega arith))
+    (c .refuse4 .ensures .0) (c .refuse4 .ensures .1)
 
 -- the block that passed, from past the tests of room and limit
 abbrev fitting : tie.Else2 → tie.After-enum-told
@@ -110,16 +133,18 @@ decode-copy-requires c κs =
 
 returns-3 : tie.Need-returns-3
 returns-3 c =
-    let r = decode-stopped _ _ _ _
-    (check-plan _ _ _ _ (plan-refused _ _ _ (c .before .before .before .check-plan .ensures) (c .before .values .given .1))) in
-    (sym (r .answer), sym (r .leaves))
+    let values = c .before .before in
+    stopped _ _ _ _
+    (check-plan _ _ _ _ (plan-refused _ _ _ (values .before .before .check-plan .ensures) (values .values .given .1)))
+    (c .refuse .ensures .0) (c .refuse .ensures .1)
 
 returns-4 : tie.Need-returns-4
 returns-4 c =
-    let block = c .before .before .before in
-    let r = decode-stopped _ _ _ _
-    (check-block _ _ _ _ (plan (block .before) .plan-done) (checked block (refused _ _) (ap checkReply (c .before .r .given .1)))) in
-    (sym (r .answer), sym (r .leaves))
+    let faulty = c .before .before in
+    let block = faulty .before .before in
+    stopped _ _ _ _
+    (check-block _ _ _ _ (plan (block .before) .plan-done) (checked block (refused _ _) (ap checkReply (faulty .r .given .1))))
+    (c .refuse2 .ensures .0) (c .refuse2 .ensures .1)
 
 same-length : tie.Need-same-length
 same-length c = search needs
@@ -133,12 +158,16 @@ decode-spec =
     (tie.spec
     check-plan-requires
     enum-known-values
+    refuse-requires
     enum-known-values-2
     mul-check-block
     check-block-requires
     enum-known-r
+    refuse-requires-2
     enum-told
+    refuse-requires-3
     returns
+    refuse-requires-4
     returns-2
     prepare-finder-requires
     decode-copy-requires

@@ -59,7 +59,7 @@ settle-requires c κs =
 
 copy-front-requires-2 : tie.Need-copy-front-requires-2
 copy-front-requires-2 c κs =
-    let room = passed (start (copied (c .before .before .before .before))) .room in
+    let room = passed (start (copied (c .before .before .before .before .before))) .room in
     search needs
 
 same-length : tie.Need-same-length
@@ -68,24 +68,24 @@ same-length c = search needs
 returns : tie.Need-returns
 returns c =
     let stopped = c .before .before .before .before in
-    let swept = stopped .before .before .before in
+    let swept = stopped .before .before .before .before in
     let copy = copied swept in
     let received = now (start copy .args .received) in
     let settled = swept .settle in
     copy-unsettled _ _ _ _ (start copy .pre .1) (settled .last .1 .1 .1 .1 .1 .0) (length received - 0) (copy .copy-front .ensures) (omega arith)
-    (settled .ensures .0) (settled .kept .1 .1 .1 .1 .1 .0) (stopped .if1 .taken) (c .before .before .copy-front2 .ensures)
+    (settled .ensures .0) (settled .ensures .1 .0) (settled .kept .1 .1 .1 .1 .1 .0) (stopped .if1 .taken) (c .before .before .copy-front2 .ensures)
 
 same-length-2 : tie.Need-same-length-2
 same-length-2 c = search needs
 
 returns-2 : tie.Need-returns-2
 returns-2 c =
-    let swept = c .before .before .before in
+    let swept = c .before .before .before .before in
     let copy = copied swept in
     let received = now (start copy .args .received) in
     let settled = swept .settle in
     copy-settled _ _ _ _ (start copy .pre .1) (settled .last .1 .1 .1 .1 .1 .0) (length received - 0) (copy .copy-front .ensures) (omega arith)
-    (settled .ensures .0) (settled .kept .1 .1 .1 .1 .1 .0) (settled .ensures .1) (c .if1 .left)
+    (settled .ensures .0) (settled .ensures .1 .0) (settled .kept .1 .1 .1 .1 .1 .0) (settled .ensures .1 .1) (c .if1 .left)
 
 pub decode-copy-spec : {M : Type 1} → statement M
 decode-copy-spec =

@@ -1,31 +1,33 @@
--- `decoder::settle` meets its contract: each call of `sweep_side` is a sweep of the definition, and its count tells whether the block before it
--- was settled. The loop is entered unsettled after two sweeps and left at the first count after which the block is settled, or past the limit.
+-- `decoder::settle` meets its contract: each call of `sweep_side` is a sweep of the definition, and its count, which is noted as its sum, tells
+-- whether the block before it was settled. The loop is entered unsettled after two sweeps and left at the first count after which the block is
+-- settled, or past the limit.
 use mathlib.Core.List.{List}
 use mathlib.Core.Path.{_≡_, refl, sym, _∙_}
 use Prim.Native.Nat.{ℕ, _+_, _-_, _≤_}
 use native.Mathlib.Omega.{arith}
 use borrow.Author.Needs.{needs}
 use denote.Ref.{now}
-use lib.ListN.{length}
+use lib.ListN.{length, replicate}
 use Rattle.inner_code.specs.Finding.{Finds}
 use Rattle.wiring.specs.Plan.{Plan, planOf, sideOf}
 use Rattle.decoder.specs.Sweep.{turn}
 use Rattle.decoder.specs.Visiting.{Ready}
 use Rattle.decoder.proofs.Sweeping.{after-zero}
-use Rattle.decoder.proofs.Passes.{Begun, Pass, Swept, turn-zero, turn-one, turn-two, turn-more, pass, swept-two, swept-more}
+use Rattle.decoder.proofs.Passes.{Begun, Pass, Told, Swept, turn-zero, turn-one, turn-two, turn-more, pass, pass-few}
+use Rattle.decoder.proofs.Passes.{told-start, told-more, told-sized, swept-two, swept-more}
 use Rattle.decoder.proofs.Passes.{settle-zero, settle-one, settle-later, settle-never}
 use Rattle.decoder.proofs.settle.settle.Statement.{statement}
 use Rattle.decoder.proofs.settle.settle.Tie as tie
 
 abbrev Inv-loop : tie.InvT-loop
-Inv-loop sheet n wiring finder₀ limit block₀ first second side₀ count₀ finder block side count =
+Inv-loop sheet n wiring finder₀ limit block₀ sums₀ first second side₀ count₀ finder block sums side count =
     (2 ≤ count) × (side ≡ turn count) × (length block ≡ length block₀)
-    × ((received : List ℕ) → Begun (planOf sheet n wiring) received → Swept (planOf sheet n wiring) received 2 block₀
-    → Swept (planOf sheet n wiring) received count block)
+    × ((received : List ℕ) → Begun (planOf sheet n wiring) received → Swept (planOf sheet n wiring) received limit 2 block₀ sums₀
+    → Swept (planOf sheet n wiring) received limit count block sums)
     × (Finds sheet finder₀ → Finds sheet finder)
 
 abbrev μ-loop : tie.MeasureT-loop
-μ-loop sheet n wiring finder₀ limit block₀ first second side₀ count₀ finder block side count = limit + 1 - count
+μ-loop sheet n wiring finder₀ limit block₀ sums₀ first second side₀ count₀ finder block sums side count = limit + 1 - count
 
 -- ---- the call
 
@@ -49,18 +51,25 @@ lent c = c .before .before .before .before .before
 abbrev start : tie.After-sweep-side Inv-loop μ-loop → tie.Start Inv-loop μ-loop
 start c = lent (c .before)
 
-abbrev lent-again : tie.After-sweep-side-arg4 Inv-loop μ-loop → tie.After-sweep-side Inv-loop μ-loop
-lent-again c = c .before .before .before .before
+abbrev swept-once : tie.After-sums Inv-loop μ-loop → tie.After-sweep-side Inv-loop μ-loop
+swept-once c = c .before .before .before
+
+-- the first sum noted, from where the block is lent again and from the second sweep on
+abbrev lent-again : tie.After-sweep-side-arg4 Inv-loop μ-loop → tie.After-note Inv-loop μ-loop
+lent-again c = c .before .before
+
+abbrev noted-one : tie.After-sweep-side2 Inv-loop μ-loop → tie.After-note Inv-loop μ-loop
+noted-one c = lent-again (c .before)
 
 abbrev one : tie.After-sweep-side2 Inv-loop μ-loop → tie.After-sweep-side Inv-loop μ-loop
-one c = lent-again (c .before)
+one c = swept-once (noted-one c .before)
 
 sweep-side-requires : tie.Need-sweep-side-requires Inv-loop μ-loop
 sweep-side-requires c κs = lent c .pre .1 .0
 
 sweep-side-requires-2 : tie.Need-sweep-side-requires-2 Inv-loop μ-loop
 sweep-side-requires-2 c κs =
-    let first = lent-again c in
+    let first = swept-once (lent-again c .before) in
     ready-with (start first) (first .sweep-side .ensures .finds)
 
 first-pass : (c : tie.After-sweep-side Inv-loop μ-loop) → Pass (planIn (start c)) (receivedIn (start c)) 0 (c .sweep-side .result)
@@ -71,13 +80,27 @@ second-pass : (c : tie.After-sweep-side2 Inv-loop μ-loop) → Pass (planIn (sta
     (c .sweep-side2 .last .1 .1 .1 .1 .1 .0)
 second-pass c = pass (begun (start (one c))) (c .sweep-side2 .ensures) turn-one (first-pass (one c) .leaves)
 
+-- the sums are zeros at first, and the first sweep's is noted
+sums-begun : (c : tie.After-sums Inv-loop μ-loop)
+    → let s = start (swept-once c) in Told (planIn s) (receivedIn s) (s .args .limit) 0 (replicate 64 0)
+sums-begun c = let s = start (swept-once c) in told-start (begun s) (s .args .limit) refl
+
+note-requires : tie.Need-note-requires Inv-loop μ-loop
+note-requires c κs = let s = start (swept-once c) in (told-sized (begun s) (sums-begun c), pass-few (begun s) (first-pass (swept-once c)))
+
+told-one : (c : tie.After-note Inv-loop μ-loop)
+    → let s = start (swept-once (c .before)) in Told (planIn s) (receivedIn s) (s .args .limit) 1 (c .note .last .0)
+told-one c =
+    let s = start (swept-once (c .before)) in
+    told-more (begun s) (sums-begun (c .before)) (first-pass (swept-once (c .before))) (c .note .ensures)
+
 same-length : tie.Need-same-length Inv-loop μ-loop
 same-length c = search needs
 
 returns : tie.Need-returns Inv-loop μ-loop
 returns c =
     let two = c .before .before .before .before in
-    settle-zero (begun (start (one two))) _ (first-pass (one two)) (second-pass two) (c .if2 .taken) (c .before .if1 .taken)
+    settle-zero (begun (start (one two))) (first-pass (one two)) (second-pass two) (told-one (noted-one two)) (c .if2 .taken) (c .before .if1 .taken)
 
 same-length-2 : tie.Need-same-length-2 Inv-loop μ-loop
 same-length-2 c = search needs
@@ -85,7 +108,16 @@ same-length-2 c = search needs
 returns-2 : tie.Need-returns-2 Inv-loop μ-loop
 returns-2 c =
     let two = c .before .before .before .before in
-    settle-one (begun (start (one two))) _ (first-pass (one two)) (second-pass two) (c .if2 .left) (c .before .if1 .taken)
+    settle-one (begun (start (one two))) (first-pass (one two)) (second-pass two) (told-one (noted-one two)) (c .if2 .left) (c .before .if1 .taken)
+
+abbrev swept-twice : tie.After-sums2 Inv-loop μ-loop → tie.After-sweep-side2 Inv-loop μ-loop
+swept-twice c = c .before .before .before .before
+
+note-requires-2 : tie.Need-note-requires-2 Inv-loop μ-loop
+note-requires-2 c κs =
+    let two = swept-twice c in
+    let b = begun (start (one two)) in
+    (told-sized b (told-one (noted-one two)), pass-few b (second-pass two))
 
 -- ---- the loop
 
@@ -93,14 +125,19 @@ loop-holds : tie.Need-loop-holds Inv-loop μ-loop
 loop-holds c = (search needs, turn-two, refl, λ received b s. s, λ found. found)
 
 abbrev two : tie.At-loop Inv-loop μ-loop → tie.After-sweep-side2 Inv-loop μ-loop
-two c = c .before .before .before .before
+two c = swept-twice (c .before .before)
 
 abbrev begin : tie.At-loop Inv-loop μ-loop → tie.Start Inv-loop μ-loop
 begin c = start (one (two c))
 
-swept : (c : tie.At-loop Inv-loop μ-loop) → Swept (planIn (begin c)) (receivedIn (begin c)) (c .loop .count) (c .loop .block)
+swept : (c : tie.At-loop Inv-loop μ-loop)
+    → Swept (planIn (begin c)) (receivedIn (begin c)) (begin c .args .limit) (c .loop .count) (c .loop .block) (c .loop .sums)
 swept c =
-    c .loop .inv .3 _ (begun (begin c)) (swept-two (begun (begin c)) (first-pass (one (two c))) (second-pass (two c)) (c .before .if1 .left))
+    let b = begun (begin c) in
+    let noted = c .before in
+    c .loop .inv .3 _ b
+    (swept-two b (second-pass (two c)) (noted .before .before .if1 .left)
+    (told-more b (told-one (noted-one (two c))) (second-pass (two c)) (noted .note2 .ensures)))
 
 ready : (c : tie.At-loop Inv-loop μ-loop) → Ready (planIn (begin c)) (c .loop .finder)
 ready c = ready-with (begin c) (c .loop .inv .4 (two c .sweep-side2 .ensures .finds))
@@ -113,7 +150,7 @@ sweep-side-requires-3 c κs = ready (c .before .before .before)
 
 -- whatever block was received
 later-pass : (c : tie.After-sweep-side3 Inv-loop μ-loop) (received : List ℕ) → Begun (planIn (begin (head c))) received
-    → Swept (planIn (begin (head c))) received (head c .loop .count) (head c .loop .block)
+    → Swept (planIn (begin (head c))) received (begin (head c) .args .limit) (head c .loop .count) (head c .loop .block) (head c .loop .sums)
     → Pass (planIn (begin (head c))) received (head c .loop .count) (c .sweep-side3 .result) (c .sweep-side3 .last .1 .1 .1 .1 .1 .0)
 later-pass c received b so-far = pass b (c .sweep-side3 .ensures) (head c .loop .inv .1) (so-far .block-is)
 
@@ -127,12 +164,23 @@ returns-3 c =
     settle-later b (swept (head last)) (later-pass last _ b (swept (head last))) (c .if3 .taken) (omega (arith, head last .loop .inv .0))
     (last .before .before .before .loop-test .taken)
 
+note-requires-3 : tie.Need-note-requires-3 Inv-loop μ-loop
+note-requires-3 c κs =
+    let last = c .before .before .before .before in
+    let b = begun (begin (head last)) in
+    let so-far = swept (head last) in
+    (told-sized b (so-far .told), pass-few b (later-pass last _ b so-far))
+
+-- the sweep, from its sum noted on
+abbrev last-sweep : tie.After-note3 Inv-loop μ-loop → tie.After-sweep-side3 Inv-loop μ-loop
+last-sweep c = c .before .before .before .before .before
+
 other-side-requires : tie.Need-other-side-requires Inv-loop μ-loop
 other-side-requires c κs = search needs
 
 add-count : tie.Need-add-count Inv-loop μ-loop
 add-count c =
-    let last = c .before .before .before .before in
+    let last = last-sweep (c .before) in
     omega (arith, last .before .before .before .loop-test .taken, begin (head last) .pre .0)
 
 loop-less : tie.Need-loop-less Inv-loop μ-loop
@@ -140,19 +188,19 @@ loop-less c = search needs
 
 loop-again : tie.Need-loop-again Inv-loop μ-loop
 loop-again c =
-    let last = c .before .before .before .before in
+    let last = last-sweep (c .before) in
     let before = head last .loop in (
       omega (arith, before .inv .0),
       c .other-side .ensures ∙ turn-more _ (before .inv .1),
       last .sweep-side3 .kept .1 .1 .1 .1 .1 .0 ∙ before .inv .2,
       λ received b s.
           let so-far = before .inv .3 received b s in
-          swept-more b so-far (later-pass last received b so-far) (c .before .if3 .left),
+          swept-more b so-far (later-pass last received b so-far) (c .before .before .before .if3 .left) (c .before .note3 .ensures),
       λ first. last .sweep-side3 .ensures .finds,
     )
 
-add-result : tie.Need-add-result Inv-loop μ-loop
-add-result c = omega (arith, begin (c .before) .pre .0)
+add-past : tie.Need-add-past Inv-loop μ-loop
+add-past c = omega (arith, begin (c .before) .pre .0)
 
 same-length-4 : tie.Need-same-length-4 Inv-loop μ-loop
 same-length-4 c = search needs
@@ -167,19 +215,22 @@ settle-spec =
     Inv-loop
     μ-loop
     sweep-side-requires
+    note-requires
     sweep-side-requires-2
     same-length
     returns
     same-length-2
     returns-2
+    note-requires-2
     loop-holds
     sweep-side-requires-3
     same-length-3
     returns-3
+    note-requires-3
     other-side-requires
     add-count
     loop-less
     loop-again
-    add-result
+    add-past
     same-length-4
     returns-4)

@@ -1,5 +1,5 @@
--- `decoder::sweep_side` meets its contract: after v vertices the block is the one with the first v visited, and `changed` counts those that
--- changed. Passing over vertices is visiting them, and a vertex at which it stops changes.
+-- `decoder::sweep_side` meets its contract: after v vertices the block is the one with the first v visited, and `changed` counts the bits that
+-- changed. Passing over vertices is visiting them, and where it stops the step tells how many bits it changes.
 use mathlib.Core.Path.{refl}
 use Prim.Native.Nat.{_-_, _≤_}
 use native.Mathlib.Omega.{arith}
@@ -10,7 +10,7 @@ use Rattle.inner_code.proofs.Finding.{found-means}
 use Rattle.wiring.specs.Plan.{Plan, planOf, sideOf}
 use Rattle.decoder.specs.Visiting.{Ready}
 use Rattle.decoder.proofs.Visiting.{Visits, visits-none, visits-le, visits-changed, visits-passed, visits-sweep, visits-length}
-use Rattle.decoder.proofs.Visiting.{word-found, word-put, ready-sheet, ready-whole}
+use Rattle.decoder.proofs.Visiting.{word-found, word-counted, word-put, ready-sheet, ready-whole}
 use Rattle.decoder.proofs.sweep.sweep_side.Statement.{statement}
 use Rattle.decoder.proofs.sweep.sweep_side.Tie as tie
 
@@ -64,19 +64,27 @@ write-word-requires c κs = search needs
 
 -- ---- vertex v is mended: its nearest word is found, its number was below n, and passing over stopped at it
 
-abbrev mending : tie.After-slice-known2 Inv-loop μ-loop → tie.After-find-nearest Inv-loop μ-loop
-mending c = c .before .before .before .before
+abbrev put : tie.After-struct-known Inv-loop μ-loop → tie.After-write-word Inv-loop μ-loop
+put c = c .before .before .before
 
-abbrev inside : tie.After-slice-known2 Inv-loop μ-loop → tie.Then1 Inv-loop μ-loop
+abbrev mending : tie.After-struct-known Inv-loop μ-loop → tie.After-find-nearest Inv-loop μ-loop
+mending c = put c .before .before
+
+abbrev inside : tie.After-struct-known Inv-loop μ-loop → tie.Then1 Inv-loop μ-loop
 inside c = mending c .before .before .before .before
 
-abbrev stop : tie.After-slice-known2 Inv-loop μ-loop → tie.After-pass-over Inv-loop μ-loop
+abbrev stop : tie.After-struct-known Inv-loop μ-loop → tie.After-pass-over Inv-loop μ-loop
 stop c = inside c .before
+
+cast-changed : tie.Need-cast-changed Inv-loop μ-loop
+cast-changed c = search needs
 
 add-changed : tie.Need-add-changed Inv-loop μ-loop
 add-changed c =
-    let all = visits-le (passed (stop c)) in
-    omega (arith, inside c .if1 .taken)
+    let turn = head (stop c) .loop in
+    let name = start (head (stop c) .before) .args .side in
+    let few = visits-le (turn .inv .2) name (stop c .pass-over .ensures .within) (passed (stop c)) in
+    omega (arith, c .struct-known .given)
 
 add-v : tie.Need-add-v Inv-loop μ-loop
 add-v c = search needs
@@ -97,9 +105,10 @@ loop-again c =
     let ready = turn .inv .2 in
     let means = found-means _ _ (found .find-nearest .ensures .0) (found .find-nearest .ensures .1) in (
       omega (arith, below),
-      visits-changed (ready-whole ready name) below (passed (stop c)) (stop c .pass-over .ensures .stops below)
+      visits-changed (ready-whole ready name) below (passed (stop c))
           (word-found ready name (turn .block) below refl (found .before .before .read-word .ensures) means)
-          (word-put ready name (turn .block) (found .find-nearest .result) below refl (c .before .before .write-word .ensures)),
+          (word-counted ready name (turn .block) below refl (found .before .before .read-word .ensures) means)
+          (word-put ready name (turn .block) (found .find-nearest .result .word) below refl (put c .write-word .ensures)),
       record { plan-done = ready .plan-done; finds = means .finds _ (ready .finds) },
     )
 
@@ -131,6 +140,7 @@ sweep-side-spec =
     read-word-requires
     find-nearest-requires
     write-word-requires
+    cast-changed
     add-changed
     add-v
     loop-less

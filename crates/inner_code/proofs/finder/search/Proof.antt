@@ -1,9 +1,11 @@
 -- `inner_code::search` meets its contract: the part that is lent on holds the listed codewords.
-use mathlib.Core.Path.{sym, _∙_}
+use mathlib.Core.Path.{sym, ap, _∙_}
 use Prim.Native.Nat.{_+_, _-_}
 use borrow.Author.Needs.{needs}
 use native.Mathlib.Omega.{arith}
 use denote.Ref.{now}
+use lib.Bits.{xor-zero-r}
+use Rattle.inner_code.specs.Reduction.{stepTo}
 use Rattle.inner_code.proofs.Finding.{search-part, search-few, search-many}
 use Rattle.inner_code.proofs.finder.search.Statement.{statement}
 use Rattle.inner_code.proofs.finder.search.Tie as tie
@@ -14,8 +16,13 @@ element-copy-out-widened c = search needs
 widened-requires : tie.Need-widened-requires
 widened-requires c κs = search needs
 
+put-on-requires : tie.Need-put-on-requires
+put-on-requires c κs = search needs
+
 returns : tie.Need-returns
-returns c = sym (search-many (now (c .before .before .before .args .finder)) _ (omega arith))
+returns c =
+    let args = c .before .before .before .before .args in
+    c .put-on .ensures ∙ ap (stepTo (args .word)) (xor-zero-r (args .word) ∙ sym (search-many (now (args .finder)) _ (omega arith)))
 
 add-end : tie.Need-add-end
 add-end c = search needs
@@ -37,8 +44,9 @@ returns-2 c =
     let counted = c .before .before .before .before in
     let start = counted .before .before in
     c .nearest-listed .ensures
-    ∙ search-part (now (start .args .finder)) _ (1312 + counted .widened .result - 1312) (start .args .word) (omega arith) (omega arith)
-    ∙ sym (search-few (now (start .args .finder)) (start .args .word) (omega arith))
+    ∙ ap (stepTo (start .args .word))
+    (search-part (now (start .args .finder)) _ (1312 + counted .widened .result - 1312) (start .args .word) (omega arith) (omega arith)
+    ∙ sym (search-few (now (start .args .finder)) (start .args .word) (omega arith)))
 
 pub search-spec : {M : Type 1} → statement M
 search-spec =
@@ -46,6 +54,7 @@ search-spec =
     (tie.spec
     element-copy-out-widened
     widened-requires
+    put-on-requires
     returns
     add-end
     sub-nearest-listed

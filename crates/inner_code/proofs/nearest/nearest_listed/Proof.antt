@@ -11,7 +11,7 @@ use lib.Count.{ones-le}
 use Rattle.bits.specs.Window.{at}
 use Rattle.bits.specs.Search.{least}
 use Rattle.inner_code.specs.Code.{key, noKey}
-use Rattle.inner_code.specs.Reduction.{leastKey, searched}
+use Rattle.inner_code.specs.Reduction.{leastKey, searched, stepTo}
 use Rattle.inner_code.proofs.NearestWord.{leastKey-lower, leastKey-kept}
 use Rattle.inner_code.proofs.nearest.nearest_listed.Statement.{statement}
 use Rattle.inner_code.proofs.nearest.nearest_listed.Tie as tie
@@ -24,6 +24,9 @@ Inv-loop words word best₀ m₀ best m = (m ≤ length words) × (best ≡ leas
 abbrev μ-loop : tie.MeasureT-loop
 μ-loop words word best₀ m₀ best m = length words - m
 
+abbrev start : tie.At-loop Inv-loop μ-loop → tie.Start Inv-loop μ-loop
+start c = c .before .before
+
 loop-holds : tie.Need-loop-holds Inv-loop μ-loop
 unfolding leastKey least noKey
 loop-holds c = search needs
@@ -35,9 +38,9 @@ shared-slice-read-pattern : tie.Need-shared-slice-read-pattern Inv-loop μ-loop
 shared-slice-read-pattern c = search needs
 
 -- a pattern has 16 digits
-pattern-lt : (c : tie.After-shared-slice-known Inv-loop μ-loop)
-    → bitXor (getD (now (c .before .before .before .args .words)) (c .before .before .loop .m) 0) (c .before .before .before .args .word) < 2 ^ 16
-pattern-lt c = xor-lt 16 _ _ (c .shared-slice-known .given (c .before .before .loop .m) .fits) (c .before .before .before .fits .word .fits)
+pattern-lt : (c : tie.After-shared-slice-known2 Inv-loop μ-loop)
+    → bitXor (getD (now (start (c .before .before) .args .words)) (c .before .before .loop .m) 0) (start (c .before .before) .args .word) < 2 ^ 16
+pattern-lt c = xor-lt 16 _ _ (c .shared-slice-known2 .given (c .before .before .loop .m) .fits) (start (c .before .before) .fits .word .fits)
 
 mul-key : tie.Need-mul-key Inv-loop μ-loop
 mul-key c = omega (arith, ones-le 16 _ (pattern-lt c))
@@ -58,23 +61,28 @@ loop-again : tie.Need-loop-again Inv-loop μ-loop
 unfolding at key
 loop-again c =
     let before = c .before .before .before .loop in
-    let args = c .before .before .before .before .args in
+    let args = start (c .before .before .before) .args in
     let words = at (now (args .words)) in (
       search needs,
       ⊎-elim (λ w. w .1 ∙ leastKey-lower words (before .m) (args .word) (before .best) (before .inv .1) (w .0 .taken))
           (λ w. w .1 ∙ leastKey-kept words (before .m) (args .word) (before .best) (before .inv .1) (w .0 .left)) (c .if1 .came),
     )
 
-cast-result : tie.Need-cast-result Inv-loop μ-loop
-cast-result c = search needs
+cast-put-on : tie.Need-cast-put-on Inv-loop μ-loop
+cast-put-on c = search needs
+
+put-on-requires : tie.Need-put-on-requires Inv-loop μ-loop
+put-on-requires c κs = search needs
 
 returns : tie.Need-returns Inv-loop μ-loop
 unfolding searched
 returns c =
-    let args = c .before .before .args in
-    let end : c .before .loop .m ≡ length (now (args .words)) = omega arith in
-    ap (λ (x : ℕ). bitXor (args .word) (x % 65536))
-    (c .before .loop .inv .1 ∙ ap (λ (n : ℕ). leastKey (at (now (args .words))) n (args .word)) end)
+    let head = c .before .before in
+    let args = start head .args in
+    let end : head .loop .m ≡ length (now (args .words)) = omega arith in
+    c .put-on .ensures
+    ∙ ap (λ (x : ℕ). stepTo (args .word) (bitXor (args .word) (x % 65536)))
+    (head .loop .inv .1 ∙ ap (λ (n : ℕ). leastKey (at (now (args .words))) n (args .word)) end)
 
 pub nearest-listed-spec : {M : Type 1} → statement M
 nearest-listed-spec =
@@ -91,5 +99,6 @@ nearest-listed-spec =
     add-m
     loop-less
     loop-again
-    cast-result
+    cast-put-on
+    put-on-requires
     returns)

@@ -7,7 +7,7 @@ use denote.Ref.{now}
 use lib.ListN.{length, take, replicate, length-replicate}
 use Rattle.bits.specs.Window.{at}
 use Rattle.inner_code.specs.Sheet.{rowOf}
-use Rattle.inner_code.specs.Reduction.{searched}
+use Rattle.inner_code.specs.Reduction.{searched, stepTo}
 use Rattle.inner_code.proofs.Listings.{lists-fits, front-searched}
 use Rattle.inner_code.proofs.nearest.nearest_of_rows.Statement.{statement}
 use Rattle.inner_code.proofs.nearest.nearest_of_rows.Tie as tie
@@ -43,8 +43,9 @@ returns c =
     let words = listed .list-codewords .last .1 .1 .0 in
     let all : listed .list-codewords .result - 0 ≡ listed .list-codewords .result = omega arith in
     c .nearest-listed .ensures
-    ∙ ap (λ (n : ℕ). searched (at (take n words)) (length (take n words)) (args .word)) all
-    ∙ front-searched (rowOf (now (args .sheet))) (args .k) (listed .list-codewords .ensures) room (args .word)
+    ∙ ap (stepTo (args .word))
+    (ap (λ (n : ℕ). searched (at (take n words)) (length (take n words)) (args .word)) all
+    ∙ front-searched (rowOf (now (args .sheet))) (args .k) (listed .list-codewords .ensures) room (args .word))
 
 pub nearest-of-rows-spec : {M : Type 1} → statement M
 nearest-of-rows-spec =

@@ -1,6 +1,6 @@
 -- `inner_code::nearest_word` meets its contract: each return is the outcome of the first test that holds, and the search over the
 -- listed codewords finds the nearest word.
-use mathlib.Core.Path.{_≡_, refl, sym, ap, _∙_}
+use mathlib.Core.Path.{_≡_, refl, sym, ap, ap₂, _∙_}
 use mathlib.Core.List.{[], _∷_}
 use Prim.Native.Nat.{ℕ, _*_, _-_, _%_, _^_, _≤_, _<_, min}
 use borrow.Author.Needs.{needs}
@@ -10,10 +10,11 @@ use denote.Ref.{now}
 use lib.Pow.{pow-mono}
 use Rattle.inner_code.specs.Reply.{done}
 use Rattle.inner_code.specs.Code.{combination}
-use Rattle.inner_code.specs.Reduction.{searched}
+use Rattle.inner_code.specs.Reduction.{searched, stepTo}
 use Rattle.inner_code.specs.Sheet.{degree, rowCount, rowOf}
 use Rattle.inner_code.proofs.SheetChecks.{Accepted, accepted, turned-back}
 use Rattle.inner_code.proofs.NearestWord.{nearest-answer-refused, nearest-answer-high, nearest-answer-word, nearest-searched}
+use Rattle.inner_code.proofs.NearestWord.{step-word, step-changed, changed-ones}
 use Rattle.inner_code.proofs.nearest.nearest_word.Statement.{statement}
 use Rattle.inner_code.proofs.nearest.nearest_word.Tie as tie
 use Rattle.inner_code.proofs.nearest.nearest_word.Reads as reads
@@ -69,8 +70,11 @@ cast-nearest-of-rows c = omega (arith, low c, pow-mono {j = 16} (plan (c .before
 nearest-of-rows-requires : tie.Need-nearest-of-rows-requires
 nearest-of-rows-requires c κs = search needs
 
-cast-t9 : tie.Need-cast-t9
-cast-t9 c = search needs
+cast-nearest : tie.Need-cast-nearest
+cast-nearest c = search needs
+
+cast-changed : tie.Need-cast-changed
+cast-changed c = search needs
 
 returns-2 : tie.Need-returns-2
 returns-2 c =
@@ -78,20 +82,20 @@ returns-2 c =
 
 returns-3 : tie.Need-returns-3
 returns-3 c =
-    let p = plan (c .before .before) in
-    let args = start (checked (c .before .before)) .args in
+    let found = c .before .before in
+    let p = plan (found .before .before) in
+    let args = start (checked (found .before .before)) .args in
     let sheet = now (args .sheet) in
     let word = args .word in
-    let rows : min (c .before .before .before .values2 .given .0 .1 .0) 11 ≡ rowCount sheet =
+    let rows : min (found .before .before .before .values2 .given .0 .1 .0) 11 ≡ rowCount sheet =
     ap (λ (k : ℕ). min k 11) (p .k-is) ∙ min-eq-left (p .sheet-sound .count-high) in
-    sym
-    (nearest-answer-word sheet word (p .sheet-done) (low (c .before))
-    ∙ ap (λ (x : ℕ). done (x ∷ []))
-    (sym
-    (c .nearest-of-rows .ensures
-    ∙ ap (λ (k : ℕ). searched (combination (rowOf sheet) k) (2 ^ k) word) rows
+    let nearest = ap (λ (k : ℕ). searched (combination (rowOf sheet) k) (2 ^ k) word) rows
     ∙ nearest-searched (rowOf sheet) (rowCount sheet) (degree sheet) (p .sheet-sound .degree-high) (p .sheet-sound .rows-lt)
-    (combination (rowOf sheet) (rowCount sheet)) (λ m h. refl) word (low (c .before)))))
+    (combination (rowOf sheet) (rowCount sheet)) (λ m h. refl) word (low (found .before)) in
+    let step = found .nearest-of-rows .ensures ∙ ap (stepTo word) nearest in
+    ap₂ (λ (x n : ℕ). done (x ∷ n ∷ [])) (step-word word _ step)
+    (step-changed word _ step ∙ changed-ones (rowOf sheet) (rowCount sheet) (degree sheet) word)
+    ∙ sym (nearest-answer-word sheet word (p .sheet-done) (low (found .before)))
 
 pub nearest-word-spec : {M : Type 1} → statement M
 nearest-word-spec =
@@ -104,6 +108,7 @@ nearest-word-spec =
     returns
     cast-nearest-of-rows
     nearest-of-rows-requires
-    cast-t9
+    cast-nearest
+    cast-changed
     returns-2
     returns-3)
