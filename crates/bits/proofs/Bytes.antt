@@ -9,19 +9,19 @@
 -- A law is named by its subject, then by the fact: `bitAt-` is about a bit that is read, `withBit-` about the whole byte
 -- string after a bit is written, `putDigit-` about one number, `pairAt-` about two bytes. At the end of a name, `-same` and `-other` are the place
 -- that is written and any other, `-keeps` a write of what stands there, `-past` what lies past the
--- end, `-ext` equality from the bits.
+-- end, `-ext` equality from the bits, `-front` and `-behind` what stands in one string with another behind it, and in that one.
 -- That every byte is below 256 is said as `(k : ℕ) → getD bytes k 0 < 256`.
 use mathlib.Core.Path.{_≡_, refl, sym, ap, ap₂, _∙_}
 use mathlib.Core.Logic.{_≢_}
-use mathlib.Core.List.{List, [], _∷_}
+use mathlib.Core.List.{List, [], _∷_, _++_}
 use Prim.Native.Nat.{ℕ, zero, suc, _+_, _-_, _*_, _/_, _%_, _^_, _≤_, _<_}
 use native.Mathlib.Nat.{lt-of-lt-of-le, zero-mul}
 use native.Mathlib.Decide.{ℕ-discrete}
 use native.Mathlib.Omega.{arith}
 use lib.Bits.{bitXor, xor-lt, xor-self, xor-zero-r}
-use lib.ListN.{length, getD, set, length-set, List·getD-eq-default}
+use lib.ListN.{length, getD, set, length-set, List·getD-append, List·getD-eq-default}
 use lib.Pow.{pow-mono, shl-lt}
-use lib.Seq.{ext-getD, set-getD, set-out, getD-set-same, getD-set-other}
+use lib.Seq.{ext-getD, getD-append-add, set-getD, set-out, getD-set-same, getD-set-other}
 use Rattle.bits.specs.Bit.{digit, bitAt, putDigit, withBit, pairAt}
 use Rattle.bits.proofs.Xor.{digit-lt, digit-zero, digit-ext, digit-pow-same, digit-pow-other, xor-digit}
 use Rattle.bits.proofs.Xor.{xor-cancel, xor-bits-lt}
@@ -131,3 +131,15 @@ pairAt-past bytes at h = simp (List·getD-eq-default bytes 0 {n = at} h, List·g
 pub pairAt-last : (bytes : List ℕ) (at : ℕ) → length bytes ≡ at + 1 → pairAt bytes at ≡ getD bytes at 0 * 256
 unfolding pairAt
 pairAt-last bytes at e = omega (arith, List·getD-eq-default bytes 0 {n = at + 1} (omega arith))
+
+-- in one string behind another
+module _ (front rest : List ℕ) (at : ℕ) where
+  pub pairAt-front : at + 1 < length front → pairAt (front ++ rest) at ≡ pairAt front at
+  unfolding pairAt
+  pairAt-front l = rw (List·getD-append front rest 0 at (omega arith), List·getD-append front rest 0 (at + 1) l)
+
+  pub pairAt-behind : pairAt (front ++ rest) (length front + at) ≡ pairAt rest at
+  unfolding pairAt
+  pairAt-behind =
+      let next : length front + at + 1 ≡ length front + (at + 1) = omega arith in
+      rw (next, getD-append-add front rest at 0, getD-append-add front rest (at + 1) 0)

@@ -1,8 +1,8 @@
 -- What a C host is told.
---   told reply              a service's reply: its first value, 0 where it has none, or its refusal's number and place
---   toldWord reply          the nearest word's reply: as told, and beside it the bits changed, its second value
---   toldDecode reply meter  the decoder's reply: as told, and beside it the sums
---   toldPlace reply         the locator's reply: nothing, or as place 1 for left (0) and 2 for right (1) and as value the vertex, or its refusal
+--   told reply               a service's reply: its first value, 0 where it has none, or its refusal's number and place
+--   toldWord reply           the nearest word's reply: as told, and beside it the bits changed, its second value
+--   toldDecode reply counts  the decoder's reply: as told, and beside it the sums
+--   toldPlace reply          the locator's reply: nothing, or as place 1 for left (0) and 2 for right (1) and as value the vertex, or its refusal
 use Prim.Native.Nat.{ℕ, suc}
 use mathlib.Core.List.{List, [], _∷_}
 use lib.ListN.{getD}
@@ -20,8 +20,8 @@ toldWord (done values) = record { number = 0; place = 0; value = getD values 0 0
 toldWord (refused x y) = record { number = x; place = y; value = 0; changed = 0 }
 
 unfoldable pub toldDecode : Reply → List ℕ → DecodeAnswer
-toldDecode (done values) meter = record { number = 0; place = 0; value = getD values 0 0; sums = meter }
-toldDecode (refused x y) meter = record { number = x; place = y; value = 0; sums = meter }
+toldDecode (done values) counts = record { number = 0; place = 0; value = getD values 0 0; sums = counts }
+toldDecode (refused x y) counts = record { number = x; place = y; value = 0; sums = counts }
 
 unfoldable pub toldPlace : Reply → Answer
 unfolding told

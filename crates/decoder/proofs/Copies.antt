@@ -20,7 +20,7 @@ use Rattle.wiring.specs.Wiring.{planCheck}
 use Rattle.wiring.specs.Block.{blockBytes, blockCheck}
 use Rattle.wiring.proofs.Blocks.{block-sized, block-clear, block-back}
 use Rattle.wiring.proofs.Plans.{plan-sound, plan-back}
-use Rattle.decoder.specs.Decode.{sweptBlock, settlesAt, meter}
+use Rattle.decoder.specs.Decode.{sweptBlock, settlesAt, sweepSums}
 use Rattle.decoder.specs.Answer.{decodeCheck, decodeAnswer, decodeSums, decodeOutput}
 use Rattle.decoder.proofs.Settling.{decode-unsettled, decode-settled}
 
@@ -53,7 +53,7 @@ check-means plan received output H {values} e =
 
 module _ (plan : Plan) (received output : List ℕ) (H : ℕ) (checked : decodeCheck plan received output H ≡ done []) {copied : List ℕ}
     (swept : List ℕ) (size : ℕ) {count : ℕ} (copy : copied ≡ written received output) (sized : size ≡ length received)
-    {sums : List ℕ} (counted : count ≡ settlesAt plan (take size copied) H) (told : sums ≡ meter plan (take size copied) (min count H))
+    {sums : List ℕ} (counted : count ≡ settlesAt plan (take size copied) H) (told : sums ≡ sweepSums plan (take size copied) (min count H))
     (kept : length swept ≡ length (take size copied)) where
   copy-part : take size copied ≡ received
   copy-part = ap (take size) copy ∙ written-part received output size sized
@@ -61,8 +61,8 @@ module _ (plan : Plan) (received output : List ℕ) (H : ℕ) (checked : decodeC
   copy-count : settlesAt plan received H ≡ count
   copy-count = sym (counted ∙ ap (λ (block : List ℕ). settlesAt plan block H) copy-part)
 
-  copy-told : sums ≡ meter plan received (min count H)
-  copy-told = told ∙ ap (λ (block : List ℕ). meter plan block (min count H)) copy-part
+  copy-told : sums ≡ sweepSums plan received (min count H)
+  copy-told = told ∙ ap (λ (block : List ℕ). sweepSums plan block (min count H)) copy-part
 
   copy-whole : swept ++ drop size copied ≡ written swept output
   copy-whole = ap (λ (l : List ℕ). swept ++ drop size l) copy ∙ written-over received swept output size sized (kept ∙ ap length copy-part)
@@ -74,7 +74,7 @@ module _ (plan : Plan) (received output : List ℕ) (H : ℕ) (checked : decodeC
       let r = decode-settled plan received output H checked count copy-count l in (
         sym (r .answer),
         (
-          copy-told ∙ ap (meter plan received) (min-eq-left l) ∙ sym (r .tells),
+          copy-told ∙ ap (sweepSums plan received) (min-eq-left l) ∙ sym (r .tells),
           copy-whole ∙ ap (λ (block : List ℕ). written block output) (leaves l ∙ ap (sweptBlock plan count) copy-part) ∙ sym (r .leaves),
         ),
       )
@@ -86,7 +86,7 @@ module _ (plan : Plan) (received output : List ℕ) (H : ℕ) (checked : decodeC
       let r = decode-unsettled plan received output H checked (omega (arith, copy-count)) in (
         sym (r .answer),
         (
-          copy-told ∙ ap (meter plan received) (min-eq-right (omega arith)) ∙ sym (r .tells),
+          copy-told ∙ ap (sweepSums plan received) (min-eq-right (omega arith)) ∙ sym (r .tells),
           e ∙ ap (written received) copy-whole ∙ written-again received swept output (kept ∙ ap length copy-part) ∙ sym (r .leaves),
         ),
       )

@@ -1,53 +1,33 @@
--- What the meter says of a block that settles after one sweep: its first sum is the number of bits in which the received and the settled block
+-- What the sums say of a block that settles after one sweep: its first sum is the number of bits in which the received and the settled block
 -- differ, which is what the lengths of the report's runs add up to.
 --   decodeAnswer, decodeSums, decodeOutput   what the decoder answers, the sums that it tells, and its output at exit (specs Answer)
 --   reportAnswer, reportList                 what the report answers, and its list at exit (specs Answer)
 --   flips N a b                              the number of bits 0 .. N - 1 in which two byte strings differ (bits specs Bit)
 -- Of blocks that settle later nothing is claimed beyond the definition of the sums: a bit that one sweep changes another may change back.
-use Prim.Native.Nat.{ℕ, _+_, _*_, _≤_}
-use mathlib.Core.Bool.{not}
+use Prim.Native.Nat.{ℕ, _+_, _*_}
 use mathlib.Core.List.{List, [], _∷_}
-use mathlib.Core.Path.{_≡_, refl, sym, ap, _∙_}
+use mathlib.Core.Path.{_≡_, sym, ap, _∙_}
 use native.Mathlib.Omega.{arith}
 use lib.ListN.{length, getD, take}
-use borrow.Author.Tests.{leb-true, not-false}
 use Rattle.bits.specs.Bit.{pairAt, written, flips}
 use Rattle.bits.specs.Sum.{sum}
 use Rattle.bits.proofs.Fronts.{written-part}
-use Rattle.inner_code.specs.Reply.{done, refuseIf, andThen}
-use Rattle.inner_code.proofs.Replies.{andThen-done, refuse-done}
+use Rattle.inner_code.specs.Reply.{done}
 use Rattle.wiring.specs.Plan.{Plan, edgeCount, sideOf}
-use Rattle.decoder.specs.Decode.{sweptBlock, settlesAt, sweepSum, trial}
-use Rattle.decoder.specs.Answer.{decodeCheck, decodeAnswer, decodeSums, decodeOutput, reportAnswer, reportList}
+use Rattle.decoder.specs.Decode.{sweptBlock, sweepSum}
+use Rattle.decoder.specs.Answer.{decodeAnswer, decodeSums, decodeOutput, reportAnswer, reportList}
 use Rattle.decoder.proofs.Sweeping.{after-zero, length-after}
-use Rattle.decoder.proofs.Settling.{decode-settled}
-use Rattle.decoder.proofs.Metering.{meter-made}
-use Rattle.decoder.proofs.Lengths.{told-same, report-lengths}
+use Rattle.decoder.proofs.Settling.{decode-settled, decode-means}
+use Rattle.decoder.proofs.SweepSums.{sums-made}
+use Rattle.decoder.proofs.Lengths.{report-lengths}
 
 module _ (plan : Plan) (received output : List ℕ) (H : ℕ) where
-  decode-tests : decodeAnswer plan received output H
-      ≡ andThen (decodeCheck plan received output H)
-      (refuseIf (not (trial plan received H .settled)) 15 0 (done (trial plan received H .count ∷ [])))
-  unfolding decodeAnswer
-  decode-tests = refl
-
-  -- a count that is answered is the one at which the block settles, within the limit
-  decode-means : (count : ℕ) → decodeAnswer plan received output H ≡ done (count ∷ [])
-      → (settlesAt plan received H ≡ count) × (count ≤ H) × ((values : List ℕ) × (decodeCheck plan received output H ≡ done values))
-  unfolding trial
-  decode-means count e =
-      let (passed, rest) = andThen-done _ _ (count ∷ []) (sym decode-tests ∙ e) in
-      let (kept, last) = refuse-done _ 15 0 _ (count ∷ []) rest in
-      let at : settlesAt plan received H ≡ count = told-same last in
-      let in-time : settlesAt plan received H ≤ H = leb-true _ _ (not-false _ kept) in
-      (at, omega arith, passed)
-
   module _ (once : decodeAnswer plan received output H ≡ done (1 ∷ [])) (settled : List ℕ) (sized : length settled ≡ length received)
       (left : decodeOutput plan received output H ≡ written settled output) where
     -- the block at the front of the output is the received one after one sweep
     settled-is : settled ≡ sweptBlock plan 1 received
     settled-is =
-        let (at, within, (values, pass)) = decode-means 1 once in
+        let (at, within, (values, pass)) = decode-means plan received output H 1 once in
         let swept = sweptBlock plan 1 received in
         let kept : length swept ≡ length received = length-after (sideOf plan) 1 received in
         sym (written-part settled output (length received) (sym sized))
@@ -57,9 +37,9 @@ module _ (plan : Plan) (received output : List ℕ) (H : ℕ) where
     pub first-sum : getD (decodeSums plan received output H) 0 0 ≡ flips (edgeCount plan) received settled
     unfolding sweepSum
     first-sum =
-        let (at, within, (values, pass)) = decode-means 1 once in
+        let (at, within, (values, pass)) = decode-means plan received output H 1 once in
         ap (λ (sums : List ℕ). getD sums 0 0) (decode-settled plan received output H pass 1 at within .tells)
-        ∙ meter-made plan received 1 0 (omega arith) (omega arith)
+        ∙ sums-made plan received 1 0 (omega arith) (omega arith)
         ∙ ap (λ (block : List ℕ). flips (edgeCount plan) block (sweptBlock plan 1 received)) (after-zero (sideOf plan) received)
         ∙ ap (flips (edgeCount plan) received) (sym settled-is)
 

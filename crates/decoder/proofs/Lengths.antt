@@ -11,8 +11,8 @@
 -- differ at bit N, so behind it no run is open.
 -- Laws are named by their subject, then by the fact: `pairAt-` is about a two-byte number, `lengths-` about the lengths in a list, `ended-`
 -- about those of the runs that have ended, and `report-` about what the service answers and leaves. At the end of a name, `-front` is a list
--- with more behind it and `-behind` what stands there; `-one-more` is as in Runs.
-use Prim.Native.Nat.{ℕ, zero, suc, _+_, _-_, _*_, _≤_, _<_}
+-- with more behind it; `-one-more` is as in Runs.
+use Prim.Native.Nat.{ℕ, zero, suc, _+_, _-_, _*_, _≤_}
 use mathlib.Core.Bool.{Bool, true, false}
 use mathlib.Core.List.{List, [], _∷_, _++_}
 use mathlib.Core.Logic.{inl, inr}
@@ -21,10 +21,10 @@ use native.Mathlib.Nat.{le-refl}
 use native.Mathlib.Decide.{decLe}
 use native.Mathlib.Numerals.{add-one}
 use native.Mathlib.Omega.{arith}
-use lib.ListN.{length, drop, List·getD-append}
-use lib.Seq.{getD-append-add}
+use lib.ListN.{length, drop}
 use Rattle.bits.specs.Bit.{pairAt, written, flips}
 use Rattle.bits.specs.Sum.{sum, flag}
+use Rattle.bits.proofs.Bytes.{pairAt-front, pairAt-behind}
 use Rattle.bits.proofs.Sums.{sum-zero, sum-one-more, sum-ext, flag-true, flag-false}
 use Rattle.inner_code.specs.Reply.{done}
 use Rattle.inner_code.proofs.Replies.{andThen-done, refuse-done, ifDone-done}
@@ -36,17 +36,6 @@ use Rattle.decoder.proofs.Runs.{runCount-zero, runCount-one-more-ends, 
 use Rattle.decoder.proofs.Runs.{runBytes-one-more-none, length-runBytes, differs-past, flips-differ, report-tests}
 
 -- ---- two-byte numbers
-
-module _ (front rest : List ℕ) (at : ℕ) where
-  pairAt-front : at + 1 < length front → pairAt (front ++ rest) at ≡ pairAt front at
-  unfolding pairAt
-  pairAt-front l = rw (List·getD-append front rest 0 at (omega arith), List·getD-append front rest 0 (at + 1) l)
-
-  pairAt-behind : pairAt (front ++ rest) (length front + at) ≡ pairAt rest at
-  unfolding pairAt
-  pairAt-behind =
-      let next : length front + at + 1 ≡ length front + (at + 1) = omega arith in
-      rw (next, getD-append-add front rest at 0, getD-append-add front rest (at + 1) 0)
 
 -- the second of two numbers that are written as bytes
 pairAt-second : (a b : ℕ) → pairAt (pairBytes a b) 2 ≡ b
@@ -108,10 +97,6 @@ module _ (test : ℕ → Bool) where
 
 -- ---- the list that the report leaves
 
--- a reply tells one number
-pub told-same : {m n : ℕ} → done (m ∷ []) ≡ done (n ∷ []) → m ≡ n
-told-same e = cc
-
 -- where the report answers a number, the blocks agree past their last bit and the number is that of their runs
 report-means : (plan : Plan) (received settled list : List ℕ) (pairs : ℕ) → reportAnswer plan received settled list ≡ done (pairs ∷ [])
     → (differsAt received settled (edgeCount plan) ≡ false) × (runCount (differsAt received settled) (edgeCount plan + 1) ≡ pairs)
@@ -120,7 +105,7 @@ report-means plan received settled list pairs e =
     let ((first, pass-r), other) = andThen-done _ _ (pairs ∷ []) blocks in
     let ((second, pass-s), tests) = andThen-done _ _ (pairs ∷ []) other in
     let (roomy, last) = refuse-done _ 16 0 _ (pairs ∷ []) tests in
-    (differs-past (edgeCount plan) received settled pass-r pass-s (edgeCount plan) (le-refl _), told-same last)
+    (differs-past (edgeCount plan) received settled pass-r pass-s (edgeCount plan) (le-refl _), cc last)
 
 -- the lengths of the runs that the report lists add up to the bits in which the two blocks differ
 pub report-lengths : (plan : Plan) (received settled list : List ℕ) (pairs : ℕ)

@@ -6,5 +6,5 @@ pub mod Copies
 pub mod Runs
 pub mod Reporting
 pub mod Lengths
-pub mod Metering
+pub mod SweepSums
 pub mod FirstSum

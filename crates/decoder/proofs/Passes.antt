@@ -2,7 +2,7 @@
 --   SideSwept plan name before changed after finder   one sweep as the code makes it (specs Visiting)
 --   settledAfter plan block i              the block after i sweeps is a codeword (specs Decode)
 --   settlesAt plan block H                 the first count from 0 to H after which it is, H + 1 where none is (specs Decode)
---   sweepSum, meter                        how many bits a sweep changes, and the sums of those that are made (specs Decode)
+--   sweepSum, sweepSums                        how many bits a sweep changes, and the sums of those that are made (specs Decode)
 --   Pass plan received i changed after     sweep i + 1 leaves `after`; `changed` is its sum, and is 0 exactly if its side was satisfied
 --   Told plan received H i sums            the sums of the first i sweeps, of H at most
 --   Swept plan received H count block sums the block after `count` sweeps, at no count before which it was settled, and their sums
@@ -33,12 +33,12 @@ use Rattle.wiring.proofs.VertexWords.{vertex-lt}
 use Rattle.wiring.proofs.CodewordBlocks.{codeword-block-each}
 use Rattle.wiring.proofs.Plans.{plan-sound, plan-joined}
 use Rattle.decoder.specs.Sweep.{sweep, other, turn, afterSweeps}
-use Rattle.decoder.specs.Decode.{sweptBlock, settledAfter, settlesAt, sweepSum, meter}
+use Rattle.decoder.specs.Decode.{sweptBlock, settledAfter, settlesAt, sweepSum, sweepSums}
 use Rattle.decoder.specs.Visiting.{changedBy, SideSwept, noted}
 use Rattle.decoder.proofs.Sweeping.{Mends, sheet-mends, sweep-fixed, sweep-flips}
 use Rattle.decoder.proofs.Sweeping.{after-one-more, after-stays, after-block, settled-by-next}
 use Rattle.decoder.proofs.Settling.{settles-at, settles-none}
-use Rattle.decoder.proofs.Metering.{length-meter, sum-le, meter-zero, noted-more, noted-still}
+use Rattle.decoder.proofs.SweepSums.{length-sums, sum-le, sums-zero, noted-more, noted-still}
 use Rattle.decoder.proofs.Visiting.{changed-zero, changed-zero-back}
 
 pub turn-zero : left ≡ turn 0
@@ -80,7 +80,7 @@ pub record Pass (plan : Plan) (received : List ℕ) (i changed : ℕ) (after : L
   pub counted : changed ≡ sweepSum plan received i
 
 pub record Told (plan : Plan) (received : List ℕ) (H i : ℕ) (sums : List ℕ) : Type 0 where
-  pub sums-are : sums ≡ meter plan received (min i H)
+  pub sums-are : sums ≡ sweepSums plan received (min i H)
 
 pub record Swept (plan : Plan) (received : List ℕ) (H count : ℕ) (block sums : List ℕ) : Type 0 where
   pub block-is : block ≡ sweptBlock plan count received
@@ -130,14 +130,14 @@ module _ {plan : Plan} {received : List ℕ} (b : Begun plan received) where
   pub told-start : (H : ℕ) {sums : List ℕ} → sums ≡ replicate 64 0 → Told plan received H 0 sums
   told-start H e =
       let none : min 0 H ≡ 0 = min-eq-left zero-le in
-      record { sums-are = e ∙ meter-zero plan received ∙ ap (meter plan received) (sym none) }
+      record { sums-are = e ∙ sums-zero plan received ∙ ap (sweepSums plan received) (sym none) }
 
   pub told-more : {H i changed : ℕ} {sums more after : List ℕ} → Told plan received H i sums → Pass plan received i changed after
       → more ≡ noted sums i H changed → Told plan received H (i + 1) more
   told-more {H} {i} so-far a e = record { sums-are = noted-more plan received H i (so-far .sums-are) (a .counted) e }
 
   pub told-sized : {H i : ℕ} {sums : List ℕ} → Told plan received H i sums → length sums ≡ 64
-  told-sized {H} {i} so-far = ap length (so-far .sums-are) ∙ length-meter plan received (min i H)
+  told-sized {H} {i} so-far = ap length (so-far .sums-are) ∙ length-sums plan received (min i H)
 
   -- ---- settled blocks
 
@@ -196,7 +196,7 @@ module _ {plan : Plan} {received : List ℕ} (b : Begun plan received) where
 
   abbrev Answer : ℕ → ℕ → List ℕ → List ℕ → Type 0
   Answer H count block sums =
-      (count ≡ settlesAt plan received H) × ((sums ≡ meter plan received (min count H)) × (count ≤ H → block ≡ sweptBlock plan count received))
+      (count ≡ settlesAt plan received H) × ((sums ≡ sweepSums plan received (min count H)) × (count ≤ H → block ≡ sweptBlock plan count received))
 
   -- the block settled at `count`, and some more sweeps have not changed it
   found : (H count more : ℕ) {block sums : List ℕ} → count ≤ H + 1 → ((j : ℕ) → j < count → settledAfter plan received j ≡ false)
@@ -235,5 +235,5 @@ module _ {plan : Plan} {received : List ℕ} (b : Begun plan received) where
       let here : min count H ≡ H = min-eq-right (omega arith) in
       let next : min (H + 1) H ≡ H = min-eq-right (omega arith) in (
         sym (settles-none plan received H (λ i l. so-far .unsettled i (omega arith))),
-        (so-far .told .sums-are ∙ ap (meter plan received) (here ∙ sym next), λ l. absurd (omega arith)),
+        (so-far .told .sums-are ∙ ap (sweepSums plan received) (here ∙ sym next), λ l. absurd (omega arith)),
       )

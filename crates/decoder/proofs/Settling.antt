@@ -8,7 +8,7 @@
 --   Decoded .. reply sums left   the decoder answers `reply`, tells `sums` and leaves the output `left`
 -- Laws are named by their subject, then by the fact: `settles-` is about the count at which a block settles, `check-` about the tests
 -- before a decoding, one outcome each, and `decode-` gives answer, sums and output at one outcome each: a check that refuses (-stopped), 15
--- (-unsettled) and the rest (-settled).
+-- (-unsettled) and the rest (-settled); decode-means leads from an answered count back to what it says.
 use Prim.Native.Nat.{ℕ, _+_, _-_, _≤_, _<_, min}
 use native.Mathlib.Nat.{min-eq-left, min-eq-right}
 use mathlib.Core.Bool.{Bool, true, false, not}
@@ -17,17 +17,18 @@ use mathlib.Core.Path.{_≡_, refl, sym, ap, _∙_}
 use native.Mathlib.Omega.{arith}
 use lib.Dec.{leb, ltb}
 use lib.ListN.{length, replicate}
-use borrow.Author.Tests.{lt-ltb, le-ltb, le-leb, lt-leb, not-true, not-false}
+use borrow.Author.Tests.{lt-ltb, le-ltb, le-leb, lt-leb, leb-true, not-true, not-false}
 use Rattle.bits.specs.Bit.{written}
 use Rattle.bits.specs.Search.{firstFailing}
 use Rattle.bits.proofs.Searches.{first-at, first-all, first-failed, first-passed}
-use Rattle.inner_code.specs.Reply.{Reply, done, refused, refuseIf}
-use Rattle.inner_code.proofs.Replies.{refuse-taken, refuse-passed, andThen-passed, andThen-refused, ifDone-done, ifDone-refused}
+use Rattle.inner_code.specs.Reply.{Reply, done, refused, refuseIf, andThen}
+use Rattle.inner_code.proofs.Replies.{refuse-taken, refuse-passed, refuse-done, andThen-passed, andThen-refused, andThen-done}
+use Rattle.inner_code.proofs.Replies.{ifDone-done, ifDone-refused}
 use Rattle.inner_code.proofs.SheetChecks.{Sound}
 use Rattle.wiring.specs.Plan.{Plan, edgeCount, sideOf}
 use Rattle.wiring.specs.Wiring.{planCheck}
 use Rattle.wiring.specs.Block.{blockBytes, blockCheck}
-use Rattle.decoder.specs.Decode.{sweptBlock, settledAfter, settlesAt, meter, trial}
+use Rattle.decoder.specs.Decode.{sweptBlock, settledAfter, settlesAt, sweepSums, trial}
 use Rattle.decoder.specs.Answer.{decodeCheck, decodeAnswer, decodeSums, decodeOutput}
 use Rattle.decoder.proofs.Sweeping.{sheet-mends, after-stays}
 
@@ -85,28 +86,45 @@ module _ (plan : Plan) (received output : List ℕ) (H : ℕ) where
 
   module _ {values : List ℕ} (pass : decodeCheck plan received output H ≡ done values) where
     pub decode-unsettled : H < settlesAt plan received H
-        → Decoded plan received output H (refused 15 0) (meter plan received H) (written received output)
+        → Decoded plan received output H (refused 15 0) (sweepSums plan received H) (written received output)
     unfolding decodeAnswer decodeSums decodeOutput trial
     decode-unsettled past =
         let late : leb (settlesAt plan received H) H ≡ false = lt-leb _ _ past in
         let made : min (settlesAt plan received H) H ≡ H = min-eq-right (omega arith) in
         record {
           answer = andThen-passed _ _ values pass ∙ refuse-taken _ 15 0 _ (ap not late);
-          tells = ifDone-done _ _ (replicate 64 0) values pass ∙ ap (meter plan received) made;
+          tells = ifDone-done _ _ (replicate 64 0) values pass ∙ ap (sweepSums plan received) made;
           leaves = ifDone-done _ _ output values pass ∙ rw late;
         }
 
     pub decode-settled : (count : ℕ) → settlesAt plan received H ≡ count → count ≤ H
-        → Decoded plan received output H (done (count ∷ [])) (meter plan received count) (written (sweptBlock plan count received) output)
+        → Decoded plan received output H (done (count ∷ [])) (sweepSums plan received count) (written (sweptBlock plan count received) output)
     unfolding decodeAnswer decodeSums decodeOutput trial
     decode-settled count e l =
         let in-time : leb (settlesAt plan received H) H ≡ true = rw e (le-leb count H l) in
         let made : min (settlesAt plan received H) H ≡ count = rw e (min-eq-left l) in
         record {
           answer = andThen-passed _ _ values pass ∙ refuse-passed _ 15 0 _ (ap not in-time) ∙ ap (λ (c : ℕ). done (c ∷ [])) e;
-          tells = ifDone-done _ _ (replicate 64 0) values pass ∙ ap (meter plan received) made;
+          tells = ifDone-done _ _ (replicate 64 0) values pass ∙ ap (sweepSums plan received) made;
           leaves = ifDone-done _ _ output values pass ∙ rw (in-time, e);
         }
+
+  -- a count that is answered is the one at which the block settles, within the limit
+  decode-tests : decodeAnswer plan received output H
+      ≡ andThen (decodeCheck plan received output H)
+      (refuseIf (not (trial plan received H .settled)) 15 0 (done (trial plan received H .count ∷ [])))
+  unfolding decodeAnswer
+  decode-tests = refl
+
+  pub decode-means : (count : ℕ) → decodeAnswer plan received output H ≡ done (count ∷ [])
+      → (settlesAt plan received H ≡ count) × (count ≤ H) × ((values : List ℕ) × (decodeCheck plan received output H ≡ done values))
+  unfolding trial
+  decode-means count e =
+      let (passed, rest) = andThen-done _ _ (count ∷ []) (sym decode-tests ∙ e) in
+      let (kept, answer) = refuse-done _ 15 0 _ (count ∷ []) rest in
+      let at : settlesAt plan received H ≡ count = cc answer in
+      let in-time : settlesAt plan received H ≤ H = leb-true _ _ (not-false _ kept) in
+      (at, omega arith, passed)
 
   -- ---- the tests before a decoding, from those that have passed and the one that refuses
 

@@ -10,7 +10,7 @@ ghost use lib.ListN.{length};
 ghost use Rattle.inner_code.specs.Reply.{done};
 ghost use Rattle.wiring.specs.Plan.{planOf, edgeCount};
 ghost use Rattle.wiring.specs.Block.{blockCheck};
-ghost use Rattle.decoder.specs.Decode.{sweptBlock, settlesAt, meter};
+ghost use Rattle.decoder.specs.Decode.{sweptBlock, settlesAt, sweepSums};
 ghost use Rattle.decoder.specs.Visiting.{Ready, noted};
 
 // The sweeps whose sums are told.
@@ -36,7 +36,7 @@ pub(crate) fn settle(
     requires { ⌜ Ready (planOf (now sheet) n (now wiring)) (now finder) ⌝ }
     requires { ⌜ blockCheck (edgeCount (planOf (now sheet) n (now wiring))) (now block) ≡ done [] ⌝ }
     ensures { λ r. ⌜ r .count ≡ settlesAt (planOf (now (sheet .entry)) n (now (wiring .entry))) (now (block .entry)) limit ⌝ }
-    ensures { λ r. ⌜ r .sums ≡ meter (planOf (now (sheet .entry)) n (now (wiring .entry))) (now (block .entry)) (min (r .count) limit) ⌝ }
+    ensures { λ r. ⌜ r .sums ≡ sweepSums (planOf (now (sheet .entry)) n (now (wiring .entry))) (now (block .entry)) (min (r .count) limit) ⌝ }
     ensures { λ r. ⌜ (r .count ≤ limit → now (block .exit) ≡ sweptBlock (planOf (now (sheet .entry)) n (now (wiring .entry))) (r .count) (now (block .entry))) ⌝ }
 {
     let mut sums = [0u16; SUMS];

@@ -15,7 +15,7 @@ use Rattle.wiring.specs.Wiring.{entryCheck, entriesCheck, wiringCheck, planChec
 use Rattle.wiring.specs.Block.{blockBytes, bitsCheck, vertexWord, scattered, satisfied, firstUnsatisfied, isCodewordBlock}
 use Rattle.wiring.specs.Square.{entryBytes, squareWiring}
 use Rattle.decoder.specs.Sweep.{visited, sweep, other, turn, afterSweeps}
-use Rattle.decoder.specs.Decode.{settlesAt, sweepSum, meter, trial}
+use Rattle.decoder.specs.Decode.{settlesAt, sweepSum, sweepSums, trial}
 use Rattle.decoder.specs.Answer.{decodeCheck, decodeAnswer, decodeSums, decodeOutput}
 use Rattle.radius.specs.Spread.{meeting, unevenness, spread}
 use Rattle.radius.specs.Margin.{slack, stepCovered, nextBound, oneMore, chainSweeps, sweepsNamed}
@@ -31,7 +31,7 @@ unfolding
     flag ones onesIn distance refuseIf andThen ifDone degree rowCount rowOf
     rowCheck rowsCheck sheetCheck houseSheet firstFailing edgeOf sideBit entryCheck entriesCheck wiringCheck planCheck
     edgesBetween blockBytes bitsCheck vertexWord scattered satisfied firstUnsatisfied isCodewordBlock visited sweep other turn
-    afterSweeps settlesAt sweepSum meter trial decodeCheck decodeAnswer decodeSums written values flips decodeOutput meeting unevenness largest spread slack
+    afterSweeps settlesAt sweepSum sweepSums trial decodeCheck decodeAnswer decodeSums written values flips decodeOutput meeting unevenness largest spread slack
     stepCovered nextBound oneMore chainSweeps sweepsNamed marginAnswer bitsPut blockOf codewordNumber isPosition positionsBefore carries
     encodedNumber encodedBlock
 known-answers = refl

@@ -3,7 +3,7 @@ use mathlib.Core.Path.{sym}
 use native.Mathlib.Omega.{arith}
 use borrow.Author.Needs.{needs}
 use denote.Ref.{now}
-use Rattle.decoder.proofs.Metering.{noted-told, noted-untold}
+use Rattle.decoder.proofs.SweepSums.{noted-told, noted-untold}
 use Rattle.decoder.proofs.settle.note.Statement.{statement}
 use Rattle.decoder.proofs.settle.note.Tie as tie
 
