@@ -8,7 +8,8 @@
 -- Laws are named by their subject, then by the fact: `placed-` is about a part put into a list, as many turns as have been made (-none,
 -- -one-more, -all) or lent and back (-back), `house-` about the house code's sheet, `table-` about the word in the table, `left-` about what
 -- the rows leave of a word, `search-` about the nearest of the listed codewords, `leader-` about the leaders kept, `own-` and `found-` about
--- what the code answers by the case that it takes, and what it means (-means), and `finds-` and `prepared-` lead to a Finds.
+-- what the code answers by the case that it takes (-none: the list is no finder), and what it means (-means), and `finds-` and `prepared-`
+-- lead to a Finds.
 use Prim.Native.Nat.{ℕ, _+_, _*_, _%_, _^_, _≤_, _<_, min}
 use mathlib.Core.Bool.{Bool, true, false}
 use mathlib.Core.List.{List, [], _++_}
@@ -32,7 +33,7 @@ use Rattle.inner_code.specs.Reduction.{reduced, reducedBy, echelon, with
 use Rattle.inner_code.specs.declared.nearest.Step.{Step}
 use Rattle.inner_code.specs.Sheet.{degree, rowCount, rowOf, sheetCheck}
 use Rattle.inner_code.specs.House.{houseSheet, HouseTable}
-use Rattle.inner_code.specs.Finding.{kindIn, rowsIn, listedIn, basisIn, tableIn, nameIn, leaderIn, wordIn, Finds, Placed}
+use Rattle.inner_code.specs.Finding.{isFinder, kindIn, rowsIn, listedIn, basisIn, tableIn, nameIn, leaderIn, wordIn, Finds, Placed}
 use Rattle.inner_code.specs.Finding.{ByTable, ByCodewords, Prepared, leftIn, ownNearest, searchedIn, foundWord, foundFinder}
 use Rattle.inner_code.proofs.NearestWord.{searched-ext, nearest-codeword, nearest-fixed, nearest-searched}
 use Rattle.inner_code.proofs.NearestWord.{step-word, step-changed, changed-ones}
@@ -254,48 +255,67 @@ module _ {sheet finder : List ℕ} (f : Finds sheet finder) (kind : kindIn finde
 
 -- ---- what the code answers, by the case that it takes
 
-module _ (finder : List ℕ) (w : ℕ) (kind : kindIn finder ≡ 1) where
-  pub own-table : eqb (tableIn finder (w % 256)) w ≡ ownNearest finder w
+module _ (finder : List ℕ) (w : ℕ) (other : length finder ≡ 3360 → ⊥) where
+  no-finder : isFinder finder ≡ false
+  no-finder = ne-eqb (length finder) 3360 other
+
+  pub own-none : true ≡ ownNearest finder w
   unfolding ownNearest
-  own-table = rw (eq-eqb (kindIn finder) 1 kind)
+  own-none = rw no-finder
 
-  pub found-table : (tableIn finder (w % 256) ≡ foundWord finder w) × (finder ≡ foundFinder finder w)
+  pub found-none : (w ≡ foundWord finder w) × (finder ≡ foundFinder finder w)
   unfolding foundWord foundFinder
-  found-table = (rw (eq-eqb (kindIn finder) 1 kind), rw (eq-eqb (kindIn finder) 1 kind))
+  found-none = (rw no-finder, rw no-finder)
 
-module _ (finder : List ℕ) (w left : ℕ) (kind : kindIn finder ≡ 1 → ⊥) (is : left ≡ leftIn finder w) where
-  not-tabled : eqb (kindIn finder) 1 ≡ false
-  not-tabled = ne-eqb (kindIn finder) 1 kind
+module _ (finder : List ℕ) (w : ℕ) (size : length finder ≡ 3360) where
+  is-finder : isFinder finder ≡ true
+  is-finder = eq-eqb (length finder) 3360 size
 
-  pub own-left : eqb left 0 ≡ ownNearest finder w
-  unfolding ownNearest
-  own-left = rw (not-tabled, is)
+  module _ (kind : kindIn finder ≡ 1) where
+    tabled : eqb (kindIn finder) 1 ≡ true
+    tabled = eq-eqb (kindIn finder) 1 kind
 
-  pub found-codeword : left ≡ 0 → (w ≡ foundWord finder w) × (finder ≡ foundFinder finder w)
-  unfolding foundWord foundFinder
-  found-codeword e =
-      let none : eqb (leftIn finder w) 0 ≡ true = eq-eqb (leftIn finder w) 0 (sym is ∙ e) in
-      (rw (not-tabled, none), rw (not-tabled, none))
+    pub own-table : eqb (tableIn finder (w % 256)) w ≡ ownNearest finder w
+    unfolding ownNearest
+    own-table = rw (is-finder, tabled)
 
-  module _ (some : left ≡ 0 → ⊥) where
-    left-there : eqb (leftIn finder w) 0 ≡ false
-    left-there = ne-eqb (leftIn finder w) 0 (λ e. some (is ∙ e))
-
-    pub found-leader : nameIn finder (left % 512) ≡ left
-        → (bitXor w (leaderIn finder (left % 512)) ≡ foundWord finder w) × (finder ≡ foundFinder finder w)
+    pub found-table : (tableIn finder (w % 256) ≡ foundWord finder w) × (finder ≡ foundFinder finder w)
     unfolding foundWord foundFinder
-    found-leader met =
-        let kept : eqb (nameIn finder (leftIn finder w % 512)) (leftIn finder w) ≡ true = eq-eqb _ _ (rw is at met) in
-        (rw (not-tabled, left-there, kept, is), rw (not-tabled, left-there, kept))
+    found-table = (rw (is-finder, tabled), rw (is-finder, tabled))
 
-    pub found-searched : (nameIn finder (left % 512) ≡ left → ⊥) → (nearest : ℕ) → nearest ≡ searchedIn finder w
-        → (nearest ≡ foundWord finder w)
-        × (set (set finder (288 + 2 * (left % 512)) left) (288 + 2 * (left % 512) + 1) (bitXor w nearest) ≡ foundFinder finder w)
+  module _ (left : ℕ) (kind : kindIn finder ≡ 1 → ⊥) (is : left ≡ leftIn finder w) where
+    not-tabled : eqb (kindIn finder) 1 ≡ false
+    not-tabled = ne-eqb (kindIn finder) 1 kind
+
+    pub own-left : eqb left 0 ≡ ownNearest finder w
+    unfolding ownNearest
+    own-left = rw (is-finder, not-tabled, is)
+
+    pub found-codeword : left ≡ 0 → (w ≡ foundWord finder w) × (finder ≡ foundFinder finder w)
     unfolding foundWord foundFinder
-    found-searched missed nearest found =
-        let new : eqb (nameIn finder (leftIn finder w % 512)) (leftIn finder w) ≡ false =
-        ne-eqb (nameIn finder (leftIn finder w % 512)) (leftIn finder w) (λ e. missed (rw (sym is) at e)) in
-        (rw (not-tabled, left-there, new, found), rw (not-tabled, left-there, new, found, is))
+    found-codeword e =
+        let none : eqb (leftIn finder w) 0 ≡ true = eq-eqb (leftIn finder w) 0 (sym is ∙ e) in
+        (rw (is-finder, not-tabled, none), rw (is-finder, not-tabled, none))
+
+    module _ (some : left ≡ 0 → ⊥) where
+      left-there : eqb (leftIn finder w) 0 ≡ false
+      left-there = ne-eqb (leftIn finder w) 0 (λ e. some (is ∙ e))
+
+      pub found-leader : nameIn finder (left % 512) ≡ left
+          → (bitXor w (leaderIn finder (left % 512)) ≡ foundWord finder w) × (finder ≡ foundFinder finder w)
+      unfolding foundWord foundFinder
+      found-leader met =
+          let kept : eqb (nameIn finder (leftIn finder w % 512)) (leftIn finder w) ≡ true = eq-eqb _ _ (rw is at met) in
+          (rw (is-finder, not-tabled, left-there, kept, is), rw (is-finder, not-tabled, left-there, kept))
+
+      pub found-searched : (nameIn finder (left % 512) ≡ left → ⊥) → (nearest : ℕ) → nearest ≡ searchedIn finder w
+          → (nearest ≡ foundWord finder w)
+          × (set (set finder (288 + 2 * (left % 512)) left) (288 + 2 * (left % 512) + 1) (bitXor w nearest) ≡ foundFinder finder w)
+      unfolding foundWord foundFinder
+      found-searched missed nearest found =
+          let new : eqb (nameIn finder (leftIn finder w % 512)) (leftIn finder w) ≡ false =
+          ne-eqb (nameIn finder (leftIn finder w % 512)) (leftIn finder w) (λ e. missed (rw (sym is) at e)) in
+          (rw (is-finder, not-tabled, left-there, new, found), rw (is-finder, not-tabled, left-there, new, found, is))
 
 -- ---- what these answers mean, where the finder finds a sheet's nearest words
 
@@ -323,25 +343,30 @@ pub own-means : (finder : List ℕ) (w : ℕ) {r : Bool} → r ≡ ownNearest fi
 own-means finder w {r} e =
     elim (ℕ-discrete (kindIn finder) 1) [
       | yes kind ↦
-          let same : r ≡ eqb (tableIn finder (w % 256)) w = e ∙ sym (own-table finder w kind) in
+          let same : length finder ≡ 3360 → r ≡ eqb (tableIn finder (w % 256)) w = λ size. e ∙ sym (own-table finder w size kind) in
           record {
-            stays = λ t sheet f w-lt. sym (table-nearest f w w-lt kind) ∙ eqb-true _ _ (sym same ∙ t);
-            changes = λ t sheet f w-lt fixed. eqb-false _ _ (sym same ∙ t) (table-nearest f w w-lt kind ∙ fixed);
+            stays = λ t sheet f w-lt. sym (table-nearest f w w-lt kind) ∙ eqb-true _ _ (sym (same (f .sized)) ∙ t);
+            changes = λ t sheet f w-lt fixed. eqb-false _ _ (sym (same (f .sized)) ∙ t) (table-nearest f w w-lt kind ∙ fixed);
           }
       | no kind ↦
-          let same : r ≡ eqb (leftIn finder w) 0 = e ∙ sym (own-left finder w (leftIn finder w) kind refl) in
+          let same : length finder ≡ 3360 → r ≡ eqb (leftIn finder w) 0 = λ size. e ∙ sym (own-left finder w size (leftIn finder w) kind refl) in
           record {
-            stays = λ t sheet f w-lt. left-none f kind w (eqb-true (leftIn finder w) 0 (sym same ∙ t));
-            changes = λ t sheet f w-lt. left-some f kind w w-lt (eqb-false (leftIn finder w) 0 (sym same ∙ t));
+            stays = λ t sheet f w-lt. left-none f kind w (eqb-true (leftIn finder w) 0 (sym (same (f .sized)) ∙ t));
+            changes = λ t sheet f w-lt. left-some f kind w w-lt (eqb-false (leftIn finder w) 0 (sym (same (f .sized)) ∙ t));
           }
     ]
 
 found-leads : (finder : List ℕ) (w : ℕ) → Leads finder w (foundWord finder w) (foundFinder finder w)
 found-leads finder w =
-    elim (ℕ-discrete (kindIn finder) 1) [
-      | yes kind ↦
-          same (found-table finder w kind) (record { nearest = λ sheet f w-lt. table-nearest f w w-lt kind; finds = λ sheet f. f })
-      | no kind ↦ untabled kind
+    elim (ℕ-discrete (length finder) 3360) [
+      | yes size ↦
+          elim (ℕ-discrete (kindIn finder) 1) [
+            | yes kind ↦
+                same (found-table finder w size kind) (record { nearest = λ sheet f w-lt. table-nearest f w w-lt kind; finds = λ sheet f. f })
+            | no kind ↦ untabled size kind
+          ]
+      | no other ↦
+          same (found-none finder w other) (record { nearest = λ sheet f w-lt. absurd (other (f .sized)); finds = λ sheet f. f })
     ]
   where
     same : {x : ℕ} {l : List ℕ} → (x ≡ foundWord finder w) × (l ≡ foundFinder finder w) → Leads finder w x l
@@ -351,19 +376,19 @@ found-leads finder w =
     left : ℕ
     left = leftIn finder w
 
-    untabled : (kindIn finder ≡ 1 → ⊥) → Leads finder w (foundWord finder w) (foundFinder finder w)
-    untabled kind =
+    untabled : length finder ≡ 3360 → (kindIn finder ≡ 1 → ⊥) → Leads finder w (foundWord finder w) (foundFinder finder w)
+    untabled size kind =
         elim (ℕ-discrete left 0) [
           | yes none ↦
-              same (found-codeword finder w left kind refl none)
+              same (found-codeword finder w size left kind refl none)
               (record { nearest = λ sheet f w-lt. sym (left-none f kind w none); finds = λ sheet f. f })
           | no some ↦
               elim (ℕ-discrete (nameIn finder (left % 512)) left) [
                 | yes met ↦
-                    same (found-leader finder w left kind refl some met)
+                    same (found-leader finder w size left kind refl some met)
                     (record { nearest = λ sheet f w-lt. leader-met f kind w w-lt (left % 512) left (omega arith) refl some met; finds = λ sheet f. f })
                 | no missed ↦
-                    same (found-searched finder w left kind refl some missed (searchedIn finder w) refl)
+                    same (found-searched finder w size left kind refl some missed (searchedIn finder w) refl)
                     (record {
                       nearest = λ sheet f w-lt. search-told (search-sized f kind) ∙ search-nearest f kind w w-lt;
                       finds = λ sheet f. leader-more f kind w (left % 512) left _ (omega arith) refl (search-told (search-sized f kind));
@@ -488,7 +513,7 @@ prepared-finds sheet k {before = before} p zeros accepted k-is stored =
     (λ (t : (sheet ≡ houseSheet → ⊥) × ByCodewords sheet k _ before _).
     let by = t .1 in
     finds-searching sheet k (by .count) (min k 11) zeros (by .lists) sized-words (by .listed) refl (by .placed) accepted k-is stored)
-    p
+    (p .finder sized)
   where
     sized : length before ≡ 3360
     sized = ap length zeros ∙ length-replicate {A = ℕ} 3360 0

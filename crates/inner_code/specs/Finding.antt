@@ -1,5 +1,6 @@
 -- How the code finds a sheet's nearest words, and what it keeps for that: none of this is needed to believe a contract of a service.
--- All that is kept stands in one list of 3,360 numbers of 16 bits, the finder:
+-- All that is kept stands in one list of 3,360 numbers of 16 bits, the finder. A list of another length is no finder:
+--   isFinder finder      the test of the length
 --   kindIn finder        1 where the table answers; with any other number the codewords are searched
 --   rowsIn finder        k, the number of rows
 --   listedIn finder      how many codewords are listed
@@ -13,17 +14,17 @@
 --   Searching sheet finder    rows, basis, codewords and leaders are the sheet's
 --   Finds sheet finder        the sheet is accepted, and the finder finds its nearest words
 --   Placed start part before after    the list `after` is `before` with `part` in it from the place `start` on
--- What the functions over a finder answer and leave, whatever stands in it:
+-- What the functions over a finder answer and leave, whatever stands in it; with a list that is no finder every word stays, and the list too:
 --   ByTable before after      the finder is set up with the house code's table of nearest words
 --   ByCodewords sheet k basis before after    it is set up with the codewords, as many rows as count, and the basis
---   Prepared sheet k basis before after    the first for the house code's sheet, the second for any other
+--   Prepared sheet k basis before after    the first for the house code's sheet, the second for any other; `before` is left as it is where it is no finder
 --   leftIn finder w           what the rows leave of w
 --   ownNearest finder w       the test whether w is its own nearest word: the table's entry is w, or the rows leave nothing
 --   searchedIn finder w       the nearest of the listed codewords; w itself where more are told than fit
 --   foundWord finder w        the word found: the table's, w itself, w with the leader kept for it, or the one searched for
 --   foundFinder finder w      the finder afterwards: with one more leader where one was searched for
 use Prim.Native.Nat.{ℕ, _+_, _*_, _%_, _^_, _≤_, _<_, min}
-use mathlib.Core.Bool.{Bool, cond}
+use mathlib.Core.Bool.{Bool, true, cond}
 use mathlib.Core.List.{List, []}
 use mathlib.Core.Logic.{_⊎_}
 use mathlib.Core.Path.{_≡_}
@@ -35,6 +36,9 @@ use Rattle.inner_code.specs.Code.{combination, nearestPattern, nearestWo
 use Rattle.inner_code.specs.Reduction.{reduced, echelon, reducedBy, searched, Lists}
 use Rattle.inner_code.specs.Sheet.{degree, rowCount, rowOf, sheetCheck}
 use Rattle.inner_code.specs.House.{houseSheet, HouseTable}
+
+abbrev pub isFinder : List ℕ → Bool
+isFinder finder = eqb (length finder) 3360
 
 abbrev pub kindIn : List ℕ → ℕ
 kindIn finder = getD finder 0 0
@@ -98,16 +102,21 @@ pub record ByCodewords (sheet : List ℕ) (k : ℕ) (basis before after : List �
   pub listed : Placed 1312 words before listing
   pub placed : Placed 16 basis (set (set listing 1 (min k 11)) 2 count) after
 
-abbrev pub Prepared : List ℕ → ℕ → List ℕ → List ℕ → List ℕ → Type 0
-Prepared sheet k basis before after =
-    ((sheet ≡ houseSheet) × ByTable before after) ⊎ ((sheet ≡ houseSheet → ⊥) × ByCodewords sheet k basis before after)
+pub record Prepared (sheet : List ℕ) (k : ℕ) (basis before after : List ℕ) : Type 0 where
+  pub finder : length before ≡ 3360
+      → ((sheet ≡ houseSheet) × ByTable before after) ⊎ ((sheet ≡ houseSheet → ⊥) × ByCodewords sheet k basis before after)
+  pub none : (length before ≡ 3360 → ⊥) → after ≡ before
 
 abbrev pub leftIn : List ℕ → ℕ → ℕ
 leftIn finder w = reducedBy (basisIn finder) (min (rowsIn finder) 11) w
 
 unfoldable pub ownNearest : List ℕ → ℕ → Bool
 unfolding basisIn reducedBy
-ownNearest finder w = cond (eqb (kindIn finder) 1) (eqb (tableIn finder (w % 256)) w) (eqb (leftIn finder w) 0)
+ownNearest finder w =
+    cond (isFinder finder)
+    (cond (eqb (kindIn finder) 1) (eqb (tableIn finder (w % 256)) w)
+    (eqb (leftIn finder w) 0))
+    true
 
 unfoldable pub searchedIn : List ℕ → ℕ → ℕ
 unfolding searched wordIn
@@ -116,15 +125,19 @@ searchedIn finder w = cond (leb (listedIn finder) 2048) (searched (wordIn finder
 unfoldable pub foundWord : List ℕ → ℕ → ℕ
 unfolding searchedIn basisIn reducedBy
 foundWord finder w =
-    cond (eqb (kindIn finder) 1) (tableIn finder (w % 256))
+    cond (isFinder finder)
+    (cond (eqb (kindIn finder) 1) (tableIn finder (w % 256))
     (cond (eqb (leftIn finder w) 0) w
     (cond (eqb (nameIn finder (leftIn finder w % 512)) (leftIn finder w)) (bitXor w (leaderIn finder (leftIn finder w % 512)))
-    (searchedIn finder w)))
+    (searchedIn finder w))))
+    w
 
 unfoldable pub foundFinder : List ℕ → ℕ → List ℕ
 unfolding searchedIn basisIn reducedBy
 foundFinder finder w =
-    cond (eqb (kindIn finder) 1) finder
+    cond (isFinder finder)
+    (cond (eqb (kindIn finder) 1) finder
     (cond (eqb (leftIn finder w) 0) finder
     (cond (eqb (nameIn finder (leftIn finder w % 512)) (leftIn finder w)) finder
-    (set (set finder (288 + 2 * (leftIn finder w % 512)) (leftIn finder w)) (288 + 2 * (leftIn finder w % 512) + 1) (bitXor w (searchedIn finder w)))))
+    (set (set finder (288 + 2 * (leftIn finder w % 512)) (leftIn finder w)) (288 + 2 * (leftIn finder w % 512) + 1) (bitXor w (searchedIn finder w))))))
+    finder

@@ -1,5 +1,6 @@
-// The finder of nearest words: one lent array that holds all that finding a sheet's nearest words needs, set up once by
-// `prepare_finder`, asked by `is_own_nearest` and `find_nearest`.
+// The finder of nearest words: one lent slice that holds all that finding a sheet's nearest words needs, set up once by
+// `prepare_finder`, asked by `is_own_nearest` and `find_nearest`. A slice of any other length than FINDER_WORDS is no finder: nothing is
+// written there, and every word stays.
 use crate::codewords::MAX_CODEWORDS;
 use crate::codewords::list_codewords;
 use crate::house::HouseCode;
@@ -42,26 +43,31 @@ const WORDS: usize = 1312;
 
 // Sets a finder of zeros up for an accepted sheet, its k and its echelon form, as `check_sheet` gives them: with the table of nearest words
 // for the house code's sheet, with the codewords of any other. No leader is kept yet: their names stay 0.
-pub fn prepare_finder(sheet: &[u8], k: usize, basis: &[u16; 11], finder: &mut [u16; FINDER_WORDS])
+pub fn prepare_finder(sheet: &[u8], k: usize, basis: &[u16; 11], finder: &mut [u16])
     ensures { λ _. ⌜ Prepared (now (sheet .entry)) k (now (basis .entry)) (now (finder .entry)) (now (finder .exit)) ⌝ }
 {
+    if finder.len() != FINDER_WORDS {
+        return;
+    }
     if is_house(sheet) {
         let table = HouseCode::nearest_words();
         finder[KIND] = TABLED;
         place_bytes(finder, TABLE, &table);
         return;
     }
-    let all = &mut finder[..];
-    let count = list_codewords(sheet, k, &mut all[WORDS..]);
-    all[ROWS] = at_most_eleven(k) as u16;
-    all[LISTED] = count as u16;
-    place(all, BASIS, basis);
+    let count = list_codewords(sheet, k, &mut finder[WORDS..]);
+    finder[ROWS] = at_most_eleven(k) as u16;
+    finder[LISTED] = count as u16;
+    place(finder, BASIS, basis);
 }
 
 // Whether a word is its own nearest word, which no search is needed for.
-pub fn is_own_nearest(finder: &[u16; FINDER_WORDS], word: u16) -> bool
+pub fn is_own_nearest(finder: &[u16], word: u16) -> bool
     ensures { λ r. ⌜ r ≡ ownNearest (now (finder .entry)) word ⌝ }
 {
+    if finder.len() != FINDER_WORDS {
+        return true;
+    }
     if finder[KIND] == TABLED {
         return finder[TABLE + (word % 256) as usize] == word;
     }
@@ -70,10 +76,13 @@ pub fn is_own_nearest(finder: &[u16; FINDER_WORDS], word: u16) -> bool
 
 // The step to a word's nearest word: the table's, the word itself where the rows leave nothing of it, and else the nearest of the codewords.
 // What the rows leave of a word names its coset: the leader found for a coset is kept beside that name, so that most cosets are searched once.
-pub fn find_nearest(finder: &mut [u16; FINDER_WORDS], word: u16) -> Step
+pub fn find_nearest(finder: &mut [u16], word: u16) -> Step
     ensures { λ r. ⌜ r ≡ stepTo word (foundWord (now (finder .entry)) word) ⌝ }
     ensures { λ _. ⌜ now (finder .exit) ≡ foundFinder (now (finder .entry)) word ⌝ }
 {
+    if finder.len() != FINDER_WORDS {
+        return put_on(word, 0);
+    }
     if finder[KIND] == TABLED {
         return put_on(word, word ^ finder[TABLE + (word % 256) as usize]);
     }
@@ -92,7 +101,8 @@ pub fn find_nearest(finder: &mut [u16; FINDER_WORDS], word: u16) -> Step
 }
 
 // What the rows leave of a word.
-fn left_of(finder: &[u16; FINDER_WORDS], word: u16) -> u16
+fn left_of(finder: &[u16], word: u16) -> u16
+    requires { ⌜ length (now finder) ≡ 3360 ⌝ }
     ensures { λ r. ⌜ r ≡ leftIn (now (finder .entry)) word ⌝ }
 {
     let rows = at_most_eleven(widened(finder[ROWS]));
@@ -109,7 +119,8 @@ fn left_of(finder: &[u16; FINDER_WORDS], word: u16) -> u16
 }
 
 // The step to the nearest of the codewords that are listed.
-fn search(finder: &[u16; FINDER_WORDS], word: u16) -> Step
+fn search(finder: &[u16], word: u16) -> Step
+    requires { ⌜ length (now finder) ≡ 3360 ⌝ }
     ensures { λ r. ⌜ r ≡ stepTo word (searchedIn (now (finder .entry)) word) ⌝ }
 {
     let count = widened(finder[LISTED]);
@@ -117,8 +128,7 @@ fn search(finder: &[u16; FINDER_WORDS], word: u16) -> Step
         return put_on(word, 0);
     }
     let end = WORDS + count;
-    let all = &finder[..];
-    nearest_listed(&all[WORDS..end], word)
+    nearest_listed(&finder[WORDS..end], word)
 }
 
 // A number of the finder as a count.

@@ -118,12 +118,15 @@ returns-2 c =
 abbrev fitting : tie.Else2 → tie.After-enum-told
 fitting c = c .before .before
 
+slice-aggregate-prepare-finder : tie.Need-slice-aggregate-prepare-finder
+slice-aggregate-prepare-finder c = search needs
+
 prepare-finder-requires : tie.Need-prepare-finder-requires
 prepare-finder-requires c κs = search needs
 
 decode-copy-requires : tie.Need-decode-copy-requires
 decode-copy-requires c κs =
-    let prepared = c .before .before in
+    let prepared = c .before .before .before in
     let passed = fitting (prepared .before .before .before .before) in
     let p = plan (ready passed) in
     let pass = block passed in (
@@ -169,6 +172,7 @@ decode-spec =
     returns
     refuse-requires-4
     returns-2
+    slice-aggregate-prepare-finder
     prepare-finder-requires
     decode-copy-requires
     returns-3

@@ -38,10 +38,10 @@ is-own-nearest-requires c κs = search needs
 returns : tie.Need-returns Inv-loop μ-loop
 unfolding degree
 returns c =
-    let head = c .before .before .before .before in
+    let head = c .before .before .before .before .before in
     let args = start (head .before) in
     passed-stop (head .loop .inv)
-    (word-moves (args .pre .1) (args .args .side) _ (omega arith) refl (c .before .before .read-word .ensures)
+    (word-moves (args .pre .1) (args .args .side) _ (omega arith) refl (c .before .before .before .read-word .ensures)
     (own-means _ _ (c .before .is-own-nearest .ensures)) (not-true _ (c .if1 .taken)))
 
 add-v : tie.Need-add-v Inv-loop μ-loop
@@ -53,10 +53,10 @@ loop-less c = search needs
 loop-again : tie.Need-loop-again Inv-loop μ-loop
 unfolding degree
 loop-again c =
-    let head = c .before .before .before .before in
+    let head = c .before .before .before .before .before in
     let args = start (head .before) in
     passing-more (head .loop .inv) (omega arith)
-    (word-stays (args .pre .1) (args .args .side) _ (omega arith) refl (c .before .before .read-word .ensures)
+    (word-stays (args .pre .1) (args .args .side) _ (omega arith) refl (c .before .before .before .read-word .ensures)
     (own-means _ _ (c .before .is-own-nearest .ensures)) (not-false _ (c .if1 .left)))
 
 returns-2 : tie.Need-returns-2 Inv-loop μ-loop

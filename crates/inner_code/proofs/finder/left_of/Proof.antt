@@ -17,8 +17,8 @@ Inv-loop finder word rows left₀ i₀ left i = (i ≤ rows) × (left ≡ reduce
 abbrev μ-loop : tie.MeasureT-loop
 μ-loop finder word rows left₀ i₀ left i = rows - i
 
-element-copy-out-widened : tie.Need-element-copy-out-widened Inv-loop μ-loop
-element-copy-out-widened c = search needs
+shared-slice-read-widened : tie.Need-shared-slice-read-widened Inv-loop μ-loop
+shared-slice-read-widened c = search needs
 
 widened-requires : tie.Need-widened-requires Inv-loop μ-loop
 widened-requires c κs = search needs
@@ -36,8 +36,8 @@ add-put c = search needs
 mul-put : tie.Need-mul-put Inv-loop μ-loop
 mul-put c = search needs
 
-element-copy-out-put : tie.Need-element-copy-out-put Inv-loop μ-loop
-element-copy-out-put c = search needs
+shared-slice-read-put : tie.Need-shared-slice-read-put Inv-loop μ-loop
+shared-slice-read-put c = search needs
 
 add-i : tie.Need-add-i Inv-loop μ-loop
 add-i c = search needs
@@ -46,7 +46,7 @@ loop-less : tie.Need-loop-less Inv-loop μ-loop
 loop-less c = search needs
 
 abbrev start : tie.At-loop Inv-loop μ-loop → tie.Start Inv-loop μ-loop
-start c = c .before .before .before .before
+start c = c .before .before .before .before .before
 
 loop-again : tie.Need-loop-again Inv-loop μ-loop
 unfolding basisIn
@@ -73,13 +73,13 @@ left-of-spec =
     (tie.spec
     Inv-loop
     μ-loop
-    element-copy-out-widened
+    shared-slice-read-widened
     widened-requires
     at-most-eleven-requires
     loop-holds
     add-put
     mul-put
-    element-copy-out-put
+    shared-slice-read-put
     add-i
     loop-less
     loop-again

@@ -10,8 +10,8 @@ use Rattle.inner_code.proofs.Finding.{search-part, search-few, search-m
 use Rattle.inner_code.proofs.finder.search.Statement.{statement}
 use Rattle.inner_code.proofs.finder.search.Tie as tie
 
-element-copy-out-widened : tie.Need-element-copy-out-widened
-element-copy-out-widened c = search needs
+shared-slice-read-widened : tie.Need-shared-slice-read-widened
+shared-slice-read-widened c = search needs
 
 widened-requires : tie.Need-widened-requires
 widened-requires c κs = search needs
@@ -21,7 +21,7 @@ put-on-requires c κs = search needs
 
 returns : tie.Need-returns
 returns c =
-    let args = c .before .before .before .before .args in
+    let args = c .before .before .before .before .before .args in
     c .put-on .ensures ∙ ap (stepTo (args .word)) (xor-zero-r (args .word) ∙ sym (search-many (now (args .finder)) _ (omega arith)))
 
 add-end : tie.Need-add-end
@@ -41,8 +41,8 @@ nearest-listed-requires c κs = search needs
 
 returns-2 : tie.Need-returns-2
 returns-2 c =
-    let counted = c .before .before .before .before in
-    let start = counted .before .before in
+    let counted = c .before .before .before in
+    let start = counted .before .before .before in
     c .nearest-listed .ensures
     ∙ ap (stepTo (start .args .word))
     (search-part (now (start .args .finder)) _ (1312 + counted .widened .result - 1312) (start .args .word) (omega arith) (omega arith)
@@ -52,7 +52,7 @@ pub search-spec : {M : Type 1} → statement M
 search-spec =
     tie.close
     (tie.spec
-    element-copy-out-widened
+    shared-slice-read-widened
     widened-requires
     put-on-requires
     returns
