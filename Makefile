@@ -1,4 +1,4 @@
-# make run       proves and builds everything, writes the built-in square plan's margin sheet and carries a caption over a simulated link
+# make run       proves and builds everything, writes the margin sheets of two built-in plans and carries a caption over a simulated link
 # make test      the gate: every proof, every wrong program refused, every stored run, the C host's tests
 # make bench     the decoder, the nearest word and the encoder beside plain C
 # make install   the library, its header and pkg-config file, the program margin and its man page, below PREFIX
@@ -22,7 +22,10 @@ AT = $(DESTDIR)$(PREFIX)
 
 run: target/bin/margin $(BUILD)/caption_link
 	@echo
-	@echo "the margin sheet of the square plan with the house code:"
+	@echo "16 carriers, 8 time slots: the margin sheet of the example host's plan; up to 5 flipped bits in a block of 128 are mended"
+	@target/bin/margin <tests/carrier-plan.bin
+	@echo
+	@echo "equal sides: the margin sheet of the square plan with the house code; up to 3 flipped bits in a block of 64 are mended"
 	@target/bin/margin <tests/square-plan.bin
 	@echo
 	@$(BUILD)/caption_link

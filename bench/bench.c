@@ -14,12 +14,22 @@
 #define RUNS 25
 #define LIMIT 20
 
+/* An inner code, by the rows of its sheet. */
 typedef struct {
-    const char *name;
     unsigned d, k;
+    unsigned row[11];
+} code;
+
+typedef struct {
+    code code;
     size_t n;
     uint8_t sheet[24];
     size_t sheet_bytes;
+} side;
+
+typedef struct {
+    const char *name;
+    side left, right;
     uint8_t wiring[2 * MAX_EDGES];
     uint8_t sent[MAX_EDGES / 8];
 } plan;
@@ -56,49 +66,60 @@ static void flip(uint8_t *block, size_t bit)
     block[bit / 8] ^= (uint8_t)(128u >> (bit % 8));
 }
 
-/* The house code, or the Reed-Muller code of length 16 with the first k rows of a list. With 5 rows the all-ones word stands in
-   the middle of the list of codewords. */
-static void set_sheet(plan *p, unsigned d, unsigned k)
+/* The house code; the code of the example host's time slots; Reed-Muller codes of length 16, the first k rows of one list. With
+   5 rows the all-ones word stands in the middle of the list of codewords. */
+static const code house = {8, 4, {0xff, 0x0f, 0x33, 0x55}};
+static const code slots = {16, 7, {0x03a3, 0x0745, 0x0e89, 0x1d11, 0x3a21, 0x7441, 0xe881}};
+static const code k_5 = {16, 5, {0x5555, 0x3333, 0x0f0f, 0x00ff, 0xffff}};
+static const code k_11 = {16, 11, {0x5555, 0x3333, 0x0f0f, 0x00ff, 0xffff, 0x1111, 0x0505, 0x0303, 0x0055, 0x0033, 0x000f}};
+
+static void set_side(side *s, const code *c, size_t n)
 {
-    static const unsigned rows16[11] = {0x5555, 0x3333, 0x0f0f, 0x00ff, 0xffff, 0x1111, 0x0505, 0x0303, 0x0055, 0x0033, 0x000f};
-    static const unsigned house[4] = {0xff, 0x0f, 0x33, 0x55};
-    p->d = d;
-    p->k = k;
-    p->sheet[0] = (uint8_t)d;
-    p->sheet[1] = (uint8_t)k;
-    for (unsigned i = 0; i < k; i++)
-        put_pair(p->sheet + 2 + 2 * i, d == 16 ? rows16[i] : house[i]);
-    p->sheet_bytes = 2 + 2 * k;
+    s->code = *c;
+    s->n = n;
+    s->sheet[0] = (uint8_t)c->d;
+    s->sheet[1] = (uint8_t)c->k;
+    for (unsigned i = 0; i < c->k; i++)
+        put_pair(s->sheet + 2 + 2 * i, c->row[i]);
+    s->sheet_bytes = 2 + 2 * c->k;
 }
 
-/* n / d square plans side by side, their vertices shuffled over both sides. A random product word is sent in each. */
-static void set_squares(plan *p, const char *name, unsigned d, unsigned k, size_t n)
+/* So many rectangles, their vertices shuffled over both sides. Each has dr lines of dl bits, the left vertices, and dl columns
+   of dr bits, the right ones. A random product word is sent in each. */
+static void set_rectangles(plan *p, const char *name, const code *left_code, const code *right_code, size_t rectangles)
 {
     static uint16_t left[2048], right[2048];
+    unsigned dl = left_code->d, dr = right_code->d;
     p->name = name;
-    p->n = n;
-    set_sheet(p, d, k);
+    set_side(&p->left, left_code, rectangles * dr);
+    set_side(&p->right, right_code, rectangles * dl);
     memset(p->sent, 0, sizeof p->sent);
-    for (size_t v = 0; v < n; v++)
-        left[v] = right[v] = (uint16_t)v;
-    shuffle(left, n);
-    shuffle(right, n);
-    for (size_t square = 0; square < n; square += d)
-        for (unsigned i = 0; i < d; i++)
-            for (unsigned j = 0; j < d; j++)
-                put_pair(p->wiring + 2 * (right[square + i] * d + j), left[square + j] * d + i);
-    for (size_t square = 0; square < n; square += d) {
-        for (unsigned terms = 0; terms < 2 * k; terms++) {
-            const uint8_t *a = p->sheet + 2 + 2 * draw(k);
-            const uint8_t *b = p->sheet + 2 + 2 * draw(k);
-            unsigned row = a[0] * 256u + a[1];
-            unsigned column = b[0] * 256u + b[1];
-            for (unsigned j = 0; j < d; j++)
-                for (unsigned i = 0; i < d; i++)
-                    if ((row >> (d - 1 - i)) & (column >> (d - 1 - j)) & 1u)
-                        flip(p->sent, left[square + j] * d + i);
+    for (size_t u = 0; u < p->left.n; u++)
+        left[u] = (uint16_t)u;
+    for (size_t v = 0; v < p->right.n; v++)
+        right[v] = (uint16_t)v;
+    shuffle(left, p->left.n);
+    shuffle(right, p->right.n);
+    for (size_t r = 0; r < rectangles; r++)
+        for (unsigned i = 0; i < dl; i++)
+            for (unsigned j = 0; j < dr; j++)
+                put_pair(p->wiring + 2 * (right[r * dl + i] * dr + j), left[r * dr + j] * dl + i);
+    for (size_t r = 0; r < rectangles; r++) {
+        for (unsigned terms = 0; terms < left_code->k + right_code->k; terms++) {
+            unsigned line = left_code->row[draw(left_code->k)];
+            unsigned column = right_code->row[draw(right_code->k)];
+            for (unsigned j = 0; j < dr; j++)
+                for (unsigned i = 0; i < dl; i++)
+                    if ((line >> (dl - 1 - i)) & (column >> (dr - 1 - j)) & 1u)
+                        flip(p->sent, left[r * dr + j] * dl + i);
         }
     }
+}
+
+/* Squares of one code, n vertices a side. */
+static void set_squares(plan *p, const char *name, const code *c, size_t n)
+{
+    set_rectangles(p, name, c, c, n / c->d);
 }
 
 /* The 31 points and the 31 complements of hyperplanes of a projective space: 16 on each, any two share 8. All ones are sent. */
@@ -107,8 +128,8 @@ static void set_design(plan *p, const char *name)
     unsigned used[32] = {0};
     size_t entry = 0;
     p->name = name;
-    p->n = 31;
-    set_sheet(p, 16, 5);
+    set_side(&p->left, &k_5, 31);
+    set_side(&p->right, &k_5, 31);
     for (unsigned v = 1; v < 32; v++)
         for (unsigned u = 1; u < 32; u++)
             if (__builtin_parity(u & v))
@@ -137,14 +158,20 @@ static uint64_t word;
 /* What the calls tell beside the value: the decoder its sums, the nearest word the bits changed as the first of them. */
 static uint16_t my_sums[LEMBIKAT_SUMS], their_sums[LEMBIKAT_SUMS];
 
-#define PLAN p->sheet, p->sheet_bytes, p->n, p->wiring, 2 * p->n * p->d
+#define PLAN                                                                                                                   \
+    p->left.sheet, p->left.sheet_bytes, p->right.sheet, p->right.sheet_bytes, p->left.n, p->right.n, p->wiring, 2 * edges(p)
 
 /* A call and its answer as one number: the refusal, and the value. */
 typedef uint64_t (*work)(const plan *p);
 
+static size_t edges(const plan *p)
+{
+    return p->left.n * p->left.code.d;
+}
+
 static size_t block_bytes(const plan *p)
 {
-    return LEMBIKAT_BLOCK_BYTES(p->n, p->d);
+    return LEMBIKAT_BLOCK_BYTES(p->left.n, p->left.code.d);
 }
 
 static uint64_t library_decodes(const plan *p)
@@ -163,7 +190,7 @@ static uint64_t plain_decodes(const plan *p)
 
 static uint64_t library_finds(const plan *p)
 {
-    lembikat_word_answer a = lembikat_nearest_word(p->sheet, p->sheet_bytes, word);
+    lembikat_word_answer a = lembikat_nearest_word(p->left.sheet, p->left.sheet_bytes, word);
     my_sums[0] = (uint16_t)a.changed;
     return a.number * 65536u + a.value;
 }
@@ -171,7 +198,7 @@ static uint64_t library_finds(const plan *p)
 static uint64_t plain_finds(const plan *p)
 {
     uint64_t nearest = 0, changed = 0;
-    int number = plain_nearest_word(p->sheet, p->sheet_bytes, word, &nearest, &changed);
+    int number = plain_nearest_word(p->left.sheet, p->left.sheet_bytes, word, &nearest, &changed);
     their_sums[0] = (uint16_t)changed;
     return (uint64_t)number * 65536u + nearest;
 }
@@ -231,26 +258,25 @@ static int row(const plan *p, const char *damage, work library, work plain)
         snprintf(ends, sizeof ends, "%u sweep%s", (unsigned)says, says == 1 ? "" : "s");
     else
         snprintf(ends, sizeof ends, "refused %u", (unsigned)(says / 65536));
-    printf("%-18s %-13s %-11s %12.2f %12.2f %8.2f\n", p->name, damage, ends, 1e6 * b[RUNS / 2], 1e6 * a[RUNS / 2],
+    printf("%-22s %-13s %-11s %12.2f %12.2f %8.2f\n", p->name, damage, ends, 1e6 * b[RUNS / 2], 1e6 * a[RUNS / 2],
            b[RUNS / 2] / a[RUNS / 2]);
     fflush(stdout);
     return 0;
 }
 
-/* The decoder on the codeword sent with no, few and many flips, and on random bits, which do not settle. The zero block stands
-   apart: it is plain C's best case, since its search for a codeword ends at the first word of the list at every vertex. */
+/* The decoder on the codeword sent with no, few and many flips, and on random bits, which as a rule do not settle. The zero
+   block stands apart, as plain C's best case: its search for a codeword ends at the first word of the list at every vertex. */
 static int decoder_rows(const plan *p, unsigned few, unsigned many)
 {
     static uint16_t order[MAX_EDGES];
-    size_t edges = p->n * p->d;
     unsigned flips[3] = {0, few, many};
     char damage[24];
     int failed = 0;
     for (int f = 0; f < 3; f++) {
         memcpy(received, p->sent, block_bytes(p));
-        for (size_t i = 0; i < edges; i++)
+        for (size_t i = 0; i < edges(p); i++)
             order[i] = (uint16_t)i;
-        shuffle(order, edges);
+        shuffle(order, edges(p));
         for (unsigned i = 0; i < flips[f]; i++)
             flip(received, order[i]);
         snprintf(damage, sizeof damage, "%u flips", flips[f]);
@@ -258,7 +284,7 @@ static int decoder_rows(const plan *p, unsigned few, unsigned many)
     }
     memset(received, 0, block_bytes(p));
     failed |= row(p, "zero block", library_decodes, plain_decodes);
-    for (size_t i = 0; i < edges; i++)
+    for (size_t i = 0; i < edges(p); i++)
         if (draw(2))
             flip(received, i);
     return failed | row(p, "random bits", library_decodes, plain_decodes);
@@ -276,12 +302,12 @@ static int encoder_row(const plan *p)
     return row(p, "a message", library_encodes, plain_encodes);
 }
 
-/* The nearest word of one word. Of a plan it takes the sheet alone. */
-static int word_row(plan *p, const char *name, unsigned d, unsigned k)
+/* The nearest word of one word. Of a plan it takes a sheet alone. */
+static int word_row(plan *p, const char *name, const code *c)
 {
     p->name = name;
-    set_sheet(p, d, k);
-    word = draw(1u << d);
+    set_side(&p->left, c, 1);
+    word = draw(1u << c->d);
     return row(p, "a word", library_finds, plain_finds);
 }
 
@@ -291,22 +317,29 @@ int main(int count, char **words)
     int failed = 0;
     timing = !(count > 1 && strcmp(words[1], "check") == 0);
     if (timing)
-        printf("%-18s %-13s %-11s %12s %12s %8s\n", "plan", "input", "ends", "plain C, us", "library, us", "ratio");
-    set_squares(&p, "house, n 64", 8, 4, 64);
+        printf("%-22s %-13s %-11s %12s %12s %8s\n", "plan", "input", "ends", "plain C, us", "library, us", "ratio");
+    set_squares(&p, "house, n 64", &house, 64);
     failed |= decoder_rows(&p, 2, 12);
     failed |= encoder_row(&p);
-    set_squares(&p, "house, n 2048", 8, 4, 2048);
+    set_squares(&p, "house, n 2048", &house, 2048);
     failed |= decoder_rows(&p, 3, 160);
     set_design(&p, "d 16 k 5, n 31");
     failed |= decoder_rows(&p, 3, 20);
-    set_squares(&p, "d 16 k 5, n 2048", 16, 5, 2048);
+    set_squares(&p, "d 16 k 5, n 2048", &k_5, 2048);
     failed |= decoder_rows(&p, 3, 640);
-    set_squares(&p, "d 16 k 11, n 2048", 16, 11, 2048);
+    set_squares(&p, "d 16 k 11, n 2048", &k_11, 2048);
     failed |= decoder_rows(&p, 3, 160);
-    set_squares(&p, "d 16 k 11, n 32", 16, 11, 32);
+    set_squares(&p, "d 16 k 11, n 32", &k_11, 32);
     failed |= encoder_row(&p);
-    failed |= word_row(&p, "house", 8, 4);
-    failed |= word_row(&p, "d 16 k 5", 16, 5);
-    failed |= word_row(&p, "d 16 k 11", 16, 11);
+    failed |= word_row(&p, "house", &house);
+    failed |= word_row(&p, "d 16 k 5", &k_5);
+    failed |= word_row(&p, "d 16 k 11", &k_11);
+
+    /* Unequal sides: more carriers, with the house code, than time slots. The smaller plan is the example host's. */
+    set_rectangles(&p, "carriers, 16 by 8", &house, &slots, 1);
+    failed |= decoder_rows(&p, 2, 5);
+    failed |= encoder_row(&p);
+    set_rectangles(&p, "carriers, 2048 by 1024", &house, &k_11, 128);
+    failed |= decoder_rows(&p, 3, 160);
     return failed;
 }

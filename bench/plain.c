@@ -9,6 +9,13 @@ typedef struct {
     uint16_t words[2048];
 } code;
 
+/* Both sides of a plan, left and right. */
+typedef struct {
+    code codes[2];
+    size_t n[2];
+    size_t edges;
+} plan;
+
 static int check_sheet(const uint8_t *sheet, size_t bytes, code *c)
 {
     if (bytes < 2)
@@ -42,24 +49,39 @@ static unsigned edge_of(const uint8_t *wiring, size_t i)
     return wiring[2 * i] * 256u + wiring[2 * i + 1];
 }
 
-static int check_wiring(const code *c, size_t n, const uint8_t *wiring, size_t bytes)
+static int check_wiring(const plan *p, const uint8_t *wiring, size_t bytes)
 {
     uint8_t seen[32768];
-    if (n < 1 || n > 2048)
-        return 7;
-    size_t edges = n * (size_t)c->d;
-    if (bytes != 2 * edges)
+    if (bytes != 2 * p->edges)
         return 8;
-    memset(seen, 0, edges);
-    for (size_t i = 0; i < edges; i++) {
+    memset(seen, 0, p->edges);
+    for (size_t i = 0; i < p->edges; i++) {
         unsigned edge = edge_of(wiring, i);
-        if (edge >= edges)
+        if (edge >= p->edges)
             return 9;
         if (seen[edge])
             return 10;
         seen[edge] = 1;
     }
     return 0;
+}
+
+static int check_plan(const uint8_t *left_sheet, size_t left_sheet_bytes, const uint8_t *right_sheet, size_t right_sheet_bytes,
+                      size_t nl, size_t nr, const uint8_t *wiring, size_t wiring_bytes, plan *p)
+{
+    int fault = check_sheet(left_sheet, left_sheet_bytes, &p->codes[0]);
+    if (!fault)
+        fault = check_sheet(right_sheet, right_sheet_bytes, &p->codes[1]);
+    if (fault)
+        return fault;
+    if (nl < 1 || nl > 2048 || nr < 1 || nr > 2048)
+        return 7;
+    p->n[0] = nl;
+    p->n[1] = nr;
+    p->edges = nl * (size_t)p->codes[0].d;
+    if (p->edges != nr * (size_t)p->codes[1].d)
+        return 23;
+    return check_wiring(p, wiring, wiring_bytes);
 }
 
 static size_t place_of(int right, const uint8_t *wiring, size_t i)
@@ -113,13 +135,17 @@ static unsigned nearest(const code *c, unsigned word, unsigned *changed)
     return word ^ best;
 }
 
-static int is_codeword(const code *c, size_t n, const uint8_t *wiring, const uint8_t *block)
+static int is_satisfied(const code *c, int right, size_t n, const uint8_t *wiring, const uint8_t *block)
 {
-    for (int right = 0; right < 2; right++)
-        for (size_t v = 0; v < n; v++)
-            if (!is_word(c, read_word(c, right, wiring, block, v)))
-                return 0;
+    for (size_t v = 0; v < n; v++)
+        if (!is_word(c, read_word(c, right, wiring, block, v)))
+            return 0;
     return 1;
+}
+
+static int is_codeword(const plan *p, const uint8_t *wiring, const uint8_t *block)
+{
+    return is_satisfied(&p->codes[0], 0, p->n[0], wiring, block) && is_satisfied(&p->codes[1], 1, p->n[1], wiring, block);
 }
 
 /* Answers how many bits were changed: each stands at one vertex of the side. */
@@ -145,21 +171,18 @@ int plain_nearest_word(const uint8_t *sheet, size_t sheet_bytes, uint64_t word, 
     return 0;
 }
 
-int plain_decode(const uint8_t *sheet, size_t sheet_bytes, size_t n, const uint8_t *wiring, size_t wiring_bytes,
-                 const uint8_t *received, size_t received_bytes, uint8_t *output, size_t output_bytes, size_t limit,
-                 size_t *sweeps, uint16_t sums[64])
+int plain_decode(const uint8_t *left_sheet, size_t left_sheet_bytes, const uint8_t *right_sheet, size_t right_sheet_bytes,
+                 size_t nl, size_t nr, const uint8_t *wiring, size_t wiring_bytes, const uint8_t *received,
+                 size_t received_bytes, uint8_t *output, size_t output_bytes, size_t limit, size_t *sweeps, uint16_t sums[64])
 {
-    code c;
+    plan p;
     memset(sums, 0, 64 * sizeof *sums);
-    int fault = check_sheet(sheet, sheet_bytes, &c);
-    if (!fault)
-        fault = check_wiring(&c, n, wiring, wiring_bytes);
+    int fault = check_plan(left_sheet, left_sheet_bytes, right_sheet, right_sheet_bytes, nl, nr, wiring, wiring_bytes, &p);
     if (fault)
         return fault;
-    size_t edges = n * (size_t)c.d;
-    if (received_bytes != (edges + 7) / 8)
+    if (received_bytes != (p.edges + 7) / 8)
         return 11;
-    if (edges % 8 && received[edges / 8] & (0xffu >> (edges % 8)))
+    if (p.edges % 8 && received[p.edges / 8] & (0xffu >> (p.edges % 8)))
         return 12;
     if (output_bytes < received_bytes)
         return 13;
@@ -167,13 +190,14 @@ int plain_decode(const uint8_t *sheet, size_t sheet_bytes, size_t n, const uint8
         return 14;
     memcpy(output, received, received_bytes);
     for (size_t count = 0;; count++) {
-        if (is_codeword(&c, n, wiring, output)) {
+        if (is_codeword(&p, wiring, output)) {
             *sweeps = count;
             return 0;
         }
         if (count == limit)
             break;
-        unsigned changed = sweep(&c, count % 2, n, wiring, output);
+        int right = count % 2;
+        unsigned changed = sweep(&p.codes[right], right, p.n[right], wiring, output);
         if (count < 64)
             sums[count] = (uint16_t)changed;
     }
@@ -217,60 +241,68 @@ static size_t lowest_row(const row_set *set, size_t edges)
     return edges;
 }
 
-/* Drops a pivot for every check of the plan. The rows that are left, those with a 1 at their own place, are the message
- * positions. */
-static void eliminate(const code *c, const uint8_t *sheet, size_t n, const uint8_t *wiring, row_set *column)
+/* What the echelon form of a sheet's rows leaves of each bit of a vertex's word, its first bit first. */
+static void left_of_bits(const code *c, const uint8_t *sheet, uint16_t left[16])
 {
-    uint16_t basis[11], left[16];
-    size_t edges = n * (size_t)c->d;
+    uint16_t basis[11];
     for (int i = 0; i < c->k; i++)
         basis[i] = (uint16_t)left_of(basis, i, sheet[2 + 2 * i] * 256u + sheet[3 + 2 * i]);
     for (int i = 0; i < c->d; i++)
         left[i] = (uint16_t)left_of(basis, c->k, 1u << (c->d - 1 - i));
+}
+
+/* Drops a pivot for every check of the plan. The rows that are left, those with a 1 at their own place, are the message
+ * positions. */
+static void eliminate(const plan *p, const uint8_t *const sheets[2], const uint8_t *wiring, row_set *column)
+{
     memset(column, 0, 512 * sizeof *column);
-    for (size_t p = 0; p < edges; p++)
-        column[p].word[p / 64] = (uint64_t)1 << (p % 64);
-    for (int right = 0; right < 2; right++)
-        for (size_t v = 0; v < n; v++)
+    for (size_t e = 0; e < p->edges; e++)
+        column[e].word[e / 64] = (uint64_t)1 << (e % 64);
+    for (int right = 0; right < 2; right++) {
+        const code *c = &p->codes[right];
+        uint16_t left[16];
+        left_of_bits(c, sheets[right], left);
+        for (size_t v = 0; v < p->n[right]; v++)
             for (int digit = 0; digit < c->d; digit++) {
                 row_set hits = {{0}};
                 for (int i = 0; i < c->d; i++)
                     if ((left[i] >> digit) & 1)
                         put_on(&column[place_of(right, wiring, v * (size_t)c->d + (size_t)i)], &hits);
-                size_t pivot = lowest_row(&hits, edges);
-                if (pivot == edges)
+                size_t pivot = lowest_row(&hits, p->edges);
+                if (pivot == p->edges)
                     continue;
-                for (size_t e = 0; e < edges; e++)
+                for (size_t e = 0; e < p->edges; e++)
                     if (has_row(&column[e], pivot))
                         put_on(&hits, &column[e]);
             }
+    }
 }
 
-int plain_encode(const uint8_t *sheet, size_t sheet_bytes, size_t n, const uint8_t *wiring, size_t wiring_bytes,
-                 const uint8_t *message, size_t message_bytes, uint8_t *output, size_t output_bytes)
+int plain_encode(const uint8_t *left_sheet, size_t left_sheet_bytes, const uint8_t *right_sheet, size_t right_sheet_bytes,
+                 size_t nl, size_t nr, const uint8_t *wiring, size_t wiring_bytes, const uint8_t *message, size_t message_bytes,
+                 uint8_t *output, size_t output_bytes)
 {
-    code c;
+    plan p;
+    const uint8_t *const sheets[2] = {left_sheet, right_sheet};
     row_set column[512], chosen = {{0}};
-    int fault = check_sheet(sheet, sheet_bytes, &c);
-    if (!fault)
-        fault = check_wiring(&c, n, wiring, wiring_bytes);
+    int fault = check_plan(left_sheet, left_sheet_bytes, right_sheet, right_sheet_bytes, nl, nr, wiring, wiring_bytes, &p);
     if (fault)
         return fault;
-    size_t edges = n * (size_t)c.d, bits = 0, rank = 0;
+    size_t edges = p.edges, bits = 0, rank = 0;
     if (edges > 512)
         return 19;
-    eliminate(&c, sheet, n, wiring, column);
-    for (size_t p = 0; p < edges; p++)
-        bits += (size_t)has_row(&column[p], p);
+    eliminate(&p, sheets, wiring, column);
+    for (size_t e = 0; e < edges; e++)
+        bits += (size_t)has_row(&column[e], e);
     if (message_bytes != (bits + 7) / 8)
         return 20;
     if (bits % 8 && message[bits / 8] & (0xffu >> (bits % 8)))
         return 21;
     if (output_bytes < (edges + 7) / 8)
         return 13;
-    for (size_t p = 0; p < edges; p++)
-        if (has_row(&column[p], p)) {
-            chosen.word[p / 64] |= (uint64_t)((message[rank / 8] >> (7 - rank % 8)) & 1) << (p % 64);
+    for (size_t e = 0; e < edges; e++)
+        if (has_row(&column[e], e)) {
+            chosen.word[e / 64] |= (uint64_t)((message[rank / 8] >> (7 - rank % 8)) & 1) << (e % 64);
             rank++;
         }
     memset(output, 0, (edges + 7) / 8);

@@ -10,12 +10,13 @@ int plain_nearest_word(const uint8_t *sheet, size_t sheet_bytes, uint64_t word, 
 
 /* The straightforward port of the paper: nearest word by search over the codewords, both sides tested before each sweep. The
  * sums are what the visits of each of the first 64 sweeps changed, added up. */
-int plain_decode(const uint8_t *sheet, size_t sheet_bytes, size_t n, const uint8_t *wiring, size_t wiring_bytes,
-                 const uint8_t *received, size_t received_bytes, uint8_t *output, size_t output_bytes, size_t limit,
-                 size_t *sweeps, uint16_t sums[64]);
+int plain_decode(const uint8_t *left_sheet, size_t left_sheet_bytes, const uint8_t *right_sheet, size_t right_sheet_bytes,
+                 size_t nl, size_t nr, const uint8_t *wiring, size_t wiring_bytes, const uint8_t *received,
+                 size_t received_bytes, uint8_t *output, size_t output_bytes, size_t limit, size_t *sweeps, uint16_t sums[64]);
 
 /* The library's elimination, written in C: a set of rows for each bit, as eight words of 64. */
-int plain_encode(const uint8_t *sheet, size_t sheet_bytes, size_t n, const uint8_t *wiring, size_t wiring_bytes,
-                 const uint8_t *message, size_t message_bytes, uint8_t *output, size_t output_bytes);
+int plain_encode(const uint8_t *left_sheet, size_t left_sheet_bytes, const uint8_t *right_sheet, size_t right_sheet_bytes,
+                 size_t nl, size_t nr, const uint8_t *wiring, size_t wiring_bytes, const uint8_t *message, size_t message_bytes,
+                 uint8_t *output, size_t output_bytes);
 
 #endif

@@ -10,42 +10,56 @@
 #include <stdlib.h>
 #include <string.h>
 
-/* The plan. 256 bits in a square of 16 by 16: the left vertices are its lines, the right ones its columns, and each reads a
- * word of an inner code of 16 bits, 7 rows and distance 6. Two vertices of a side always meet equally often, so that no wiring
- * of this size covers more flips. */
-#define D 16
-#define N_VERTICES 16
-#define EDGES (N_VERTICES * D)
-#define BLOCK_BYTES LEMBIKAT_BLOCK_BYTES(N_VERTICES, D)
+/* The plan. The transmitter has 16 carriers and sends a block in 8 time slots, a bit on each carrier in each slot: bit
+ * carrier * 8 + slot. The left vertices are the carriers; the 8 bits that one sends are a word of the house code, of 4 rows and
+ * distance 4. The right vertices are the time slots; the 16 bits sent in one are a word of a code of 7 rows and distance 6.
+ * Each carrier has one bit in each slot, so any two carriers meet equally often: the spread is 0, and no other wiring of these
+ * sizes covers more flips. */
+#define CARRIERS 16
+#define SLOTS 8
+#define EDGES (CARRIERS * SLOTS)
+#define BLOCK_BYTES LEMBIKAT_BLOCK_BYTES(CARRIERS, SLOTS)
 
-static const uint8_t sheet[] = {D, 7, 0x03, 0xa3, 0x07, 0x45, 0x0e, 0x89, 0x1d, 0x11, 0x3a, 0x21, 0x74, 0x41, 0xe8, 0x81};
+static const uint8_t carrier_sheet[] = {SLOTS, 4, 0x00, 0xff, 0x00, 0x0f, 0x00, 0x33, 0x00, 0x55};
+static const uint8_t slot_sheet[] = {CARRIERS, 7,    0x03, 0xa3, 0x07, 0x45, 0x0e, 0x89,
+                                     0x1d,     0x11, 0x3a, 0x21, 0x74, 0x41, 0xe8, 0x81};
 static uint8_t wiring[2 * EDGES];
 
 static void lay_wiring(void)
 {
-    for (unsigned column = 0; column < N_VERTICES; column++)
-        for (unsigned line = 0; line < D; line++) {
-            unsigned entry = column * D + line, edge = line * D + column;
+    for (unsigned slot = 0; slot < SLOTS; slot++)
+        for (unsigned carrier = 0; carrier < CARRIERS; carrier++) {
+            unsigned entry = slot * CARRIERS + carrier, edge = carrier * SLOTS + slot;
             wiring[2 * entry] = (uint8_t)(edge >> 8);
             wiring[2 * entry + 1] = (uint8_t)edge;
         }
 }
 
-/* Every call takes the plan; these are its five parameters. */
-#define PLAN sheet, sizeof sheet, N_VERTICES, wiring, sizeof wiring
+/* Every call takes the plan; it is written down once. */
+static const lembikat_plan plan = {
+    .left_sheet = carrier_sheet,
+    .left_sheet_bytes = sizeof carrier_sheet,
+    .right_sheet = slot_sheet,
+    .right_sheet_bytes = sizeof slot_sheet,
+    .nl = CARRIERS,
+    .nr = SLOTS,
+    .wiring = wiring,
+    .wiring_bytes = sizeof wiring,
+};
 
 /* What a technician should be told. */
 static const char *in_words(uint32_t number)
 {
     static const char *const words[] = {
         [LEMBIKAT_DONE] = "done",
-        [LEMBIKAT_SHEET_SHORT] = "the sheet has fewer than 2 bytes",
-        [LEMBIKAT_DEGREE_OUT_OF_RANGE] = "the sheet's d is not 2 to 16",
-        [LEMBIKAT_ROWS_OUT_OF_RANGE] = "the sheet's k is not 1 to 11, or is above d",
-        [LEMBIKAT_SHEET_LENGTH_WRONG] = "the sheet's length does not fit its k",
-        [LEMBIKAT_ROW_TOO_LARGE] = "this row of the sheet has more than d bits",
-        [LEMBIKAT_ROW_DEPENDENT] = "this row of the sheet is made of earlier rows",
-        [LEMBIKAT_VERTICES_OUT_OF_RANGE] = "the number of vertices is not 1 to 2,048",
+        [LEMBIKAT_SHEET_SHORT] = "a sheet has fewer than 2 bytes",
+        [LEMBIKAT_DEGREE_OUT_OF_RANGE] = "a sheet's d is not 2 to 16",
+        [LEMBIKAT_ROWS_OUT_OF_RANGE] = "a sheet's k is not 1 to 11, or is above d",
+        [LEMBIKAT_SHEET_LENGTH_WRONG] = "a sheet's length does not fit its k",
+        [LEMBIKAT_ROW_TOO_LARGE] = "this row of a sheet has more than d bits",
+        [LEMBIKAT_ROW_DEPENDENT] = "this row of a sheet is made of earlier rows",
+        [LEMBIKAT_VERTICES_OUT_OF_RANGE] = "a side's number of vertices is not 1 to 2,048",
+        [LEMBIKAT_EDGE_COUNTS_DIFFER] = "the two sides do not have equally many edges",
         [LEMBIKAT_WIRING_LENGTH_WRONG] = "the wiring's length does not fit the plan",
         [LEMBIKAT_ENTRY_TOO_LARGE] = "this entry of the wiring names an edge that is not there",
         [LEMBIKAT_ENTRY_REPEATED] = "this entry of the wiring names an edge that stood before",
@@ -93,11 +107,11 @@ static size_t message_bits(void)
 {
     uint8_t message[LEMBIKAT_MAX_MESSAGE_BYTES] = {0}, block[BLOCK_BYTES];
     size_t size = 0, bits = 0;
-    while (lembikat_encode(PLAN, message, size, block, sizeof block).number == LEMBIKAT_MESSAGE_LENGTH_WRONG)
+    while (lembikat_plan_encode(&plan, message, size, block, sizeof block).number == LEMBIKAT_MESSAGE_LENGTH_WRONG)
         size++;
     for (size_t bit = 0; bit < 8 * size; bit++) {
         flip_bit(message, bit);
-        if (lembikat_encode(PLAN, message, size, block, sizeof block).number == LEMBIKAT_DONE)
+        if (lembikat_plan_encode(&plan, message, size, block, sizeof block).number == LEMBIKAT_DONE)
             bits = bit + 1;
         flip_bit(message, bit);
     }
@@ -153,18 +167,19 @@ int main(void)
 
     /* The plan's numbers. What is covered is asked for upwards, until it is refused. */
     lay_wiring();
-    uint64_t spread = must("spread", lembikat_spread(PLAN));
+    uint64_t spread = must("spread", lembikat_plan_spread(&plan));
     size_t bits = message_bits(), bytes = (bits + 7) / 8;
     size_t flips = 0;
-    uint64_t sweeps = must("margin", lembikat_margin(PLAN, 0));
+    uint64_t sweeps = must("margin", lembikat_plan_margin(&plan, 0));
     for (;;) {
-        lembikat_answer more = lembikat_margin(PLAN, flips + 1);
+        lembikat_answer more = lembikat_plan_margin(&plan, flips + 1);
         if (more.number != LEMBIKAT_DONE)
             break;
         flips++;
         sweeps = more.value;
     }
-    printf("plan: %d vertices a side with %d bits each, spread %llu\n", N_VERTICES, D, (unsigned long long)spread);
+    printf("plan: %d carriers (left) of %d bits each, %d time slots (right) of %d bits each, spread %llu\n", CARRIERS, SLOTS,
+           SLOTS, CARRIERS, (unsigned long long)spread);
     printf("a block has %d bits and carries %zu of the text\n", EDGES, bits);
     printf("up to %zu flipped bits in a block are mended, within %llu sweeps\n", flips, (unsigned long long)sweeps);
 
@@ -176,15 +191,16 @@ int main(void)
         for (size_t i = 0; i < bits && b * bits + i < text_bits; i++)
             if (get_bit((const uint8_t *)text, b * bits + i))
                 flip_bit(message, i);
-        must("encode", lembikat_encode(PLAN, message, bytes, sent, sizeof sent));
+        must("encode", lembikat_plan_encode(&plan, message, bytes, sent, sizeof sent));
 
         send_over_link(sent, received, flips);
 
         /* On the far side. No more flips than the margin covers: the sweeps that it names are enough. */
-        lembikat_decode_answer decoded = lembikat_decode(PLAN, received, sizeof received, settled, sizeof settled, sweeps);
+        lembikat_decode_answer decoded =
+            lembikat_plan_decode(&plan, received, sizeof received, settled, sizeof settled, sweeps);
         uint64_t taken = must("decode", (lembikat_answer){decoded.number, decoded.place, decoded.value});
         uint64_t runs =
-            must("report", lembikat_report(PLAN, received, sizeof received, settled, sizeof settled, list, sizeof list));
+            must("report", lembikat_plan_report(&plan, received, sizeof received, settled, sizeof settled, list, sizeof list));
         printf("block %zu: settled after %llu sweep%s, mended bits", b + 1, (unsigned long long)taken, taken == 1 ? "" : "s");
         for (uint64_t r = 0; r < runs; r++) {
             unsigned offset = list[4 * r] * 256u + list[4 * r + 1], length = list[4 * r + 2] * 256u + list[4 * r + 3];
@@ -195,7 +211,7 @@ int main(void)
         }
         printf("\n");
         show_meter(&decoded, sweeps, flips);
-        must("read", lembikat_read(PLAN, settled, sizeof settled, message, sizeof message));
+        must("read", lembikat_plan_read(&plan, settled, sizeof settled, message, sizeof message));
         for (size_t i = 0; i < bits && b * bits + i < text_bits; i++)
             if (get_bit(message, i))
                 flip_bit((uint8_t *)shown, b * bits + i);
@@ -210,20 +226,29 @@ int main(void)
     for (size_t i = 0; i < sizeof received; i++)
         received[i] = (uint8_t)(next_noise() >> 16);
     memset(settled, 0, sizeof settled);
-    lembikat_decode_answer answer = lembikat_decode(PLAN, received, sizeof received, settled, sizeof settled, sweeps);
+    lembikat_decode_answer answer = lembikat_plan_decode(&plan, received, sizeof received, settled, sizeof settled, sweeps);
     printf("noise: refused %u: %s\n", answer.number, in_words(answer.number));
     if (answer.number != LEMBIKAT_UNSETTLED || memcmp(settled, received, sizeof settled) != 0)
         return 1;
     show_meter(&answer, sweeps, flips);
     printf("  the output holds the received block\n");
-    lembikat_answer located = lembikat_locate(PLAN, received, sizeof received);
-    printf("  first vertex that reads no codeword: %s %llu\n", located.place == LEMBIKAT_LEFT ? "left" : "right",
+    lembikat_answer located = lembikat_plan_locate(&plan, received, sizeof received);
+    printf("  first vertex that reads no codeword: %s %llu\n", located.place == LEMBIKAT_LEFT ? "carrier" : "time slot",
            (unsigned long long)located.value);
 
-    /* A damaged plan is refused by every call, with the place of the fault, and nothing is written. */
+    /* Counts that do not fit each other, here swapped, are refused by every call. */
+    lembikat_plan swapped = plan;
+    swapped.nl = plan.nr;
+    swapped.nr = plan.nl;
+    lembikat_answer differ = lembikat_plan_spread(&swapped);
+    printf("counts swapped: refused %u: %s\n", differ.number, in_words(differ.number));
+    if (differ.number != LEMBIKAT_EDGE_COUNTS_DIFFER)
+        return 1;
+
+    /* So is a damaged wiring, with the place of the fault, and nothing is written. */
     memcpy(wiring + 2 * 37, wiring + 2 * 5, 2);
     memset(settled, 0xee, sizeof settled);
-    answer = lembikat_decode(PLAN, sent, sizeof sent, settled, sizeof settled, sweeps);
+    answer = lembikat_plan_decode(&plan, sent, sizeof sent, settled, sizeof settled, sweeps);
     printf("damaged wiring: refused %u at %u: %s\n", answer.number, answer.place, in_words(answer.number));
     for (size_t i = 0; i < sizeof settled; i++)
         if (settled[i] != 0xee)

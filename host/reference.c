@@ -12,16 +12,23 @@
 #define MESSAGE_EDGES 512 /* messages are for N up to this */
 #define SWEEPS_TOLD 64    /* the first sweeps, whose sums the decoder tells */
 
+/* What a sheet says. */
 typedef struct {
     unsigned d, k;
     unsigned row[11];
     unsigned word[MAX_WORDS]; /* every inner codeword */
     size_t words;
-    size_t n, edges;
-    unsigned wired[MAX_EDGES]; /* the wiring's entries as numbers */
-} plan;
+} code;
 
-enum { LEFT, RIGHT };
+enum { LEFT, RIGHT, SIDES };
+
+/* What a plan says, once it is checked. */
+typedef struct {
+    code code[SIDES];
+    size_t n[SIDES];
+    size_t edges;
+    unsigned wired[MAX_EDGES]; /* the wiring's entries as numbers */
+} graph;
 
 static lembikat_answer done(uint32_t place, uint64_t value)
 {
@@ -46,60 +53,65 @@ static unsigned ones(unsigned pattern)
     return count;
 }
 
-/* The sheet: refusals 1 to 6. The codewords are doubled with each row, so before row i they are all exclusive-ors of the
- * earlier rows, the empty one included. */
-static lembikat_answer check_sheet(const uint8_t *sheet, size_t bytes, plan *p)
+/* A sheet: refusals 1 to 6. The codewords are doubled with each row, so before row i they are all exclusive-ors of the earlier
+ * rows, the empty one included. */
+static lembikat_answer check_sheet(const uint8_t *sheet, size_t bytes, code *c)
 {
     if (bytes < 2)
         return refused(1, 0);
-    p->d = sheet[0];
-    p->k = sheet[1];
-    if (p->d < 2 || p->d > 16)
+    c->d = sheet[0];
+    c->k = sheet[1];
+    if (c->d < 2 || c->d > 16)
         return refused(2, 0);
-    if (p->k < 1 || p->k > 11 || p->k > p->d)
+    if (c->k < 1 || c->k > 11 || c->k > c->d)
         return refused(3, 0);
-    if (bytes != 2 + 2 * (size_t)p->k)
+    if (bytes != 2 + 2 * (size_t)c->k)
         return refused(4, 0);
-    p->word[0] = 0;
-    p->words = 1;
-    for (unsigned i = 0; i < p->k; i++) {
+    c->word[0] = 0;
+    c->words = 1;
+    for (unsigned i = 0; i < c->k; i++) {
         unsigned row = pair_at(sheet + 2, i);
-        if (row >= 1u << p->d)
+        if (row >= 1u << c->d)
             return refused(5, i);
-        for (size_t j = 0; j < p->words; j++)
-            if (p->word[j] == row)
+        for (size_t j = 0; j < c->words; j++)
+            if (c->word[j] == row)
                 return refused(6, i);
-        for (size_t j = 0; j < p->words; j++)
-            p->word[p->words + j] = p->word[j] ^ row;
-        p->words *= 2;
-        p->row[i] = row;
+        for (size_t j = 0; j < c->words; j++)
+            c->word[c->words + j] = c->word[j] ^ row;
+        c->words *= 2;
+        c->row[i] = row;
     }
     return done(0, 0);
 }
 
-/* Sheet and wiring: refusals 1 to 10. */
-static lembikat_answer check_plan(const uint8_t *sheet, size_t sheet_bytes, size_t n, const uint8_t *wiring,
-                                  size_t wiring_bytes, plan *p)
+/* Both sheets, both counts, the wiring: refusals 1 to 7, 23, 8 to 10. */
+static lembikat_answer check_plan(const lembikat_plan *plan, graph *g)
 {
     static uint8_t seen[MAX_EDGES];
-    lembikat_answer answer = check_sheet(sheet, sheet_bytes, p);
+    lembikat_answer answer = check_sheet(plan->left_sheet, plan->left_sheet_bytes, &g->code[LEFT]);
+    if (answer.number == 0)
+        answer = check_sheet(plan->right_sheet, plan->right_sheet_bytes, &g->code[RIGHT]);
     if (answer.number != 0)
         return answer;
-    if (n < 1 || n > 2048)
-        return refused(7, 0);
-    p->n = n;
-    p->edges = n * p->d;
-    if (wiring_bytes != 2 * p->edges)
+    g->n[LEFT] = plan->nl;
+    g->n[RIGHT] = plan->nr;
+    for (int side = LEFT; side < SIDES; side++)
+        if (g->n[side] < 1 || g->n[side] > 2048)
+            return refused(7, 0);
+    g->edges = g->n[LEFT] * g->code[LEFT].d;
+    if (g->edges != g->n[RIGHT] * g->code[RIGHT].d)
+        return refused(23, 0);
+    if (plan->wiring_bytes != 2 * g->edges)
         return refused(8, 0);
     memset(seen, 0, sizeof seen);
-    for (size_t i = 0; i < p->edges; i++) {
-        unsigned edge = pair_at(wiring, i);
-        if (edge >= p->edges)
+    for (size_t i = 0; i < g->edges; i++) {
+        unsigned edge = pair_at(plan->wiring, i);
+        if (edge >= g->edges)
             return refused(9, i);
         if (seen[edge])
             return refused(10, i);
         seen[edge] = 1;
-        p->wired[i] = edge;
+        g->wired[i] = edge;
     }
     return done(0, 0);
 }
@@ -123,11 +135,11 @@ static int stray_bits(const uint8_t *bytes, size_t size, size_t bits)
 }
 
 /* One block: refusals 11 and 12. */
-static lembikat_answer check_block(const plan *p, const uint8_t *block, size_t bytes)
+static lembikat_answer check_block(const graph *g, const uint8_t *block, size_t bytes)
 {
-    if (bytes != bytes_for(p->edges))
+    if (bytes != bytes_for(g->edges))
         return refused(11, 0);
-    if (stray_bits(block, bytes, p->edges))
+    if (stray_bits(block, bytes, g->edges))
         return refused(12, 0);
     return done(0, 0);
 }
@@ -147,35 +159,35 @@ static void pack(const uint8_t *bit, size_t bits, uint8_t *bytes)
     }
 }
 
-static size_t edge_of(const plan *p, int side, size_t vertex, unsigned j)
+static size_t edge_of(const graph *g, int side, size_t vertex, unsigned j)
 {
-    size_t i = vertex * p->d + j;
-    return side == LEFT ? i : p->wired[i];
+    size_t i = vertex * g->code[side].d + j;
+    return side == LEFT ? i : g->wired[i];
 }
 
-static unsigned word_of(const plan *p, int side, size_t vertex, const uint8_t *bit)
+static unsigned word_of(const graph *g, int side, size_t vertex, const uint8_t *bit)
 {
     unsigned word = 0;
-    for (unsigned j = 0; j < p->d; j++)
-        word = 2 * word + bit[edge_of(p, side, vertex, j)];
+    for (unsigned j = 0; j < g->code[side].d; j++)
+        word = 2 * word + bit[edge_of(g, side, vertex, j)];
     return word;
 }
 
-static int is_inner_codeword(const plan *p, unsigned word)
+static int is_inner_codeword(const code *c, unsigned word)
 {
-    for (size_t j = 0; j < p->words; j++)
-        if (p->word[j] == word)
+    for (size_t j = 0; j < c->words; j++)
+        if (c->word[j] == word)
             return 1;
     return 0;
 }
 
 /* Every codeword is tried; the pattern that leads to it has to be lighter, or as light and smaller, than the best so far. */
-static unsigned nearest(const plan *p, unsigned word)
+static unsigned nearest(const code *c, unsigned word)
 {
     unsigned best = word; /* leads to the codeword 0, which is always there */
     unsigned best_ones = ones(best);
-    for (size_t j = 0; j < p->words; j++) {
-        unsigned pattern = word ^ p->word[j];
+    for (size_t j = 0; j < c->words; j++) {
+        unsigned pattern = word ^ c->word[j];
         unsigned pattern_ones = ones(pattern);
         if (pattern_ones < best_ones || (pattern_ones == best_ones && pattern < best)) {
             best = pattern;
@@ -185,26 +197,27 @@ static unsigned nearest(const plan *p, unsigned word)
     return word ^ best;
 }
 
-static lembikat_answer first_unsatisfied(const plan *p, const uint8_t *bit)
+static lembikat_answer first_unsatisfied(const graph *g, const uint8_t *bit)
 {
-    for (int side = LEFT; side <= RIGHT; side++)
-        for (size_t vertex = 0; vertex < p->n; vertex++)
-            if (!is_inner_codeword(p, word_of(p, side, vertex, bit)))
+    for (int side = LEFT; side < SIDES; side++)
+        for (size_t vertex = 0; vertex < g->n[side]; vertex++)
+            if (!is_inner_codeword(&g->code[side], word_of(g, side, vertex, bit)))
                 return done(side == LEFT ? LEMBIKAT_LEFT : LEMBIKAT_RIGHT, vertex);
     return done(LEMBIKAT_NONE, 0);
 }
 
-static int is_codeword(const plan *p, const uint8_t *bit)
+static int is_codeword(const graph *g, const uint8_t *bit)
 {
-    return first_unsatisfied(p, bit).place == LEMBIKAT_NONE;
+    return first_unsatisfied(g, bit).place == LEMBIKAT_NONE;
 }
 
-static void sweep(const plan *p, int side, uint8_t *bit)
+static void sweep(const graph *g, int side, uint8_t *bit)
 {
-    for (size_t vertex = 0; vertex < p->n; vertex++) {
-        unsigned word = nearest(p, word_of(p, side, vertex, bit));
-        for (unsigned j = 0; j < p->d; j++)
-            bit[edge_of(p, side, vertex, j)] = word >> (p->d - 1 - j) & 1;
+    const code *c = &g->code[side];
+    for (size_t vertex = 0; vertex < g->n[side]; vertex++) {
+        unsigned word = nearest(c, word_of(g, side, vertex, bit));
+        for (unsigned j = 0; j < c->d; j++)
+            bit[edge_of(g, side, vertex, j)] = word >> (c->d - 1 - j) & 1;
     }
 }
 
@@ -218,41 +231,41 @@ static unsigned differences(const uint8_t *bit, const uint8_t *other, size_t bit
 }
 
 /* The whole block is tested before each sweep, and kept, so that it can be compared with the block after the sweep. */
-static lembikat_answer settle(const plan *p, size_t limit, uint8_t *bit, uint16_t *sums)
+static lembikat_answer settle(const graph *g, size_t limit, uint8_t *bit, uint16_t *sums)
 {
     static uint8_t before[MAX_EDGES];
     for (size_t count = 0;; count++) {
-        if (is_codeword(p, bit))
+        if (is_codeword(g, bit))
             return done(0, count);
         if (count == limit)
             return refused(15, 0);
-        memcpy(before, bit, p->edges);
-        sweep(p, count % 2 == 0 ? LEFT : RIGHT, bit);
+        memcpy(before, bit, g->edges);
+        sweep(g, count % 2 == 0 ? LEFT : RIGHT, bit);
         if (count < SWEEPS_TOLD)
-            sums[count] = (uint16_t)differences(before, bit, p->edges);
+            sums[count] = (uint16_t)differences(before, bit, g->edges);
     }
 }
 
-/* The largest, over u, of the sum over all w of |n G(u, w) - d d|. G(u, w) counts, at every right vertex, the pairs of an
- * edge from u and an edge from w. */
-static uint64_t spread(const plan *p)
+/* The largest, over left u, of the sum over all left w of |nr G(u, w) - dl dl|. G(u, w) counts, at every right vertex, the
+ * pairs of an edge from u and an edge from w. */
+static uint64_t spread(const graph *g)
 {
-    size_t n = p->n;
-    unsigned d = p->d;
-    uint32_t *meetings = calloc(n * n, sizeof *meetings);
+    size_t nl = g->n[LEFT], nr = g->n[RIGHT];
+    unsigned dl = g->code[LEFT].d, dr = g->code[RIGHT].d;
+    uint32_t *meetings = calloc(nl * nl, sizeof *meetings);
     if (meetings == NULL) {
         fprintf(stderr, "reference: no memory\n");
         exit(1);
     }
-    for (size_t v = 0; v < n; v++)
-        for (unsigned i = 0; i < d; i++)
-            for (unsigned j = 0; j < d; j++)
-                meetings[p->wired[v * d + i] / d * n + p->wired[v * d + j] / d]++;
+    for (size_t v = 0; v < nr; v++)
+        for (unsigned i = 0; i < dr; i++)
+            for (unsigned j = 0; j < dr; j++)
+                meetings[g->wired[v * dr + i] / dl * nl + g->wired[v * dr + j] / dl]++;
     uint64_t largest = 0;
-    for (size_t u = 0; u < n; u++) {
+    for (size_t u = 0; u < nl; u++) {
         uint64_t sum = 0;
-        for (size_t w = 0; w < n; w++) {
-            int64_t term = (int64_t)n * meetings[u * n + w] - (int64_t)(d * d);
+        for (size_t w = 0; w < nl; w++) {
+            int64_t term = (int64_t)nr * meetings[u * nl + w] - (int64_t)(dl * dl);
             sum += (uint64_t)(term < 0 ? -term : term);
         }
         if (sum > largest)
@@ -260,6 +273,16 @@ static uint64_t spread(const plan *p)
     }
     free(meetings);
     return largest;
+}
+
+/* D, the fewest ones in a nonzero codeword. */
+static unsigned distance(const code *c)
+{
+    unsigned fewest = c->d;
+    for (size_t j = 0; j < c->words; j++)
+        if (c->word[j] != 0 && ones(c->word[j]) < fewest)
+            fewest = ones(c->word[j]);
+    return fewest;
 }
 
 /* Messages. A row of bits, bit j with weight 2^(j mod 64) in word j / 64. */
@@ -326,34 +349,43 @@ static size_t null_space(row *equations, size_t count, size_t columns, row *basi
     return size;
 }
 
-/* The message positions in rising order, and for each the codeword that has a 1 there and at no other message position. Its
- * last 1 stands there, since the columns are cleared from the end. Answers K. */
-static size_t message_basis(const plan *p, row *basis, size_t *position)
+/* The checks of an inner code: a basis of all words that meet each of its codewords in an even number of ones. Answers their
+ * number. */
+static size_t inner_checks(const code *c, row *check)
 {
-    static row equations[2 * MESSAGE_EDGES];
-    row inner[11], check[16];
-    for (unsigned i = 0; i < p->k; i++) {
+    row inner[11];
+    for (unsigned i = 0; i < c->k; i++) {
         memset(&inner[i], 0, sizeof inner[i]);
-        for (unsigned j = 0; j < p->d; j++)
-            if (p->row[i] >> (p->d - 1 - j) & 1)
+        for (unsigned j = 0; j < c->d; j++)
+            if (c->row[i] >> (c->d - 1 - j) & 1)
                 row_set(&inner[i], j);
     }
-    size_t checks = null_space(inner, p->k, p->d, check);
+    return null_space(inner, c->k, c->d, check);
+}
 
+/* The message positions in rising order, and for each the codeword that has a 1 there and at no other message position. Its
+ * last 1 stands there, since the columns are cleared from the end. Answers K. */
+static size_t message_basis(const graph *g, row *basis, size_t *position)
+{
+    static row equations[2 * MESSAGE_EDGES];
+    row check[16];
     size_t count = 0;
-    for (int side = LEFT; side <= RIGHT; side++)
-        for (size_t vertex = 0; vertex < p->n; vertex++)
-            for (size_t c = 0; c < checks; c++) {
+    for (int side = LEFT; side < SIDES; side++) {
+        const code *c = &g->code[side];
+        size_t checks = inner_checks(c, check);
+        for (size_t vertex = 0; vertex < g->n[side]; vertex++)
+            for (size_t i = 0; i < checks; i++) {
                 memset(&equations[count], 0, sizeof equations[count]);
-                for (unsigned j = 0; j < p->d; j++)
-                    if (row_bit(&check[c], j))
-                        row_set(&equations[count], edge_of(p, side, vertex, j));
+                for (unsigned j = 0; j < c->d; j++)
+                    if (row_bit(&check[i], j))
+                        row_set(&equations[count], edge_of(g, side, vertex, j));
                 count++;
             }
-    size_t size = null_space(equations, count, p->edges, basis);
+    }
+    size_t size = null_space(equations, count, g->edges, basis);
 
     size_t found = 0;
-    for (size_t column = p->edges; column-- > 0 && found < size;)
+    for (size_t column = g->edges; column-- > 0 && found < size;)
         if (pivot(basis, size, found, column))
             position[found++] = column;
     for (size_t i = 0; i < size / 2; i++) {
@@ -368,57 +400,56 @@ static size_t message_basis(const plan *p, row *basis, size_t *position)
     return size;
 }
 
-/* The calls. Plans and bits are static because they are large; nothing is kept in them from one call to the next. */
-static plan the_plan;
+/* The calls. Graphs and bits are static because they are large; nothing is kept in them from one call to the next. */
+static graph the_graph;
 static uint8_t the_bits[MAX_EDGES], other_bits[MAX_EDGES];
 static row the_basis[MESSAGE_EDGES];
 static size_t the_positions[MESSAGE_EDGES];
 
 lembikat_word_answer reference_nearest_word(const uint8_t *sheet, size_t sheet_bytes, uint64_t word)
 {
-    lembikat_answer answer = check_sheet(sheet, sheet_bytes, &the_plan);
+    static code c;
+    lembikat_answer answer = check_sheet(sheet, sheet_bytes, &c);
     uint64_t changed = 0;
-    if (answer.number == 0 && word >= (uint64_t)1 << the_plan.d)
+    if (answer.number == 0 && word >= (uint64_t)1 << c.d)
         answer = refused(12, 0);
     if (answer.number == 0) {
-        answer = done(0, nearest(&the_plan, (unsigned)word));
-        for (unsigned j = 0; j < the_plan.d; j++)
+        answer = done(0, nearest(&c, (unsigned)word));
+        for (unsigned j = 0; j < c.d; j++)
             changed += (word >> j & 1) != (answer.value >> j & 1);
     }
     return (lembikat_word_answer){.number = answer.number, .place = answer.place, .value = answer.value, .changed = changed};
 }
 
-lembikat_answer reference_locate(const uint8_t *sheet, size_t sheet_bytes, size_t n, const uint8_t *wiring, size_t wiring_bytes,
-                                 const uint8_t *block, size_t block_bytes)
+lembikat_answer reference_locate(const lembikat_plan *plan, const uint8_t *block, size_t block_bytes)
 {
-    plan *p = &the_plan;
-    lembikat_answer answer = check_plan(sheet, sheet_bytes, n, wiring, wiring_bytes, p);
+    graph *g = &the_graph;
+    lembikat_answer answer = check_plan(plan, g);
     if (answer.number == 0)
-        answer = check_block(p, block, block_bytes);
+        answer = check_block(g, block, block_bytes);
     if (answer.number != 0)
         return answer;
-    unpack(block, p->edges, the_bits);
-    return first_unsatisfied(p, the_bits);
+    unpack(block, g->edges, the_bits);
+    return first_unsatisfied(g, the_bits);
 }
 
-lembikat_decode_answer reference_decode(const uint8_t *sheet, size_t sheet_bytes, size_t n, const uint8_t *wiring,
-                                        size_t wiring_bytes, const uint8_t *received, size_t received_bytes, uint8_t *output,
-                                        size_t output_bytes, size_t limit)
+lembikat_decode_answer reference_decode(const lembikat_plan *plan, const uint8_t *received, size_t received_bytes,
+                                        uint8_t *output, size_t output_bytes, size_t limit)
 {
-    plan *p = &the_plan;
+    graph *g = &the_graph;
     lembikat_decode_answer told = {.sums = {0}};
-    lembikat_answer answer = check_plan(sheet, sheet_bytes, n, wiring, wiring_bytes, p);
+    lembikat_answer answer = check_plan(plan, g);
     if (answer.number == 0)
-        answer = check_block(p, received, received_bytes);
+        answer = check_block(g, received, received_bytes);
     if (answer.number == 0 && output_bytes < received_bytes)
         answer = refused(13, 0);
     if (answer.number == 0 && limit > 4096)
         answer = refused(14, 0);
     if (answer.number == 0) {
-        unpack(received, p->edges, the_bits);
-        answer = settle(p, limit, the_bits, told.sums);
+        unpack(received, g->edges, the_bits);
+        answer = settle(g, limit, the_bits, told.sums);
         if (answer.number == 0)
-            pack(the_bits, p->edges, output);
+            pack(the_bits, g->edges, output);
         else
             memcpy(output, received, received_bytes);
     }
@@ -428,26 +459,25 @@ lembikat_decode_answer reference_decode(const uint8_t *sheet, size_t sheet_bytes
     return told;
 }
 
-lembikat_answer reference_report(const uint8_t *sheet, size_t sheet_bytes, size_t n, const uint8_t *wiring, size_t wiring_bytes,
-                                 const uint8_t *received, size_t received_bytes, const uint8_t *settled, size_t settled_bytes,
-                                 uint8_t *list, size_t list_bytes)
+lembikat_answer reference_report(const lembikat_plan *plan, const uint8_t *received, size_t received_bytes,
+                                 const uint8_t *settled, size_t settled_bytes, uint8_t *list, size_t list_bytes)
 {
-    plan *p = &the_plan;
-    lembikat_answer answer = check_plan(sheet, sheet_bytes, n, wiring, wiring_bytes, p);
+    graph *g = &the_graph;
+    lembikat_answer answer = check_plan(plan, g);
     if (answer.number == 0)
-        answer = check_block(p, received, received_bytes);
+        answer = check_block(g, received, received_bytes);
     if (answer.number == 0)
-        answer = check_block(p, settled, settled_bytes);
+        answer = check_block(g, settled, settled_bytes);
     if (answer.number != 0)
         return answer;
-    unpack(received, p->edges, the_bits);
-    unpack(settled, p->edges, other_bits);
+    unpack(received, g->edges, the_bits);
+    unpack(settled, g->edges, other_bits);
     /* Twice over the block: first the runs are counted, then they are written, so that a short list stays as it was. */
     for (int writing = 0;; writing = 1) {
         size_t pairs = 0;
-        for (size_t i = 0; i < p->edges;) {
+        for (size_t i = 0; i < g->edges;) {
             size_t length = 0;
-            while (i + length < p->edges && the_bits[i + length] != other_bits[i + length])
+            while (i + length < g->edges && the_bits[i + length] != other_bits[i + length])
                 length++;
             if (length == 0) {
                 i++;
@@ -469,82 +499,79 @@ lembikat_answer reference_report(const uint8_t *sheet, size_t sheet_bytes, size_
     }
 }
 
-lembikat_answer reference_spread(const uint8_t *sheet, size_t sheet_bytes, size_t n, const uint8_t *wiring, size_t wiring_bytes)
+lembikat_answer reference_spread(const lembikat_plan *plan)
 {
-    lembikat_answer answer = check_plan(sheet, sheet_bytes, n, wiring, wiring_bytes, &the_plan);
+    lembikat_answer answer = check_plan(plan, &the_graph);
     if (answer.number != 0)
         return answer;
-    return done(0, spread(&the_plan));
+    return done(0, spread(&the_graph));
 }
 
-lembikat_answer reference_margin(const uint8_t *sheet, size_t sheet_bytes, size_t n, const uint8_t *wiring, size_t wiring_bytes,
-                                 uint64_t flips)
+/* The sides are stepped to in turn, the right one first; each step goes by the distance of the side that it leads to. */
+lembikat_answer reference_margin(const lembikat_plan *plan, uint64_t flips)
 {
-    plan *p = &the_plan;
-    lembikat_answer answer = check_plan(sheet, sheet_bytes, n, wiring, wiring_bytes, p);
+    graph *g = &the_graph;
+    lembikat_answer answer = check_plan(plan, g);
     if (answer.number != 0)
         return answer;
-    if (flips > p->edges)
+    if (flips > g->edges)
         return refused(17, 0);
-    unsigned distance = p->d;
-    for (size_t j = 0; j < p->words; j++)
-        if (p->word[j] != 0 && ones(p->word[j]) < distance)
-            distance = ones(p->word[j]);
-    int64_t four_n_r = (int64_t)(4 * p->n * spread(p));
-    int64_t b = (int64_t)(2 * flips / distance);
+    int64_t nr = (int64_t)g->n[RIGHT], dl = g->code[LEFT].d;
+    int64_t four_nr_r = 4 * nr * (int64_t)spread(g);
+    int64_t b = (int64_t)(2 * flips / distance(&g->code[LEFT]));
     uint64_t place = 1;
-    while (b != 0) {
-        int64_t a = (int64_t)(distance * p->n) - (int64_t)(2 * p->d) * b;
-        if (a <= 0 || a * a <= four_n_r)
+    for (int side = RIGHT; b != 0; side = side == RIGHT ? LEFT : RIGHT) {
+        int64_t a = distance(&g->code[side]) * nr - 2 * dl * b;
+        if (a <= 0 || a * a <= four_nr_r)
             return refused(18, 0);
-        b = four_n_r * b / (a * a);
+        b = four_nr_r * b / (a * a);
         place++;
     }
     return done(0, place);
 }
 
-lembikat_answer reference_encode(const uint8_t *sheet, size_t sheet_bytes, size_t n, const uint8_t *wiring, size_t wiring_bytes,
-                                 const uint8_t *message, size_t message_bytes, uint8_t *output, size_t output_bytes)
+lembikat_answer reference_encode(const lembikat_plan *plan, const uint8_t *message, size_t message_bytes, uint8_t *output,
+                                 size_t output_bytes)
 {
-    plan *p = &the_plan;
-    lembikat_answer answer = check_plan(sheet, sheet_bytes, n, wiring, wiring_bytes, p);
+    graph *g = &the_graph;
+    lembikat_answer answer = check_plan(plan, g);
     if (answer.number != 0)
         return answer;
-    if (p->edges > MESSAGE_EDGES)
+    if (g->edges > MESSAGE_EDGES)
         return refused(19, 0);
-    size_t bits = message_basis(p, the_basis, the_positions);
+    size_t bits = message_basis(g, the_basis, the_positions);
     if (message_bytes != bytes_for(bits))
         return refused(20, 0);
     if (stray_bits(message, message_bytes, bits))
         return refused(21, 0);
-    if (output_bytes < bytes_for(p->edges))
+    if (output_bytes < bytes_for(g->edges))
         return refused(13, 0);
     row sum = {{0}};
     for (size_t i = 0; i < bits; i++)
         if (bit_at(message, i))
             row_add(&sum, &the_basis[i]);
-    for (size_t j = 0; j < p->edges; j++)
+    for (size_t j = 0; j < g->edges; j++)
         the_bits[j] = (uint8_t)row_bit(&sum, j);
-    pack(the_bits, p->edges, output);
+    pack(the_bits, g->edges, output);
     return done(0, 0);
 }
 
-lembikat_answer reference_read(const uint8_t *sheet, size_t sheet_bytes, size_t n, const uint8_t *wiring, size_t wiring_bytes,
-                               const uint8_t *block, size_t block_bytes, uint8_t *output, size_t output_bytes)
+lembikat_answer reference_read(const lembikat_plan *plan, const uint8_t *block, size_t block_bytes, uint8_t *output,
+                               size_t output_bytes)
 {
-    plan *p = &the_plan;
-    lembikat_answer answer = check_plan(sheet, sheet_bytes, n, wiring, wiring_bytes, p);
+    graph *g = &the_graph;
+    lembikat_answer answer = check_plan(plan, g);
     if (answer.number != 0)
         return answer;
-    if (p->edges > MESSAGE_EDGES)
+    if (g->edges > MESSAGE_EDGES)
         return refused(19, 0);
-    answer = check_block(p, block, block_bytes);
+    answer = check_block(g, block, block_bytes);
     if (answer.number != 0)
         return answer;
-    unpack(block, p->edges, the_bits);
-    if (!is_codeword(p, the_bits))
+    unpack(block, g->edges, the_bits);
+    if (!is_codeword(g, the_bits))
         return refused(22, 0);
-    size_t bits = message_basis(p, the_basis, the_positions);
+    size_t bits = message_basis(g, the_basis, the_positions);
     if (output_bytes < bytes_for(bits))
         return refused(13, 0);
     for (size_t i = 0; i < bits; i++)
@@ -553,10 +580,10 @@ lembikat_answer reference_read(const uint8_t *sheet, size_t sheet_bytes, size_t 
     return done(0, 0);
 }
 
-size_t reference_message_bits(const uint8_t *sheet, size_t sheet_bytes, size_t n, const uint8_t *wiring, size_t wiring_bytes)
+size_t reference_message_bits(const lembikat_plan *plan)
 {
-    lembikat_answer answer = check_plan(sheet, sheet_bytes, n, wiring, wiring_bytes, &the_plan);
-    if (answer.number != 0 || the_plan.edges > MESSAGE_EDGES)
+    lembikat_answer answer = check_plan(plan, &the_graph);
+    if (answer.number != 0 || the_graph.edges > MESSAGE_EDGES)
         return 0;
-    return message_basis(&the_plan, the_basis, the_positions);
+    return message_basis(&the_graph, the_basis, the_positions);
 }

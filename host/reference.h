@@ -1,7 +1,7 @@
 /* A second, slow and plain set of the services, for tests alone: what documents 01 and 02 say, by listing and searching.
  *
- * Parameters and answers are those of the lembikat_ calls, so that a test can put the two side by side. Only the types of
- * the answers are shared with the library. */
+ * Parameters and answers are those of the calls on a lembikat_plan, so that a test can put the two side by side. Only the types
+ * of the plan and of the answers are shared with the library. */
 #ifndef REFERENCE_H
 #define REFERENCE_H
 
@@ -9,31 +9,26 @@
 
 lembikat_word_answer reference_nearest_word(const uint8_t *sheet, size_t sheet_bytes, uint64_t word);
 
-lembikat_answer reference_locate(const uint8_t *sheet, size_t sheet_bytes, size_t n, const uint8_t *wiring, size_t wiring_bytes,
-                                 const uint8_t *block, size_t block_bytes);
+lembikat_answer reference_locate(const lembikat_plan *plan, const uint8_t *block, size_t block_bytes);
 
-lembikat_decode_answer reference_decode(const uint8_t *sheet, size_t sheet_bytes, size_t n, const uint8_t *wiring,
-                                        size_t wiring_bytes, const uint8_t *received, size_t received_bytes, uint8_t *output,
-                                        size_t output_bytes, size_t limit);
+lembikat_decode_answer reference_decode(const lembikat_plan *plan, const uint8_t *received, size_t received_bytes,
+                                        uint8_t *output, size_t output_bytes, size_t limit);
 
-lembikat_answer reference_report(const uint8_t *sheet, size_t sheet_bytes, size_t n, const uint8_t *wiring, size_t wiring_bytes,
-                                 const uint8_t *received, size_t received_bytes, const uint8_t *settled, size_t settled_bytes,
-                                 uint8_t *list, size_t list_bytes);
+lembikat_answer reference_report(const lembikat_plan *plan, const uint8_t *received, size_t received_bytes,
+                                 const uint8_t *settled, size_t settled_bytes, uint8_t *list, size_t list_bytes);
 
-lembikat_answer reference_spread(const uint8_t *sheet, size_t sheet_bytes, size_t n, const uint8_t *wiring,
-                                 size_t wiring_bytes);
+lembikat_answer reference_spread(const lembikat_plan *plan);
 
-lembikat_answer reference_margin(const uint8_t *sheet, size_t sheet_bytes, size_t n, const uint8_t *wiring, size_t wiring_bytes,
-                                 uint64_t flips);
+lembikat_answer reference_margin(const lembikat_plan *plan, uint64_t flips);
 
-lembikat_answer reference_encode(const uint8_t *sheet, size_t sheet_bytes, size_t n, const uint8_t *wiring, size_t wiring_bytes,
-                                 const uint8_t *message, size_t message_bytes, uint8_t *output, size_t output_bytes);
+lembikat_answer reference_encode(const lembikat_plan *plan, const uint8_t *message, size_t message_bytes, uint8_t *output,
+                                 size_t output_bytes);
 
-lembikat_answer reference_read(const uint8_t *sheet, size_t sheet_bytes, size_t n, const uint8_t *wiring, size_t wiring_bytes,
-                               const uint8_t *block, size_t block_bytes, uint8_t *output, size_t output_bytes);
+lembikat_answer reference_read(const lembikat_plan *plan, const uint8_t *block, size_t block_bytes, uint8_t *output,
+                               size_t output_bytes);
 
 /* K, the bits of a message, so that a test can make messages of the right length. 0 where the plan is refused or N is above
  * 512. */
-size_t reference_message_bits(const uint8_t *sheet, size_t sheet_bytes, size_t n, const uint8_t *wiring, size_t wiring_bytes);
+size_t reference_message_bits(const lembikat_plan *plan);
 
 #endif

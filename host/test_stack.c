@@ -1,8 +1,8 @@
-/* test_stack: how much stack each call takes, on the largest plan that it accepts.
+/* test_stack: how much stack each call takes, on the largest plan that it accepts, and the decoder on plans with unequal sides.
  *
  * Each call runs in a thread of its own, on a stack that was painted beforehand. What is no longer painted afterwards, down to
  * the lowest byte that was touched, less what a thread that does nothing touches, is the call's. Prints one line a call,
- * `NAME BYTES`; the exit status is 1 where a call takes more than the table allows, or did not end as it should.
+ * `NAME BYTES` and the plan; the exit status is 1 where a call takes more than the table allows, or did not end as it should.
  */
 #define _POSIX_C_SOURCE 200809L
 
@@ -13,25 +13,30 @@
 #include <stdlib.h>
 #include <string.h>
 
-static void nearest_word(void), locate(void), decode(void), report(void);
-static void spread(void), margin(void), encode(void), read_block(void);
+static void nearest_word(void), locate(void), report(void), spread(void), margin(void), encode(void), read_block(void);
+static void decode(void), decode_two_codes(void), decode_house_right(void), decode_house_left(void);
 
-/* The bytes that each call may take, as the header says, and the number that it must answer here. The decoder's block is one
- * that does not settle, so that it runs its sweeps and writes the received block back. */
+/* The bytes that each call may take, as the header says, and the number that it must answer here. The decoder's blocks are such
+ * that do not settle, so that it runs its sweeps and writes the received block back. */
+#define DECODE_BYTES (19 * 1024)
+
 static const struct {
-    const char *name;
+    const char *name, *plan;
     size_t allowed;
     uint32_t number;
     void (*run)(void);
 } calls[] = {
-    {"lembikat_nearest_word", 5 * 1024, LEMBIKAT_DONE, nearest_word},
-    {"lembikat_locate", 5 * 1024, LEMBIKAT_DONE, locate},
-    {"lembikat_decode", 12 * 1024, LEMBIKAT_UNSETTLED, decode},
-    {"lembikat_report", 5 * 1024, LEMBIKAT_DONE, report},
-    {"lembikat_spread", 138 * 1024, LEMBIKAT_DONE, spread},
-    {"lembikat_margin", 142 * 1024, LEMBIKAT_DONE, margin},
-    {"lembikat_encode", 38 * 1024, LEMBIKAT_DONE, encode},
-    {"lembikat_read", 38 * 1024, LEMBIKAT_DONE, read_block},
+    {"lembikat_nearest_word", "k 11", 5 * 1024, LEMBIKAT_DONE, nearest_word},
+    {"lembikat_locate", "largest", 5 * 1024, LEMBIKAT_DONE, locate},
+    {"lembikat_decode", "largest", DECODE_BYTES, LEMBIKAT_UNSETTLED, decode},
+    {"lembikat_decode", "two codes of k 11", DECODE_BYTES, LEMBIKAT_UNSETTLED, decode_two_codes},
+    {"lembikat_decode", "k 11, house code", DECODE_BYTES, LEMBIKAT_UNSETTLED, decode_house_right},
+    {"lembikat_decode", "house code, k 11", DECODE_BYTES, LEMBIKAT_UNSETTLED, decode_house_left},
+    {"lembikat_report", "largest", 5 * 1024, LEMBIKAT_DONE, report},
+    {"lembikat_spread", "largest", 138 * 1024, LEMBIKAT_DONE, spread},
+    {"lembikat_margin", "largest", 142 * 1024, LEMBIKAT_DONE, margin},
+    {"lembikat_encode", "largest with messages", 38 * 1024, LEMBIKAT_DONE, encode},
+    {"lembikat_read", "largest with messages", 38 * 1024, LEMBIKAT_DONE, read_block},
 };
 #define CALLS (sizeof calls / sizeof calls[0])
 
@@ -39,14 +44,24 @@ static const struct {
 #define D 16
 #define SWEEPS 3
 
-/* Two plans: the largest of all, and the largest that has messages. The inner code has 11 rows and distance 4. */
+/* The inner codes: two of 11 rows, the first of distance 4, the second with other codewords, and the house code. */
 static const uint8_t sheet[LEMBIKAT_MAX_SHEET_BYTES] = {D,    11,   0xff, 0xff, 0x00, 0xff, 0x0f, 0x0f, 0x33, 0x33, 0x55, 0x55,
                                                         0x00, 0x0f, 0x00, 0x33, 0x00, 0x55, 0x03, 0x03, 0x05, 0x05, 0x11, 0x11};
+static const uint8_t other[LEMBIKAT_MAX_SHEET_BYTES] = {D,    11,   0x80, 0x1f, 0x40, 0x2d, 0x20, 0x33, 0x10, 0x47, 0x08, 0x4b,
+                                                        0x04, 0x4d, 0x02, 0x53, 0x01, 0x55, 0x00, 0x99, 0x00, 0x07, 0x00, 0x19};
+#define HOUSE_D 8
+static const uint8_t house[] = {HOUSE_D, 4, 0x00, 0xff, 0x00, 0x0f, 0x00, 0x33, 0x00, 0x55};
+
+/* The largest plan of all, the largest that has messages, and the largest with the house code on one side. */
 #define LARGE LEMBIKAT_MAX_VERTICES
 #define SMALL (LEMBIKAT_MAX_MESSAGE_EDGES / D)
-static uint8_t large[2 * LARGE * D], small[2 * SMALL * D];
-#define LARGE_PLAN sheet, sizeof sheet, LARGE, large, sizeof large
-#define SMALL_PLAN sheet, sizeof sheet, SMALL, small, sizeof small
+#define HALF (LARGE * HOUSE_D / D) /* the vertices of degree D beside so many of the house code */
+static uint8_t large[2 * LARGE * D], small[2 * SMALL * D], mixed[2 * HALF * D];
+#define LARGE_PLAN sheet, sizeof sheet, sheet, sizeof sheet, LARGE, LARGE, large, sizeof large
+#define SMALL_PLAN sheet, sizeof sheet, sheet, sizeof sheet, SMALL, SMALL, small, sizeof small
+#define TWO_CODES sheet, sizeof sheet, other, sizeof other, LARGE, LARGE, large, sizeof large
+#define HOUSE_RIGHT sheet, sizeof sheet, house, sizeof house, HALF, LARGE, mixed, sizeof mixed
+#define HOUSE_LEFT house, sizeof house, sheet, sizeof sheet, LARGE, HALF, mixed, sizeof mixed
 
 static uint8_t zeros[LEMBIKAT_MAX_BLOCK_BYTES], noise[LEMBIKAT_MAX_BLOCK_BYTES], output[LEMBIKAT_MAX_BLOCK_BYTES];
 static uint8_t list[LEMBIKAT_MAX_LIST_BYTES];
@@ -67,6 +82,21 @@ static void locate(void)
 static void decode(void)
 {
     number = lembikat_decode(LARGE_PLAN, noise, sizeof noise, output, sizeof output, SWEEPS).number;
+}
+
+static void decode_two_codes(void)
+{
+    number = lembikat_decode(TWO_CODES, noise, sizeof noise, output, sizeof output, SWEEPS).number;
+}
+
+static void decode_house_right(void)
+{
+    number = lembikat_decode(HOUSE_RIGHT, noise, sizeof mixed / 16, output, sizeof output, SWEEPS).number;
+}
+
+static void decode_house_left(void)
+{
+    number = lembikat_decode(HOUSE_LEFT, noise, sizeof mixed / 16, output, sizeof output, SWEEPS).number;
 }
 
 static void report(void)
@@ -159,6 +189,7 @@ int main(void)
     }
     shuffle(large, LARGE * D);
     shuffle(small, SMALL * D);
+    shuffle(mixed, HALF * D);
     for (size_t i = 0; i < sizeof noise; i++)
         noise[i] = (uint8_t)draw(256);
     /* The only length of a message that is not refused is the plan's. */
@@ -173,7 +204,7 @@ int main(void)
     for (size_t i = 0; i < CALLS; i++) {
         size_t used = stack_of(stack, calls[i].run);
         used = used > empty ? used - empty : 0;
-        printf("%s %zu\n", calls[i].name, used);
+        printf("%s %zu (%s)\n", calls[i].name, used, calls[i].plan);
         if (used > calls[i].allowed) {
             printf("FAILED: %s is allowed %zu\n", calls[i].name, calls[i].allowed);
             bad = 1;

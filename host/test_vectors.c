@@ -1,13 +1,15 @@
 /* test_vectors STREAM EXPECTED: the library's exports against stored answers and against a second set of services.
  *
  * Part one runs every record of a stream of calls and compares the line that it gives with the expected one. Part two makes
- * 20,000 calls from a fixed seed, about half of them with faults, and compares every answer and every lent byte with
- * reference.c; before them it tries some borders that chance does not meet. The last line is `test_vectors: N passed, M
- * failed`; the exit status is 1 where one failed.
+ * calls that chance does not meet, among them every fault of every service alone and with every other one, and then 20,000
+ * calls from a fixed seed, about half of them with faults and more than half on plans with unequal sides, and compares every
+ * answer and every lent byte with reference.c. The last line is `test_vectors: N passed, M failed`; the exit status is 1 where
+ * one failed.
  *
- * The sanitizers do not see into the library. So every call is made twice: once with buffers on the heap, what is written
- * between canaries, and once with every buffer ending where a page begins that may neither be read nor written. Both must
- * answer alike and leave what they only read as it was.
+ * The sanitizers do not see into the library. So every call is made twice: once by the call that takes the plan's parts, with
+ * buffers on the heap, what is written between canaries, and once by the header's call on a plan in one piece, with every
+ * buffer ending where a page begins that may neither be read nor written. Both must answer alike and leave what they only read
+ * as it was.
  */
 #define _DEFAULT_SOURCE /* for MAP_ANONYMOUS */
 
@@ -29,7 +31,7 @@ _Static_assert(sizeof(lembikat_decode_answer) == 144, "the decoder's answer has 
 
 #define RANDOM_CALLS 20000
 #define SHOWN_FAILURES 10
-#define LAST_REFUSAL LEMBIKAT_NO_CODEWORD
+#define LAST_REFUSAL LEMBIKAT_EDGE_COUNTS_DIFFER
 #define LAST_SERVICE 9
 #define PIECE 2 /* the service that the C host does not call */
 
@@ -38,7 +40,7 @@ _Static_assert(sizeof(lembikat_decode_answer) == 144, "the decoder's answer has 
 #define ROOM 81920 /* above every buffer of the stream (70,000) and of the random calls */
 
 /* One call of one service, numbered as in the stream. What a service does not take is empty. */
-enum { SHEET, WIRING, FIRST, SECOND, LENT, FIELDS };
+enum { LEFT_SHEET, RIGHT_SHEET, WIRING, FIRST, SECOND, LENT, FIELDS };
 
 typedef struct {
     const uint8_t *data;
@@ -47,8 +49,10 @@ typedef struct {
 
 typedef struct {
     unsigned service;
-    bytes field[FIELDS]; /* FIRST: the block or the message; SECOND: the settled block; LENT: the buffer to be written */
-    uint64_t n;
+    /* LEFT_SHEET: also the one sheet of the nearest word; FIRST: the block or the message; SECOND: the settled block; LENT: the
+     * buffer to be written */
+    bytes field[FIELDS];
+    uint64_t nl, nr;
     uint64_t number; /* the word, the limit or the flips */
 } call;
 
@@ -61,24 +65,64 @@ typedef struct {
     const char *trouble; /* what was touched that must not be, or NULL */
 } outcome;
 
-/* The library and the reference have the same eight functions. */
+/* The library, by its two kinds of call, and the reference have the same eight functions. */
 typedef struct {
     lembikat_word_answer (*nearest_word)(const uint8_t *, size_t, uint64_t);
-    lembikat_answer (*locate)(const uint8_t *, size_t, size_t, const uint8_t *, size_t, const uint8_t *, size_t);
-    lembikat_decode_answer (*decode)(const uint8_t *, size_t, size_t, const uint8_t *, size_t, const uint8_t *, size_t,
-                                     uint8_t *, size_t, size_t);
-    lembikat_answer (*report)(const uint8_t *, size_t, size_t, const uint8_t *, size_t, const uint8_t *, size_t,
-                              const uint8_t *, size_t, uint8_t *, size_t);
-    lembikat_answer (*spread)(const uint8_t *, size_t, size_t, const uint8_t *, size_t);
-    lembikat_answer (*margin)(const uint8_t *, size_t, size_t, const uint8_t *, size_t, uint64_t);
-    lembikat_answer (*encode)(const uint8_t *, size_t, size_t, const uint8_t *, size_t, const uint8_t *, size_t, uint8_t *,
-                              size_t);
-    lembikat_answer (*read)(const uint8_t *, size_t, size_t, const uint8_t *, size_t, const uint8_t *, size_t, uint8_t *,
-                            size_t);
+    lembikat_answer (*locate)(const lembikat_plan *, const uint8_t *, size_t);
+    lembikat_decode_answer (*decode)(const lembikat_plan *, const uint8_t *, size_t, uint8_t *, size_t, size_t);
+    lembikat_answer (*report)(const lembikat_plan *, const uint8_t *, size_t, const uint8_t *, size_t, uint8_t *, size_t);
+    lembikat_answer (*spread)(const lembikat_plan *);
+    lembikat_answer (*margin)(const lembikat_plan *, uint64_t);
+    lembikat_answer (*encode)(const lembikat_plan *, const uint8_t *, size_t, uint8_t *, size_t);
+    lembikat_answer (*read)(const lembikat_plan *, const uint8_t *, size_t, uint8_t *, size_t);
 } services;
 
-static const services library = {lembikat_nearest_word, lembikat_locate, lembikat_decode, lembikat_report,
-                                 lembikat_spread,       lembikat_margin, lembikat_encode, lembikat_read};
+/* The calls that take the plan's parts. */
+#define PARTS p->left_sheet, p->left_sheet_bytes, p->right_sheet, p->right_sheet_bytes, p->nl, p->nr, p->wiring, p->wiring_bytes
+
+static lembikat_answer locate_by_parts(const lembikat_plan *p, const uint8_t *block, size_t block_bytes)
+{
+    return lembikat_locate(PARTS, block, block_bytes);
+}
+
+static lembikat_decode_answer decode_by_parts(const lembikat_plan *p, const uint8_t *received, size_t received_bytes,
+                                              uint8_t *output, size_t output_bytes, size_t limit)
+{
+    return lembikat_decode(PARTS, received, received_bytes, output, output_bytes, limit);
+}
+
+static lembikat_answer report_by_parts(const lembikat_plan *p, const uint8_t *received, size_t received_bytes,
+                                       const uint8_t *settled, size_t settled_bytes, uint8_t *list, size_t list_bytes)
+{
+    return lembikat_report(PARTS, received, received_bytes, settled, settled_bytes, list, list_bytes);
+}
+
+static lembikat_answer spread_by_parts(const lembikat_plan *p)
+{
+    return lembikat_spread(PARTS);
+}
+
+static lembikat_answer margin_by_parts(const lembikat_plan *p, uint64_t flips)
+{
+    return lembikat_margin(PARTS, flips);
+}
+
+static lembikat_answer encode_by_parts(const lembikat_plan *p, const uint8_t *message, size_t message_bytes, uint8_t *output,
+                                       size_t output_bytes)
+{
+    return lembikat_encode(PARTS, message, message_bytes, output, output_bytes);
+}
+
+static lembikat_answer read_by_parts(const lembikat_plan *p, const uint8_t *block, size_t block_bytes, uint8_t *output,
+                                     size_t output_bytes)
+{
+    return lembikat_read(PARTS, block, block_bytes, output, output_bytes);
+}
+
+static const services by_parts = {lembikat_nearest_word, locate_by_parts, decode_by_parts, report_by_parts,
+                                  spread_by_parts,       margin_by_parts, encode_by_parts, read_by_parts};
+static const services by_plan = {lembikat_nearest_word, lembikat_plan_locate, lembikat_plan_decode, lembikat_plan_report,
+                                 lembikat_plan_spread,  lembikat_plan_margin, lembikat_plan_encode, lembikat_plan_read};
 static const services reference = {reference_nearest_word, reference_locate, reference_decode, reference_report,
                                    reference_spread,       reference_margin, reference_encode, reference_read};
 
@@ -105,44 +149,49 @@ static void *take(size_t size)
 
 static void invoke(const services *s, const call *c, uint8_t *const at[FIELDS], outcome *o)
 {
-    const uint8_t *sheet = at[SHEET], *wiring = at[WIRING], *first = at[FIRST], *second = at[SECOND];
+    const lembikat_plan plan = {.left_sheet = at[LEFT_SHEET],
+                                .left_sheet_bytes = c->field[LEFT_SHEET].size,
+                                .right_sheet = at[RIGHT_SHEET],
+                                .right_sheet_bytes = c->field[RIGHT_SHEET].size,
+                                .nl = c->nl,
+                                .nr = c->nr,
+                                .wiring = at[WIRING],
+                                .wiring_bytes = c->field[WIRING].size};
+    const uint8_t *first = at[FIRST], *second = at[SECOND];
     uint8_t *lent = at[LENT];
-    size_t sheet_size = c->field[SHEET].size, wiring_size = c->field[WIRING].size;
     size_t first_size = c->field[FIRST].size, second_size = c->field[SECOND].size, lent_size = c->field[LENT].size;
     o->changed = 0;
     memset(o->sums, 0, sizeof o->sums);
     switch (c->service) {
     case 1: {
-        lembikat_word_answer word = s->nearest_word(sheet, sheet_size, c->number);
+        lembikat_word_answer word = s->nearest_word(plan.left_sheet, plan.left_sheet_bytes, c->number);
         o->answer = (lembikat_answer){word.number, word.place, word.value};
         o->changed = word.changed;
         break;
     }
     case 3:
-        o->answer = s->locate(sheet, sheet_size, c->n, wiring, wiring_size, first, first_size);
+        o->answer = s->locate(&plan, first, first_size);
         break;
     case 4: {
-        lembikat_decode_answer decoded =
-            s->decode(sheet, sheet_size, c->n, wiring, wiring_size, first, first_size, lent, lent_size, c->number);
+        lembikat_decode_answer decoded = s->decode(&plan, first, first_size, lent, lent_size, c->number);
         o->answer = (lembikat_answer){decoded.number, decoded.place, decoded.value};
         memcpy(o->sums, decoded.sums, sizeof o->sums);
         break;
     }
     case 5:
-        o->answer =
-            s->report(sheet, sheet_size, c->n, wiring, wiring_size, first, first_size, second, second_size, lent, lent_size);
+        o->answer = s->report(&plan, first, first_size, second, second_size, lent, lent_size);
         break;
     case 6:
-        o->answer = s->spread(sheet, sheet_size, c->n, wiring, wiring_size);
+        o->answer = s->spread(&plan);
         break;
     case 7:
-        o->answer = s->margin(sheet, sheet_size, c->n, wiring, wiring_size, c->number);
+        o->answer = s->margin(&plan, c->number);
         break;
     case 8:
-        o->answer = s->encode(sheet, sheet_size, c->n, wiring, wiring_size, first, first_size, lent, lent_size);
+        o->answer = s->encode(&plan, first, first_size, lent, lent_size);
         break;
     default:
-        o->answer = s->read(sheet, sheet_size, c->n, wiring, wiring_size, first, first_size, lent, lent_size);
+        o->answer = s->read(&plan, first, first_size, lent, lent_size);
     }
 }
 
@@ -194,6 +243,13 @@ static void run_on_heap(const services *s, const call *c, outcome *o)
     free(around);
 }
 
+/* Lends one buffer for two fields that have the same bytes. */
+static void share(const call *c, uint8_t *at[FIELDS], int field, int other)
+{
+    if (c->field[field].size == c->field[other].size && same_bytes(at[field], at[other], c->field[field].size))
+        at[other] = at[field];
+}
+
 /* Every buffer ends where a page begins that may not be touched: a byte read or written behind it stops the program. */
 static void run_fenced(const services *s, const call *c, outcome *o)
 {
@@ -217,8 +273,8 @@ static void run_fenced(const services *s, const call *c, outcome *o)
         memcpy(at[f], c->field[f].data, size);
     }
     /* Buffers that are only read may be one and the same. */
-    if (c->field[FIRST].size == c->field[SECOND].size && same_bytes(at[FIRST], at[SECOND], c->field[FIRST].size))
-        at[SECOND] = at[FIRST];
+    share(c, at, LEFT_SHEET, RIGHT_SHEET);
+    share(c, at, FIRST, SECOND);
     invoke(s, c, at, o);
     look_after(c, at, o);
 }
@@ -230,19 +286,19 @@ static int same_outcome(const call *c, const outcome *a, const outcome *b)
            same_bytes(a->lent, b->lent, c->field[LENT].size);
 }
 
-/* Makes the call of the library in both ways and of the reference. */
+/* Makes the call of the library in both ways, and of the reference. */
 static outcome by_library, by_reference;
 
 static void run_all(const call *c)
 {
     static outcome fenced;
-    run_on_heap(&library, c, &by_library);
-    run_fenced(&library, c, &fenced);
+    run_on_heap(&by_parts, c, &by_library);
+    run_fenced(&by_plan, c, &fenced);
     run_on_heap(&reference, c, &by_reference);
     if (fenced.trouble != NULL)
         by_library.trouble = fenced.trouble;
     if (!same_outcome(c, &by_library, &fenced))
-        by_library.trouble = "the same call with other buffers answered otherwise";
+        by_library.trouble = "on a plan in one piece, or with other buffers, the call answered otherwise";
 }
 
 /* Counts a case. Answers whether it is to be shown. */
@@ -336,9 +392,11 @@ static call next_record(void)
     call c = {.service = (unsigned)next_number(1)};
     if (c.service < 1 || c.service > LAST_SERVICE)
         give_up("the stream names no such service");
-    c.field[SHEET] = next_bytes();
+    c.field[LEFT_SHEET] = next_bytes();
     if (c.service != 1) {
-        c.n = next_number(8);
+        c.field[RIGHT_SHEET] = next_bytes();
+        c.nl = next_number(8);
+        c.nr = next_number(8);
         c.field[WIRING] = next_bytes();
     }
     if (c.service == 3 || c.service == 4 || c.service == 5 || c.service >= 8)
@@ -446,7 +504,7 @@ static void part_one(const char *stream_name, const char *expected_name)
     free(expected);
 }
 
-/* ---- part two: random calls ---- */
+/* ---- part two: calls that are made up ---- */
 
 static uint64_t state = 0x9e3779b97f4a7c15u;
 
@@ -486,127 +544,743 @@ static void flip(uint8_t *block, size_t bit)
     block[bit / 8] ^= (uint8_t)(128u >> bit % 8);
 }
 
-/* A plan without fault, and how its wiring was laid, since that tells how to make a codeword of it. */
-enum { SHUFFLED, SQUARES, TWINS, RESIDUES };
+static size_t smaller(size_t a, size_t b)
+{
+    return a < b ? a : b;
+}
 
-static struct {
+static size_t larger(size_t a, size_t b)
+{
+    return a > b ? a : b;
+}
+
+static size_t common_divisor(size_t a, size_t b)
+{
+    while (b != 0) {
+        size_t left = a % b;
+        a = b;
+        b = left;
+    }
+    return a;
+}
+
+/* A plan without fault, and how its wiring was laid, since that tells how to make a codeword of it. */
+enum { SHUFFLED, RECTANGLES, TWINS, RESIDUES, PLANE };
+
+typedef struct {
     unsigned d, k;
     unsigned row[11];
-    size_t n, edges, block;
+    size_t n;
+} side;
+
+static struct {
+    side left, right;
+    size_t edges, block;
     int lay;
 } plan;
 
 /* What the call under way lends. The faults are put in here, the plan above stays as it was. */
-static uint8_t sheet[64], wiring[ROOM], first[ROOM], second[ROOM], lent[ROOM];
+static uint8_t left_sheet[64], right_sheet[64], wiring[ROOM], first[ROOM], second[ROOM], lent[ROOM];
 
-static unsigned draw_inner_codeword(void)
+static void put_sheet(uint8_t *sheet, const side *s)
+{
+    sheet[0] = (uint8_t)s->d;
+    sheet[1] = (uint8_t)s->k;
+    for (unsigned i = 0; i < s->k; i++)
+        put_pair(sheet + 2, i, s->row[i]);
+}
+
+static size_t sheet_size(const side *s)
+{
+    return 2 + 2 * (size_t)s->k;
+}
+
+/* Takes both sides as the plan, with n vertices on the left and as many on the right as fit. The wiring is still to be laid. */
+static void set_plan(side left, side right, size_t n)
+{
+    plan.left = left;
+    plan.right = right;
+    plan.left.n = n;
+    plan.right.n = n * left.d / right.d;
+    plan.edges = n * left.d;
+    plan.block = LEMBIKAT_BLOCK_BYTES(n, left.d);
+    put_sheet(left_sheet, &left);
+    put_sheet(right_sheet, &right);
+}
+
+static int same_code(const side *a, const side *b)
+{
+    return a->d == b->d && a->k == b->k && memcmp(a->row, b->row, a->k * sizeof a->row[0]) == 0;
+}
+
+/* A call of the service on the plan. What it takes beside the plan is still to be put in. */
+static call plan_call(unsigned service)
+{
+    call c = {.service = service, .nl = plan.left.n, .nr = plan.right.n};
+    c.field[LEFT_SHEET] = (bytes){left_sheet, sheet_size(&plan.left)};
+    c.field[RIGHT_SHEET] = (bytes){right_sheet, sheet_size(&plan.right)};
+    c.field[WIRING] = (bytes){wiring, 2 * plan.edges};
+    return c;
+}
+
+/* The plan as the reference takes it. */
+static lembikat_plan reference_plan(void)
+{
+    return (lembikat_plan){.left_sheet = left_sheet,
+                           .left_sheet_bytes = sheet_size(&plan.left),
+                           .right_sheet = right_sheet,
+                           .right_sheet_bytes = sheet_size(&plan.right),
+                           .nl = plan.left.n,
+                           .nr = plan.right.n,
+                           .wiring = wiring,
+                           .wiring_bytes = 2 * plan.edges};
+}
+
+/* Compares the library with the reference on one call of part two. */
+static void compare(const char *kind, size_t i, const call *c)
+{
+    run_all(c);
+    if (!failed(!same_outcome(c, &by_library, &by_reference) || by_library.trouble != NULL))
+        return;
+    printf("FAILED: %s call %zu (%s) on nl %llu d %u k %u, nr %llu d %u k %u %s\n", kind, i, service_names[c->service],
+           (unsigned long long)c->nl, plan.left.d, plan.left.k, (unsigned long long)c->nr, plan.right.d, plan.right.k,
+           by_library.trouble == NULL ? "" : by_library.trouble);
+    show("reference", c, &by_reference);
+    show("library  ", c, &by_library);
+}
+
+/* Says what the last call compared must have answered. */
+static void must_answer(const char *kind, const call *c, uint32_t number, uint32_t place, uint64_t value)
+{
+    lembikat_answer a = by_library.answer;
+    if (failed(a.number != number || a.place != place || a.value != value)) {
+        printf("FAILED: %s (%s) must answer number %u place %u value %llu\n", kind, service_names[c->service], number, place,
+               (unsigned long long)value);
+        show("library  ", c, &by_library);
+    }
+}
+
+/* ---- calls that chance does not meet ---- */
+
+static const side pair_code = {.d = 2, .k = 1, .row = {3}};
+
+/* All words of d bits: whatever a vertex reads is a codeword. */
+static side free_code(unsigned d)
+{
+    side s = {.d = d, .k = d};
+    for (unsigned i = 0; i < d; i++)
+        s.row[i] = 1u << i;
+    return s;
+}
+
+/* All d bits alike. */
+static side alike_code(unsigned d)
+{
+    return (side){.d = d, .k = 1, .row = {(1u << d) - 1}};
+}
+
+/* The edges in order: right vertex v reads the bits from v * dr on. */
+static void lay_in_order(void)
+{
+    for (size_t i = 0; i < plan.edges; i++)
+        put_pair(wiring, i, i);
+}
+
+/* Every left vertex shares as many edges with every right vertex as with any other. */
+static void lay_evenly(void)
+{
+    size_t dl = plan.left.d, dr = plan.right.d, shared = dl / plan.right.n;
+    for (size_t i = 0; i < plan.edges; i++) {
+        size_t v = i / dr, u = i % dr / shared;
+        put_pair(wiring, i, u * dl + v * shared + i % shared);
+    }
+}
+
+static void swap_entries(size_t i, size_t j)
+{
+    uint8_t kept[2];
+    memcpy(kept, wiring + 2 * i, 2);
+    memcpy(wiring + 2 * i, wiring + 2 * j, 2);
+    memcpy(wiring + 2 * j, kept, 2);
+}
+
+/* The flips covered on what stands in the plan: all below `beyond`, and not `beyond` itself, nor a few after it. */
+static void margin_calls(const char *kind, size_t beyond)
+{
+    for (size_t flips = 0; flips < beyond + 4; flips++) {
+        call c = plan_call(7);
+        c.number = flips;
+        compare(kind, flips, &c);
+        if (failed(by_library.answer.number != (flips < beyond ? LEMBIKAT_DONE : LEMBIKAT_FLIPS_NOT_COVERED)))
+            printf("FAILED: %s call %zu ended in %u\n", kind, flips, by_library.answer.number);
+    }
+}
+
+/* The borders of the margin. Every left vertex shares m edges with every right one, but for two edges that are swapped. R is
+ * then 4 nr, and A, which is nr (D - 2 m b), has a square above 4 nr R only where D - 2 m b is above 4. */
+static void border_calls(void)
+{
+    /* Equal sides, m is 2: b is 1 from 4 flips on, and 8 - 2 * 2 is not above 4. */
+    set_plan(alike_code(8), alike_code(8), 4);
+    lay_evenly();
+    swap_entries(0, 10);
+    margin_calls("border", 4);
+
+    /* The right D at the step to the right: b is 1 from 4 flips on, and 6 - 2 is not above 4; 7 - 2 would be. */
+    set_plan(alike_code(7), (side){.d = 8, .k = 1, .row = {0x7e}}, 8);
+    lay_evenly();
+    swap_entries(0, 9);
+    margin_calls("border to the right", 4);
+
+    /* The left D at the step to the left: from 6 flips on b is 2, then 1, since 9 - 4 is above 4, and 6 - 2 is not; 9 - 2 would
+     * be. */
+    set_plan(alike_code(6), alike_code(9), 9);
+    lay_evenly();
+    swap_entries(0, 10);
+    margin_calls("border to the left", 6);
+
+    /* R is 0, and A has to be above 0: from 6 flips on b is 3, and 6 * 8 - 2 * 8 * 3 is not. */
+    set_plan((side){.d = 8, .k = 4, .row = {0xff, 0x0f, 0x33, 0x55}},
+             (side){.d = 16, .k = 7, .row = {0x03a3, 0x0745, 0x0e89, 0x1d11, 0x3a21, 0x7441, 0xe881}}, 16);
+    lay_evenly();
+    margin_calls("border at 0", 6);
+}
+
+/* A call of the decoder on the plan and on what stands in the first block. */
+static call decoder_call(uint64_t limit)
+{
+    call c = plan_call(4);
+    c.field[FIRST] = (bytes){first, plan.block};
+    c.field[LENT] = (bytes){lent, plan.block};
+    c.number = limit;
+    return c;
+}
+
+/* A chain: each vertex reads two bits that must be alike and, where they are not, gives its second bit the value of the first.
+ * A 1 at the head is handed on by one place in each sweep, so the block settles only after 2n - 2 sweeps, or 2n - 1 where the
+ * first to hand it on is a right vertex. The last bit hears from the head too, and is changed to and fro until the 1 arrives:
+ * sweep 1 changes one bit, every later one two. */
+static void chain_call(size_t n, int right_first, size_t limit)
+{
+    static size_t calls;
+    size_t count = right_first ? 2 * n - 1 : 2 * n - 2, made = count <= limit ? count : limit;
+    set_plan(pair_code, pair_code, n);
+    for (size_t v = 0; v < n; v++) {
+        put_pair(wiring, 2 * v, 2 * v + 1);
+        put_pair(wiring, 2 * v + 1, 2 * v + 2);
+    }
+    if (right_first) { /* from bit 0 by right vertex 0 to bit 2, .. to bit 2n - 1, by the last right vertex to bit 1 */
+        put_pair(wiring, 0, 0);
+        put_pair(wiring, 2 * n - 1, 1);
+    } else { /* from bit 0 by left vertex 0 to bit 1, .. by the last left vertex to bit 2n - 1 */
+        put_pair(wiring, 2 * n - 2, 0);
+        put_pair(wiring, 2 * n - 1, 2 * n - 1);
+    }
+    memset(first, 0, plan.block);
+    flip(first, 0);
+    call c = decoder_call(limit);
+    compare("chain", calls++, &c);
+
+    int right = by_library.answer.number == (count <= limit ? LEMBIKAT_DONE : LEMBIKAT_UNSETTLED) &&
+                by_library.answer.value == (count <= limit ? count : 0);
+    for (size_t i = 0; i < LEMBIKAT_SUMS; i++)
+        right &= by_library.sums[i] == (i >= made ? 0 : i == 0 ? 1 : 2);
+    if (failed(!right)) {
+        printf("FAILED: chain of n %zu with limit %zu, which settles after %zu sweeps\n", n, limit, count);
+        show("library  ", &c, &by_library);
+    }
+}
+
+/* Counts and limits below, at and above the sweeps whose sums are told, and the latest count of all chains. */
+static void chain_calls(void)
+{
+    static const size_t sizes[] = {2, 3, 31, 32, 33, 34}, limits[] = {0, 1, 2, 3, 62, 63, 64, 65, 66, 67, LEMBIKAT_MAX_LIMIT};
+    for (size_t i = 0; i < sizeof sizes / sizeof sizes[0]; i++)
+        for (size_t j = 0; j < sizeof limits / sizeof limits[0]; j++) {
+            chain_call(sizes[i], 0, limits[j]);
+            chain_call(sizes[i], 1, limits[j]);
+        }
+    chain_call(LEMBIKAT_MAX_VERTICES, 1, LEMBIKAT_MAX_LIMIT - 2);
+    chain_call(LEMBIKAT_MAX_VERTICES, 1, LEMBIKAT_MAX_LIMIT - 1);
+}
+
+/* The largest sum: at each of 2,048 vertices the word is sixteen ones, the codewords are zero and a lone 1, and 15 bits are
+ * changed. No plan has more: sixteen ones get fewer with any codeword put on them. Sweep 1 does it where the left code is that
+ * one, sweep 2 where the right code is and the left one has sixteen ones too. */
+static void largest_sum(int sweep, side left, side right)
+{
+    set_plan(left, right, LEMBIKAT_MAX_VERTICES);
+    lay_in_order();
+    memset(first, 0xff, MAX_BLOCK);
+    call c = decoder_call(2);
+    compare("largest sum", 0, &c);
+    if (failed(by_library.answer.number != LEMBIKAT_DONE || by_library.answer.value != (uint64_t)sweep ||
+               by_library.sums[sweep - 1] != 15 * LEMBIKAT_MAX_VERTICES || by_library.sums[2 - sweep] != 0)) {
+        printf("FAILED: sweep %d changes 15 bits at every vertex\n", sweep);
+        show("library  ", &c, &by_library);
+    }
+}
+
+static void largest_sums(void)
+{
+    const side lone_one = {.d = 16, .k = 1, .row = {1}}, and_all_ones = {.d = 16, .k = 2, .row = {1, 0xffff}};
+    largest_sum(1, lone_one, lone_one);
+    largest_sum(2, and_all_ones, lone_one);
+}
+
+/* A lone vertex that reads no codeword, on a side with more vertices than the other has. Its code is the pair code, and
+ * whatever the other side reads is a codeword. The locator must name it, and the decoder mend it in the side's own first sweep.
+ */
+static void lone_vertex_call(int right, size_t n, unsigned other_d, size_t vertex)
+{
+    if (right) {
+        set_plan(free_code(other_d), pair_code, n * 2 / other_d);
+        for (size_t i = 0; i < plan.edges; i++) /* from the last edge down, so that a vertex's edges are not its number's */
+            put_pair(wiring, i, plan.edges - 1 - i);
+    } else {
+        set_plan(pair_code, free_code(other_d), n);
+        lay_in_order();
+    }
+    memset(first, 0, plan.block);
+    flip(first, right ? plan.edges - 1 - 2 * vertex : 2 * vertex); /* its first bit */
+    call c = plan_call(3);
+    c.field[FIRST] = (bytes){first, plan.block};
+    compare("lone vertex", vertex, &c);
+    must_answer("lone vertex", &c, LEMBIKAT_DONE, right ? LEMBIKAT_RIGHT : LEMBIKAT_LEFT, vertex);
+    c = decoder_call(2);
+    compare("lone vertex", vertex, &c);
+    must_answer("lone vertex", &c, LEMBIKAT_DONE, 0, right ? 2 : 1);
+}
+
+static void lone_vertex_calls(void)
+{
+    for (int right = 0; right < 2; right++) {
+        for (size_t vertex = 0; vertex < 33; vertex++)
+            lone_vertex_call(right, 33, 11, vertex);
+        for (size_t vertex = 255; vertex < LEMBIKAT_MAX_VERTICES; vertex = 2 * vertex + 1)
+            lone_vertex_call(right, LEMBIKAT_MAX_VERTICES, 8, vertex);
+    }
+}
+
+/* Sheets that differ though n and d are equal, and the same two swapped. Vertex 0 of each side reads 10, which is no codeword
+ * of the pair code alone; the side that has this code is located, and its first sweep mends it. */
+static void sheet_calls(void)
+{
+    for (int swapped = 0; swapped < 2; swapped++) {
+        if (swapped)
+            set_plan(free_code(2), pair_code, 2);
+        else
+            set_plan(pair_code, free_code(2), 2);
+        lay_in_order();
+        first[0] = 0x80;
+        call c = plan_call(3);
+        c.field[FIRST] = (bytes){first, plan.block};
+        compare("sheets", (size_t)swapped, &c);
+        must_answer("sheets", &c, LEMBIKAT_DONE, swapped ? LEMBIKAT_RIGHT : LEMBIKAT_LEFT, 0);
+        c = decoder_call(2);
+        compare("sheets", (size_t)swapped, &c);
+        must_answer("sheets", &c, LEMBIKAT_DONE, 0, swapped ? 2 : 1);
+    }
+}
+
+/* Counts: each of a list on the left with each on the right, with wirings as long as either side or the plan has it. 7 stands
+ * before 23, also where both products are 0, or equal if they were cut to 64 bits; 23 stands before 8. Equal sheets have equal
+ * counts or 23. */
+static void count_calls(side left, side right, size_t n)
+{
+    set_plan(left, right, n);
+    const size_t nl = plan.left.n, nr = plan.right.n, bit_32 = (size_t)1 << 32, bit_62 = (size_t)1 << 62;
+    const size_t counts[] = {0,          1,           nl,          nr,          nl - 1,      nl + 1,  nr + 1,
+                             2 * nl,     2 * nr,      2047,        2048,        2049,        65536,   65536 + nl,
+                             65536 + nr, bit_32 + nl, bit_32 + nr, bit_62 + nl, bit_62 + nr, SIZE_MAX};
+    const size_t count = sizeof counts / sizeof counts[0];
+    for (size_t i = 0; i < MAX_EDGES; i++) /* in order, whichever counts are taken */
+        put_pair(wiring, i, i);
+    memset(first, 0, MAX_BLOCK);
+    for (size_t i = 0; i < count * count; i++) {
+        call c = plan_call(3);
+        c.nl = counts[i / count];
+        c.nr = counts[i % count];
+        int in_range = c.nl >= 1 && c.nl <= 2048 && c.nr >= 1 && c.nr <= 2048;
+        size_t left_edges = in_range ? c.nl * left.d : 0, right_edges = in_range ? c.nr * right.d : 0;
+        size_t edges = one_in(3) ? plan.edges : one_in(2) ? left_edges : right_edges;
+        c.field[WIRING].size = 2 * edges;
+        c.field[FIRST] = (bytes){first, (edges + 7) / 8};
+        compare("counts", i, &c);
+        must_answer("counts", &c,
+                    !in_range                   ? LEMBIKAT_VERTICES_OUT_OF_RANGE
+                    : left_edges != right_edges ? LEMBIKAT_EDGE_COUNTS_DIFFER
+                    : left_edges != edges       ? LEMBIKAT_WIRING_LENGTH_WRONG
+                                                : LEMBIKAT_DONE,
+                    0, 0);
+    }
+}
+
+static void all_count_calls(void)
+{
+    const side house = {.d = 8, .k = 4, .row = {0xff, 0x0f, 0x33, 0x55}};
+    count_calls(house, house, 8);
+    count_calls(house, alike_code(16), 16);
+    count_calls(alike_code(16), house, 8);
+    count_calls(alike_code(16), free_code(2), 256);
+    count_calls(free_code(3), alike_code(5), 5);
+}
+
+/* A small plan for faults: three left vertices of 4 bits by two right ones of 6, 12 bits and 6 of a message, or so many times
+ * as many vertices. */
+#define SMALL_EDGES 12
+#define SMALL_MESSAGE_BITS 6
+static const side small_left = {.d = 4, .k = 3, .row = {0x3, 0x6, 0xc}};
+static const side small_right = {.d = 6, .k = 4, .row = {0x03, 0x06, 0x0c, 0x18}};
+
+/* A fault: the refusal and its place, the services that look for it, and what to change in a whole call on the small plan. */
+typedef struct {
+    uint32_t number, place;
+    unsigned services;
+    enum { SIZE, GROWTH, BYTE, PAIR, FLIP, LEFT_COUNT, RIGHT_COUNT, NUMBER, NOTHING } change;
+    int field;    /* of SIZE, GROWTH, BYTE, PAIR, FLIP */
+    size_t at;    /* the byte of BYTE and PAIR, the bit of FLIP */
+    size_t value; /* GROWTH by SIZE_MAX is a byte less */
+} fault;
+
+#define ON(service) (1u << (service))
+#define ON_PLANS (ON(3) | ON(4) | ON(5) | ON(6) | ON(7) | ON(8) | ON(9))
+#define ON_BLOCKS (ON(3) | ON(4) | ON(5) | ON(9))
+
+/* Every fault, in the order in which a call looks for them. Of rows, 5 stands before 6 and after it, of entries 9 and 10: the
+ * first row or entry is answered, whichever number it has. */
+static const fault faults[] = {
+    {LEMBIKAT_SHEET_SHORT, 0, ON(1) | ON_PLANS, SIZE, LEFT_SHEET, 0, 1},
+    {LEMBIKAT_DEGREE_OUT_OF_RANGE, 0, ON(1) | ON_PLANS, BYTE, LEFT_SHEET, 0, 17},
+    {LEMBIKAT_ROWS_OUT_OF_RANGE, 0, ON(1) | ON_PLANS, BYTE, LEFT_SHEET, 1, 5},
+    {LEMBIKAT_SHEET_LENGTH_WRONG, 0, ON(1) | ON_PLANS, SIZE, LEFT_SHEET, 0, 9},
+    {LEMBIKAT_ROW_TOO_LARGE, 0, ON(1) | ON_PLANS, PAIR, LEFT_SHEET, 2, 0x10},
+    {LEMBIKAT_ROW_DEPENDENT, 1, ON(1) | ON_PLANS, PAIR, LEFT_SHEET, 4, 0x3},
+    {LEMBIKAT_ROW_TOO_LARGE, 2, ON(1) | ON_PLANS, PAIR, LEFT_SHEET, 6, 0xffff},
+    {LEMBIKAT_SHEET_SHORT, 0, ON_PLANS, SIZE, RIGHT_SHEET, 0, 0},
+    {LEMBIKAT_DEGREE_OUT_OF_RANGE, 0, ON_PLANS, BYTE, RIGHT_SHEET, 0, 1},
+    {LEMBIKAT_ROWS_OUT_OF_RANGE, 0, ON_PLANS, BYTE, RIGHT_SHEET, 1, 0},
+    {LEMBIKAT_SHEET_LENGTH_WRONG, 0, ON_PLANS, SIZE, RIGHT_SHEET, 0, 9},
+    {LEMBIKAT_ROW_DEPENDENT, 0, ON_PLANS, PAIR, RIGHT_SHEET, 2, 0},
+    {LEMBIKAT_ROW_TOO_LARGE, 1, ON_PLANS, PAIR, RIGHT_SHEET, 4, 0x40},
+    {LEMBIKAT_ROW_DEPENDENT, 2, ON_PLANS, PAIR, RIGHT_SHEET, 6, 0x05},
+    {LEMBIKAT_VERTICES_OUT_OF_RANGE, 0, ON_PLANS, LEFT_COUNT, 0, 0, 0},
+    {LEMBIKAT_VERTICES_OUT_OF_RANGE, 0, ON_PLANS, RIGHT_COUNT, 0, 0, LEMBIKAT_MAX_VERTICES + 1},
+    {LEMBIKAT_EDGE_COUNTS_DIFFER, 0, ON_PLANS, LEFT_COUNT, 0, 0, 4},
+    {LEMBIKAT_WIRING_LENGTH_WRONG, 0, ON_PLANS, GROWTH, WIRING, 0, 1},
+    {LEMBIKAT_ENTRY_TOO_LARGE, 1, ON_PLANS, PAIR, WIRING, 2, 0xffff},
+    {LEMBIKAT_ENTRY_REPEATED, 3, ON_PLANS, PAIR, WIRING, 6, 0},
+    {LEMBIKAT_ENTRY_TOO_LARGE, 5, ON_PLANS, PAIR, WIRING, 10, 0x1000},
+    {LEMBIKAT_ENTRY_REPEATED, 8, ON_PLANS, PAIR, WIRING, 16, 7},
+    {LEMBIKAT_PLAN_TOO_LARGE, 0, ON(8) | ON(9), NOTHING, 0, 0, 0}, /* of the call on many times as many vertices */
+    {LEMBIKAT_BLOCK_LENGTH_WRONG, 0, ON_BLOCKS, GROWTH, FIRST, 0, 1},
+    {LEMBIKAT_STRAY_BIT, 0, ON_BLOCKS, FLIP, FIRST, SMALL_EDGES, 0},
+    {LEMBIKAT_BLOCK_LENGTH_WRONG, 0, ON(5), GROWTH, SECOND, 0, 1},
+    {LEMBIKAT_STRAY_BIT, 0, ON(5), FLIP, SECOND, SMALL_EDGES + 3, 0},
+    {LEMBIKAT_STRAY_BIT, 0, ON(1), NUMBER, 0, 0, 0x10},
+    {LEMBIKAT_NO_CODEWORD, 0, ON(9), FLIP, FIRST, 0, 0},
+    {LEMBIKAT_MESSAGE_LENGTH_WRONG, 0, ON(8), GROWTH, FIRST, 0, 1},
+    {LEMBIKAT_MESSAGE_STRAY_BIT, 0, ON(8), FLIP, FIRST, SMALL_MESSAGE_BITS, 0},
+    {LEMBIKAT_OUTPUT_SHORT, 0, ON(4) | ON(8) | ON(9), GROWTH, LENT, 0, SIZE_MAX},
+    {LEMBIKAT_LIMIT_TOO_LARGE, 0, ON(4), NUMBER, 0, 0, LEMBIKAT_MAX_LIMIT + 1},
+    {LEMBIKAT_UNSETTLED, 0, ON(4), FLIP, FIRST, 0, 0}, /* within no sweeps */
+    {LEMBIKAT_LIST_SHORT, 0, ON(5), GROWTH, LENT, 0, SIZE_MAX},
+    {LEMBIKAT_FLIPS_TOO_MANY, 0, ON(7), NUMBER, 0, 0, SMALL_EDGES + 1},
+    {LEMBIKAT_FLIPS_NOT_COVERED, 0, ON(7), NUMBER, 0, 0, SMALL_EDGES},
+};
+#define FAULTS (sizeof faults / sizeof faults[0])
+
+static void put_fault(call *c, const fault *f)
+{
+    uint8_t *const lent_bytes[FIELDS] = {left_sheet, right_sheet, wiring, first, second, lent};
+    uint8_t *changed = lent_bytes[f->field];
+    switch (f->change) {
+    case SIZE:
+        c->field[f->field].size = f->value;
+        break;
+    case GROWTH:
+        c->field[f->field].size += f->value;
+        break;
+    case BYTE:
+        changed[f->at] = (uint8_t)f->value;
+        break;
+    case PAIR:
+        put_pair(changed + f->at, 0, f->value);
+        break;
+    case FLIP:
+        flip(changed, f->at);
+        break;
+    case LEFT_COUNT:
+        c->nl = f->value;
+        break;
+    case RIGHT_COUNT:
+        c->nr = f->value;
+        break;
+    case NUMBER:
+        c->number = f->value;
+        break;
+    case NOTHING:
+        break;
+    }
+}
+
+/* A whole call of the service on so many times the small plan. The block and the message are zero, two bits of the settled
+ * block differ, and limit, word and flips are 0. */
+static call small_call(unsigned service, size_t times)
+{
+    set_plan(small_left, small_right, 3 * times);
+    lay_in_order();
+    memset(first, 0, MAX_BLOCK);
+    memset(second, 0, MAX_BLOCK);
+    memset(lent, 0xee, MAX_BLOCK);
+    second[0] = 0x44;
+    call c = plan_call(service);
+    if (service == 8)
+        c.field[FIRST] = (bytes){first, 1};
+    else if (ON_BLOCKS & ON(service))
+        c.field[FIRST] = (bytes){first, plan.block};
+    if (service == 5)
+        c.field[SECOND] = (bytes){second, plan.block};
+    if (service == 4 || service == 5 || service >= 8)
+        c.field[LENT] = (bytes){lent, service == 5 ? 8 : service == 9 ? 1 : plan.block};
+    return c;
+}
+
+/* Every fault alone and every pair, the later one put first: the one that is looked for first is answered. */
+static void fault_calls(unsigned service, size_t times)
+{
+    size_t calls = 0;
+    call c = small_call(service, times);
+    compare("fault", calls++, &c);
+    must_answer("no fault", &c, times == 1 ? LEMBIKAT_DONE : LEMBIKAT_PLAN_TOO_LARGE, 0, by_reference.answer.value);
+    for (const fault *f = faults; f < faults + FAULTS; f++) {
+        if (!(f->services & ON(service)) || (f->change == NOTHING && times == 1))
+            continue;
+        for (const fault *other = f; other < faults + FAULTS; other++) {
+            if (!(other->services & ON(service)))
+                continue;
+            c = small_call(service, times);
+            put_fault(&c, other);
+            if (other != f)
+                put_fault(&c, f);
+            compare("fault", calls++, &c);
+            must_answer("fault", &c, f->number, f->place, 0);
+        }
+        if (f->change == NOTHING)
+            return; /* what stands after it is not looked for on a plan that is too large */
+    }
+}
+
+static void all_fault_calls(void)
+{
+    fault_calls(1, 1);
+    for (unsigned service = 3; service <= LAST_SERVICE; service++)
+        fault_calls(service, 1);
+    fault_calls(8, 43);
+    fault_calls(9, 43);
+}
+
+/* ---- random calls ---- */
+
+static unsigned draw_inner_codeword(const side *s)
 {
     unsigned word = 0;
-    for (unsigned i = 0; i < plan.k; i++)
+    for (unsigned i = 0; i < s->k; i++)
         if (one_in(2))
-            word ^= plan.row[i];
+            word ^= s->row[i];
     return word;
 }
 
-/* Sturdy: codes with a large distance, so that several flips are covered. */
-static void draw_sheet(int sturdy)
+/* Keeps the first rows and draws the others, so that none is made of earlier ones. */
+static void draw_rows(side *s, unsigned kept)
+{
+    static unsigned made[2048]; /* all exclusive-ors of the rows so far */
+    size_t known = 1;
+    made[0] = 0;
+    for (unsigned i = 0; i < s->k;) {
+        unsigned row = i < kept ? s->row[i] : (unsigned)draw((size_t)1 << s->d);
+        int fresh = 1;
+        for (size_t j = 0; j < known; j++)
+            fresh &= made[j] != row;
+        if (!fresh)
+            continue;
+        for (size_t j = 0; j < known; j++)
+            made[known + j] = made[j] ^ row;
+        known *= 2;
+        s->row[i++] = row;
+    }
+}
+
+/* The house code, or one that looks like it: with some of its rows, or with all of them in another order. */
+static void draw_house(side *s, int exactly)
+{
+    static const unsigned rows[4] = {0xff, 0x0f, 0x33, 0x55}, backwards[4] = {0x55, 0x33, 0x0f, 0xff};
+    s->d = 8;
+    s->k = 4;
+    memcpy(s->row, exactly || one_in(2) ? rows : backwards, sizeof rows);
+    if (!exactly)
+        draw_rows(s, (unsigned)draw(5));
+}
+
+/* A code with d bits, any number where d is 0. Sturdy: with a large distance, so that several flips are covered. */
+static void draw_code(side *s, unsigned d, int sturdy)
 {
     static const unsigned reed_muller[11] = {0xffff, 0x00ff, 0x0f0f, 0x3333, 0x5555, 0x000f,
                                              0x0033, 0x0055, 0x0303, 0x0505, 0x1111};
-    static const unsigned house[4] = {0xff, 0x0f, 0x33, 0x55};
-    static unsigned made[2048]; /* all exclusive-ors of the rows so far */
-    size_t known = 1;
-    switch (draw(sturdy ? 3 : 8)) {
+    size_t kind = draw(sturdy ? 3 : 8);
+    if ((kind == 0 && d != 0 && d != 8) || (kind == 1 && d != 0 && d != 16) || (kind == 3 && d > 12))
+        kind = 2;
+    s->d = d != 0 ? d : 2 + (unsigned)draw(kind == 3 ? 11 : 15);
+    switch (kind) {
     case 0:
-        plan.d = 8;
-        plan.k = 4;
-        memcpy(plan.row, house, sizeof house);
+        draw_house(s, sturdy || !one_in(3));
         break;
     case 1:
-        plan.d = 16;
-        plan.k = 1 + (unsigned)draw(sturdy ? 5 : 11);
-        memcpy(plan.row, reed_muller, sizeof reed_muller);
+        s->d = 16;
+        s->k = 1 + (unsigned)draw(sturdy ? 5 : 11);
+        memcpy(s->row, reed_muller, sizeof reed_muller);
         break;
-    case 2: /* all bits alike */
-        plan.d = 2 + (unsigned)draw(15);
-        plan.k = 1;
-        plan.row[0] = (1u << plan.d) - 1;
+    case 2: /* all bits alike, or all but one or two */
+        s->k = 1;
+        s->row[0] = (1u << s->d) - 1;
+        if (s->d > 4 && one_in(4))
+            s->row[0] &= ~(1u << draw(s->d) | 1u << draw(s->d));
         break;
     case 3: /* all words with an even number of ones */
-        plan.d = 2 + (unsigned)draw(11);
-        plan.k = plan.d - 1;
-        for (unsigned i = 0; i < plan.k; i++)
-            plan.row[i] = 3u << i;
+        s->k = s->d - 1;
+        for (unsigned i = 0; i < s->k; i++)
+            s->row[i] = 3u << i;
         break;
     default:
-        plan.d = 2 + (unsigned)draw(15);
-        plan.k = 1 + (unsigned)draw(plan.d < 11 ? plan.d : 11);
-        made[0] = 0;
-        for (unsigned i = 0; i < plan.k;) {
-            unsigned row = (unsigned)draw((size_t)1 << plan.d);
-            int fresh = 1;
-            for (size_t j = 0; j < known; j++)
-                fresh &= made[j] != row;
-            if (!fresh)
-                continue;
-            for (size_t j = 0; j < known; j++)
-                made[known + j] = made[j] ^ row;
-            known *= 2;
-            plan.row[i++] = row;
-        }
+        s->k = 1 + (unsigned)draw(s->d < 11 ? s->d : 11);
+        draw_rows(s, 0);
     }
-    sheet[0] = (uint8_t)plan.d;
-    sheet[1] = (uint8_t)plan.k;
-    for (unsigned i = 0; i < plan.k; i++)
-        put_pair(sheet + 2, i, plan.row[i]);
 }
 
-/* Right vertex v meets the left vertices v + s for the squares s modulo the prime n, or for the others where d is even. Any
- * two left vertices then meet equally often, so many flips are covered and several sweeps are named. */
-static void lay_residues(void)
+/* The degrees for which the squares modulo a prime give a wiring, see lay_residues. */
+static const size_t residue_degrees[] = {3, 4, 5, 6, 9, 10, 11, 12, 15, 16};
+#define RESIDUE_DEGREES (sizeof residue_degrees / sizeof residue_degrees[0])
+
+/* One of these that divides both degrees, 0 where none does. */
+static size_t draw_residue_degree(size_t d, size_t other)
+{
+    size_t fitting[RESIDUE_DEGREES], count = 0;
+    for (size_t i = 0; i < RESIDUE_DEGREES; i++)
+        if (d % residue_degrees[i] == 0 && other % residue_degrees[i] == 0)
+            fitting[count++] = residue_degrees[i];
+    return count == 0 ? 0 : fitting[draw(count)];
+}
+
+/* Both codes: in two plans of five one sheet serves both sides, in one the sheets differ though d is equal, in two d differs
+ * too, as a rule. Sturdy plans mostly have degrees for which there is a wiring that is spread evenly. */
+static void draw_codes(int sturdy)
+{
+    side *left = &plan.left, *right = &plan.right;
+    size_t kind = draw(5), shared;
+    unsigned q = one_in(2) ? 11 : 13, larger_left = (unsigned)draw(2);
+    int plane = sturdy && one_in(2); /* see lay_plane */
+    draw_code(left, plane ? q + larger_left : 0, sturdy);
+    if (kind < 2) {
+        *right = *left;
+    } else if (kind == 2) {
+        *right = *left;
+        for (int tries = 0; tries < 10 && same_code(left, right); tries++)
+            draw_code(right, left->d, sturdy && tries < 8);
+    } else if (plane) {
+        draw_code(right, q + 1 - larger_left, sturdy);
+    } else if (sturdy && (shared = draw_residue_degree(left->d, left->d)) != 0) {
+        draw_code(right, (unsigned)(shared * (1 + draw(16 / shared))), sturdy);
+    } else {
+        draw_code(right, 0, sturdy);
+    }
+}
+
+/* The wiring of n vertices on each side, n = 2d + 1 or 2d - 1 being prime, in which right vertex v meets the left vertices v +
+ * s for the squares s modulo n, or for the others where d is even: any two left vertices then meet equally often, so many flips
+ * are covered and several sweeps are named. With dl = d * b and dr = d * a every left vertex stands there a times and every
+ * right vertex b times. */
+static void lay_residues(size_t d)
 {
     uint8_t square[64] = {0};
     size_t used[64] = {0};
-    size_t entry = 0;
-    for (size_t s = 1; s < plan.n; s++)
-        square[s * s % plan.n] = 1;
-    for (size_t v = 0; v < plan.n; v++)
-        for (size_t s = 0; s < plan.n; s++)
-            if (square[s] == plan.d % 2) {
-                size_t u = (v + s) % plan.n;
-                put_pair(wiring, entry++, u * plan.d + used[u]++);
+    size_t n = d % 2 == 1 ? 2 * d + 1 : 2 * d - 1, times = plan.right.d / d, entry = 0;
+    for (size_t s = 1; s < n; s++)
+        square[s * s % n] = 1;
+    for (size_t v = 0; v < plan.right.n; v++)
+        for (size_t s = 0; s < n; s++)
+            for (size_t copy = 0; copy < times && square[s] == d % 2; copy++) {
+                size_t u = (v + s) % n * times + copy;
+                put_pair(wiring, entry++, u * plan.left.d + used[u]++);
             }
+}
+
+/* q where both degrees are q + 1, or one of them is and the other is q, for the q taken here; else 0. */
+static size_t plane_of(size_t dl, size_t dr)
+{
+    size_t q = larger(dl, dr) - 1;
+    return (q == 11 || q == 13) && smaller(dl, dr) >= q ? q : 0;
+}
+
+/* The points of the projective plane over the numbers modulo the prime q on the left, its lines on the right: each is given by
+ * three numbers, and a point is on a line where the sum of their products is 0. q + 1 points are on each, two of them share one
+ * line. A side of degree q has the lines of the affine plane: line 0 is left out with its points, which are the last q + 1. Of
+ * all wirings here these cover the most flips and name the most sweeps. */
+static void lay_plane(size_t q)
+{
+    static size_t at[256][3];
+    size_t used[256] = {0}, entry = 0;
+    for (size_t i = 0; i <= q * q + q; i++) {
+        at[i][0] = i < q * q;
+        at[i][1] = i < q * q ? i / q : i < q * q + q;
+        at[i][2] = i < q * q + q ? i % q : 1;
+    }
+    size_t skipped_left = plan.left.d == q, skipped_right = plan.right.d == q;
+    for (size_t v = 0; v < plan.right.n; v++)
+        for (size_t u = 0; u < plan.left.n; u++) {
+            const size_t *line = at[v + skipped_right], *point = at[u + skipped_left];
+            if ((line[0] * point[0] + line[1] * point[1] + line[2] * point[2]) % q == 0)
+                put_pair(wiring, entry++, u * plan.left.d + used[u]++);
+        }
 }
 
 /* Sturdy: wirings that are spread evenly. */
 static void draw_wiring(int for_messages, int sturdy)
 {
     static size_t order[MAX_EDGES];
-    size_t class = draw(200), d = plan.d;
+    size_t dl = plan.left.d, dr = plan.right.d, common = common_divisor(dl, dr), residues = draw_residue_degree(dl, dr);
+    size_t q = plane_of(dl, dr);
+    size_t step = larger(dl, dr) / common; /* by which the larger side can grow */
+    size_t class = draw(200), most = 1 + draw(40);
     if (class == 0)
-        plan.n = 2048;
+        most = LEMBIKAT_MAX_VERTICES;
     else if (class < 12)
-        plan.n = 41 + draw(160);
-    else if (for_messages && one_in(8))
-        plan.n = LEMBIKAT_MAX_MESSAGE_EDGES / d; /* as large as a plan with messages can be */
-    else
-        plan.n = 1 + draw(40);
+        most = 41 + draw(160);
+    else if (for_messages && one_in(8)) /* as large as a plan with messages can be */
+        most = LEMBIKAT_MAX_MESSAGE_EDGES / smaller(dl, dr);
+    size_t steps = larger(most / step, 1);
     plan.lay = sturdy ? RESIDUES : (int)draw(4);
-    if (plan.lay == RESIDUES && (d < 3 || d == 7 || d == 8 || d == 13 || d == 14))
-        plan.lay = SQUARES; /* no prime of the kind needed */
-    if (plan.lay == SQUARES)
-        plan.n = plan.n < d || sturdy ? d : plan.n / d * d;
+    if (sturdy && q != 0)
+        plan.lay = PLANE;
+    if (plan.lay == RESIDUES && residues == 0)
+        plan.lay = RECTANGLES;
+    if (plan.lay == RECTANGLES)
+        steps = sturdy ? common : larger(steps / common, 1) * common;
+    size_t n = dr / common * steps;
     if (plan.lay == RESIDUES)
-        plan.n = d % 2 == 1 ? 2 * d + 1 : 2 * d - 1;
-    plan.edges = plan.n * d;
-    plan.block = LEMBIKAT_BLOCK_BYTES(plan.n, d);
-
+        n = (residues % 2 == 1 ? 2 * residues + 1 : 2 * residues - 1) * (dr / residues);
+    if (plan.lay == PLANE)
+        n = q * q + (dr > q ? q : 0) + (dl == dr);
+    set_plan(plan.left, plan.right, n);
     if (plan.lay == RESIDUES) {
-        lay_residues();
+        lay_residues(residues);
+        return;
+    }
+    if (plan.lay == PLANE) {
+        lay_plane(q);
         return;
     }
     /* Shuffled: the edges in any order. Else the right vertices in any order, each with the edges of its place in the lay. */
-    size_t count = plan.lay == SHUFFLED ? plan.edges : plan.n;
+    size_t count = plan.lay == SHUFFLED ? plan.edges : plan.right.n;
     for (size_t i = 0; i < count; i++)
         order[i] = i;
     for (size_t i = count; i > 1; i--) {
@@ -618,21 +1292,33 @@ static void draw_wiring(int for_messages, int sturdy)
         size_t edge;
         if (plan.lay == SHUFFLED) {
             edge = order[i];
-        } else if (plan.lay == TWINS) { /* a right vertex has the edges of one left vertex */
-            edge = order[i / d] * d + i % d;
-        } else { /* squares of d by d: the left vertices are the lines, the right ones the columns */
-            size_t square = order[i / d] / d, column = order[i / d] % d;
-            edge = (square * d + i % d) * d + column;
+        } else if (plan.lay ==
+                   TWINS) { /* a right vertex has edges that follow one another, those of one left vertex if dl is dr */
+            edge = order[i / dr] * dr + i % dr;
+        } else { /* rectangles: the left vertices are the dr lines of dl bits, the right ones the dl columns of dr bits */
+            size_t rectangle = order[i / dr] / dl, column = order[i / dr] % dl;
+            edge = (rectangle * dr + i % dr) * dl + column;
         }
         put_pair(wiring, i, edge);
     }
 }
 
-static void put_word(uint8_t *block, size_t vertex, unsigned word)
+/* How the sides of the plan differ. */
+enum { SAME_SIDES, OTHER_SHEETS, OTHER_DEGREES, WAYS };
+
+static int way_of_plan(void)
 {
-    for (size_t j = 0; j < plan.d; j++)
-        if (word >> (plan.d - 1 - j) & 1)
-            flip(block, vertex * plan.d + j);
+    if (plan.left.d != plan.right.d)
+        return OTHER_DEGREES;
+    return same_code(&plan.left, &plan.right) ? SAME_SIDES : OTHER_SHEETS;
+}
+
+static void put_word(uint8_t *block, size_t left_vertex, unsigned word)
+{
+    size_t d = plan.left.d;
+    for (size_t j = 0; j < d; j++)
+        if (word >> (d - 1 - j) & 1)
+            flip(block, left_vertex * d + j);
 }
 
 /* K of the plan, worked out once for each plan and only where it is asked for. */
@@ -641,8 +1327,9 @@ static int plan_bits_known;
 
 static size_t message_bits(void)
 {
+    lembikat_plan p = reference_plan();
     if (!plan_bits_known)
-        plan_bits = reference_message_bits(sheet, 2 + 2 * (size_t)plan.k, plan.n, wiring, 2 * plan.edges);
+        plan_bits = reference_message_bits(&p);
     plan_bits_known = 1;
     return plan_bits;
 }
@@ -655,30 +1342,36 @@ static void draw_message(uint8_t *message)
         message[bits / 8] &= (uint8_t)(0xff00u >> bits % 8);
 }
 
+static int all_ones(const side *s)
+{
+    return s->row[0] == (1u << s->d) - 1;
+}
+
 /* A codeword of the plan, from how it was laid. Zero where nothing better is at hand. */
 static void draw_codeword(uint8_t *block)
 {
     uint8_t message[LEMBIKAT_MAX_MESSAGE_BYTES];
+    const side *left = &plan.left, *right = &plan.right;
     memset(block, 0, plan.block);
-    if (plan.lay == TWINS) {
-        for (size_t u = 0; u < plan.n; u++)
-            put_word(block, u, draw_inner_codeword());
-    } else if (plan.lay == SQUARES) {
-        /* Line j is the exclusive-or of the codewords whose row has bit j, so the columns read codewords too. */
-        for (size_t top = 0; top < plan.n; top += plan.d)
-            for (unsigned i = 0; i < plan.k; i++) {
-                unsigned word = draw_inner_codeword();
-                for (size_t j = 0; j < plan.d; j++)
-                    if (plan.row[i] >> (plan.d - 1 - j) & 1)
+    if (plan.lay == TWINS && same_code(left, right)) {
+        for (size_t u = 0; u < left->n; u++)
+            put_word(block, u, draw_inner_codeword(left));
+    } else if (plan.lay == RECTANGLES) {
+        /* Line j is the exclusive-or of the left codewords whose right row has bit j, so the columns read codewords too. */
+        for (size_t top = 0; top < left->n; top += right->d)
+            for (unsigned i = 0; i < right->k; i++) {
+                unsigned word = draw_inner_codeword(left);
+                for (size_t j = 0; j < right->d; j++)
+                    if (right->row[i] >> (right->d - 1 - j) & 1)
                         put_word(block, top + j, word);
             }
-    } else if (plan.row[0] == (1u << plan.d) - 1 && one_in(2)) {
-        for (size_t u = 0; u < plan.n; u++)
-            put_word(block, u, plan.row[0]);
+    } else if (all_ones(left) && all_ones(right) && one_in(2)) {
+        for (size_t u = 0; u < left->n; u++)
+            put_word(block, u, left->row[0]);
     } else if (plan.edges <= 200) {
+        lembikat_plan p = reference_plan();
         draw_message(message);
-        reference_encode(sheet, 2 + 2 * (size_t)plan.k, plan.n, wiring, 2 * plan.edges, message, (message_bits() + 7) / 8,
-                         block, plan.block);
+        reference_encode(&p, message, (message_bits() + 7) / 8, block, plan.block);
     }
 }
 
@@ -722,50 +1415,70 @@ static void resize(call *c, int field)
     c->field[field].size = size;
 }
 
-static void spoil_sheet(call *c)
+static void spoil_sheet(call *c, int field)
 {
     static const uint8_t wrong_d[] = {0, 1, 17, 255}, wrong_k[] = {0, 12, 17, 255};
-    size_t i = draw(plan.k);
+    const side *s = field == LEFT_SHEET ? &plan.left : &plan.right;
+    uint8_t *sheet = field == LEFT_SHEET ? left_sheet : right_sheet;
+    size_t i = draw(s->k);
     unsigned sum = 0;
     switch (draw(8)) {
     case 0:
-        c->field[SHEET].size = draw(2);
+        c->field[field].size = draw(2);
         break;
     case 1:
         sheet[0] = wrong_d[draw(4)];
         break;
     case 2:
-        sheet[1] = one_in(2) ? wrong_k[draw(4)] : (uint8_t)(plan.d + 1);
+        sheet[1] = one_in(2) ? wrong_k[draw(4)] : (uint8_t)(s->d + 1);
         break;
     case 3:
-        resize(c, SHEET);
+        resize(c, field);
         break;
     case 4:
     case 5:
-        put_pair(sheet + 2, i, plan.d == 16 ? 0 : ((size_t)1 << plan.d) + draw(65536 - ((size_t)1 << plan.d)));
+        put_pair(sheet + 2, i, s->d == 16 ? 0 : ((size_t)1 << s->d) + draw(65536 - ((size_t)1 << s->d)));
         break;
     default: /* a row of earlier ones, of none at times; a second faulty row may follow */
         for (size_t j = 0; j < i; j++)
             if (one_in(2))
-                sum ^= plan.row[j];
+                sum ^= s->row[j];
         put_pair(sheet + 2, i, sum);
         if (one_in(2))
-            put_pair(sheet + 2, draw(plan.k), draw(65536));
+            put_pair(sheet + 2, draw(s->k), draw(65536));
+    }
+}
+
+static void spoil_counts(call *c)
+{
+    size_t n = one_in(2) ? plan.left.n : plan.right.n, common = common_divisor(plan.left.d, plan.right.d);
+    /* Some would look right if they were cut to 16 or 32 bits. */
+    const uint64_t wrong_n[] = {0, 2049, 4096 + n, SIZE_MAX / 2, SIZE_MAX, 65537, 65536 + n, ((uint64_t)1 << 32) + n};
+    uint64_t *count = one_in(2) ? &c->nl : &c->nr, kept = c->nl;
+    switch (draw(4)) {
+    case 0:
+        *count = wrong_n[draw(sizeof wrong_n / sizeof wrong_n[0])];
+        break;
+    case 1:
+        *count = one_in(2) ? *count + 1 : *count - 1;
+        break;
+    case 2: /* another plan's, which would need a longer wiring */
+        c->nl += plan.right.d / common;
+        c->nr += plan.left.d / common;
+        break;
+    default:
+        c->nl = c->nr;
+        c->nr = kept;
     }
 }
 
 static void spoil_wiring(call *c)
 {
-    /* Some would look right if they were cut to 16 or 32 bits. */
-    const uint64_t wrong_n[] = {0,        2049,  4096 + plan.n,  SIZE_MAX / 2,
-                                SIZE_MAX, 65537, 65536 + plan.n, ((uint64_t)1 << 32) + plan.n};
     size_t i = draw(plan.edges);
     switch (draw(6)) {
     case 0:
-        c->n = wrong_n[draw(sizeof wrong_n / sizeof wrong_n[0])];
-        break;
     case 1:
-        c->n = one_in(2) ? c->n + 1 : c->n - 1;
+        spoil_counts(c);
         break;
     case 2:
         resize(c, WIRING);
@@ -794,7 +1507,7 @@ static void spoil_block(call *c, int field, uint8_t *block, size_t bits)
 
 static void spoil_number(call *c)
 {
-    uint64_t above = c->service == 1 ? (uint64_t)1 << plan.d : c->service == 4 ? LEMBIKAT_MAX_LIMIT + 1 : plan.edges + 1;
+    uint64_t above = c->service == 1 ? (uint64_t)1 << plan.left.d : c->service == 4 ? LEMBIKAT_MAX_LIMIT + 1 : plan.edges + 1;
     switch (draw(4)) {
     case 0:
         c->number = UINT64_MAX;
@@ -814,7 +1527,7 @@ static void spoil(call *c)
 {
     size_t what = draw(10);
     if (what < 2 || (what < 4 && c->service == 1)) {
-        spoil_sheet(c);
+        spoil_sheet(c, c->service == 1 || one_in(2) ? LEFT_SHEET : RIGHT_SHEET);
     } else if (what < 5 && c->service != 1) {
         spoil_wiring(c);
     } else {
@@ -864,7 +1577,7 @@ static void spoil(call *c)
 /* Few sweeps, many, or about as many as have their sums told. */
 static uint64_t draw_limit(void)
 {
-    size_t work = plan.n << plan.k; /* what the reference tries in a sweep */
+    size_t work = larger(plan.left.n << plan.left.k, plan.right.n << plan.right.k); /* what the reference tries in a sweep */
     if (work <= 512 && one_in(3))
         return one_in(2) ? LEMBIKAT_MAX_LIMIT : draw(LEMBIKAT_MAX_LIMIT);
     if (work <= 8192 && one_in(3))
@@ -874,21 +1587,37 @@ static uint64_t draw_limit(void)
     return draw(work <= 65536 ? 7 : 4);
 }
 
+/* The first number of flips that the plan does not cover: no larger one is. The most sweeps are named just below it. */
+static size_t first_uncovered(void)
+{
+    lembikat_plan p = reference_plan();
+    size_t covered = 0, beyond = 1;
+    while (reference_margin(&p, beyond).number == LEMBIKAT_DONE)
+        beyond *= 2;
+    while (beyond - covered > 1) {
+        size_t middle = covered + (beyond - covered) / 2;
+        if (reference_margin(&p, middle).number == LEMBIKAT_DONE)
+            covered = middle;
+        else
+            beyond = middle;
+    }
+    return beyond;
+}
+
 /* A whole call of the service on a fresh plan; some have faults by themselves, such as a block that does not settle. */
 static call draw_whole_call(unsigned service)
 {
-    call c = {.service = service};
+    static uint8_t list[LEMBIKAT_MAX_LIST_BYTES];
     int sturdy = (service == 4 || service == 7) && one_in(2);
     plan_bits_known = 0;
-    draw_sheet(sturdy);
+    draw_codes(sturdy);
     draw_wiring(service >= 8, sturdy);
-    c.field[SHEET] = (bytes){sheet, 2 + 2 * (size_t)plan.k};
+    call c = plan_call(service);
     if (service == 1) {
-        c.number = draw((size_t)1 << plan.d);
+        c.field[RIGHT_SHEET] = c.field[WIRING] = (bytes){NULL, 0};
+        c.number = draw((size_t)1 << plan.left.d);
         return c;
     }
-    c.n = plan.n;
-    c.field[WIRING] = (bytes){wiring, 2 * plan.edges};
     size_t spare = one_in(2) ? 0 : draw(20);
     switch (service) {
     case 3:
@@ -916,13 +1645,15 @@ static call draw_whole_call(unsigned service)
         c.field[FIRST] = (bytes){first, plan.block};
         c.field[SECOND] = (bytes){second, plan.block};
         /* A list of the length needed: the reference tells the pairs, on a list that is long enough for any. */
-        static uint8_t list[LEMBIKAT_MAX_LIST_BYTES];
-        lembikat_answer pairs = reference_report(sheet, c.field[SHEET].size, plan.n, wiring, c.field[WIRING].size, first,
-                                                 plan.block, second, plan.block, list, sizeof list);
+        lembikat_plan p = reference_plan();
+        lembikat_answer pairs = reference_report(&p, first, plan.block, second, plan.block, list, sizeof list);
         c.field[LENT] = (bytes){lent, 4 * (size_t)pairs.value + spare};
         break;
     case 7:
-        c.number = one_in(8) ? draw(plan.edges + 1) : sturdy ? draw(plan.edges / 4 + 2) : draw((size_t)1 << draw(4));
+        if (sturdy && !one_in(4))
+            c.number = one_in(2) ? first_uncovered() - draw(2) : draw(first_uncovered() + 1);
+        else
+            c.number = one_in(8) ? draw(plan.edges + 1) : draw((size_t)1 << draw(4));
         if (c.number > plan.edges)
             c.number = plan.edges;
         break;
@@ -945,120 +1676,6 @@ static call draw_whole_call(unsigned service)
     }
     draw_bytes(lent, c.field[LENT].size);
     return c;
-}
-
-/* Compares the library with the reference on one call of part two. */
-static void compare(const char *kind, size_t i, const call *c)
-{
-    run_all(c);
-    if (!failed(!same_outcome(c, &by_library, &by_reference) || by_library.trouble != NULL))
-        return;
-    printf("FAILED: %s call %zu (%s) on n %llu d %u k %u %s\n", kind, i, service_names[c->service], (unsigned long long)c->n,
-           plan.d, plan.k, by_library.trouble == NULL ? "" : by_library.trouble);
-    show("reference", c, &by_reference);
-    show("library  ", c, &by_library);
-}
-
-/* A border that chance does not meet: the square of A is exactly 4 n R, and has to be above it. Each of four vertices meets
- * each on the other side twice, but for two edges that are swapped; all 8 bits are alike. R is 16, and from 4 flips on b is 1
- * and A is 16. */
-static void border_calls(void)
-{
-    plan.d = 8;
-    plan.k = 1;
-    memcpy(sheet, (const uint8_t[]){8, 1, 0x00, 0xff}, 4);
-    for (size_t v = 0; v < 4; v++)
-        for (size_t j = 0; j < 8; j++)
-            put_pair(wiring, v * 8 + j, j / 2 * 8 + v * 2 + j % 2);
-    put_pair(wiring, 0, 10);
-    put_pair(wiring, 10, 0);
-    for (size_t flips = 0; flips < 8; flips++) {
-        call c = {.service = 7, .field = {[SHEET] = {sheet, 4}, [WIRING] = {wiring, 64}}, .n = 4, .number = flips};
-        compare("border", flips, &c);
-        if (failed(by_library.answer.number != (flips < 4 ? LEMBIKAT_DONE : LEMBIKAT_FLIPS_NOT_COVERED)))
-            printf("FAILED: border call %zu ended in %u\n", flips, by_library.answer.number);
-    }
-}
-
-/* A call of the decoder on what stands in the sheet, the wiring and the first block. */
-static call decoder_call(size_t n, uint64_t limit)
-{
-    call c = {.service = 4, .n = n, .number = limit};
-    size_t block = LEMBIKAT_BLOCK_BYTES(n, plan.d);
-    c.field[SHEET] = (bytes){sheet, 2 + 2 * (size_t)plan.k};
-    c.field[WIRING] = (bytes){wiring, 2 * n * plan.d};
-    c.field[FIRST] = (bytes){first, block};
-    c.field[LENT] = (bytes){lent, block};
-    return c;
-}
-
-/* A chain: each vertex reads two bits that must be alike and, where they are not, gives its second bit the value of the first.
- * A 1 at the head is handed on by one place in each sweep, so the block settles only after 2n - 2 sweeps, or 2n - 1 where the
- * first to hand it on is a right vertex. The last bit hears from the head too, and is changed to and fro until the 1 arrives:
- * sweep 1 changes one bit, every later one two. */
-static void chain_call(size_t n, int right_first, size_t limit)
-{
-    static size_t calls;
-    size_t count = right_first ? 2 * n - 1 : 2 * n - 2, made = count <= limit ? count : limit;
-    plan.d = 2;
-    plan.k = 1;
-    memcpy(sheet, (const uint8_t[]){2, 1, 0, 3}, 4);
-    for (size_t v = 0; v < n; v++) {
-        put_pair(wiring, 2 * v, 2 * v + 1);
-        put_pair(wiring, 2 * v + 1, 2 * v + 2);
-    }
-    if (right_first) { /* from bit 0 by right vertex 0 to bit 2, .. to bit 2n - 1, by the last right vertex to bit 1 */
-        put_pair(wiring, 0, 0);
-        put_pair(wiring, 2 * n - 1, 1);
-    } else { /* from bit 0 by left vertex 0 to bit 1, .. by the last left vertex to bit 2n - 1 */
-        put_pair(wiring, 2 * n - 2, 0);
-        put_pair(wiring, 2 * n - 1, 2 * n - 1);
-    }
-    memset(first, 0, LEMBIKAT_BLOCK_BYTES(n, 2));
-    flip(first, 0);
-    call c = decoder_call(n, limit);
-    compare("chain", calls++, &c);
-
-    int right = by_library.answer.number == (count <= limit ? LEMBIKAT_DONE : LEMBIKAT_UNSETTLED) &&
-                by_library.answer.value == (count <= limit ? count : 0);
-    for (size_t i = 0; i < LEMBIKAT_SUMS; i++)
-        right &= by_library.sums[i] == (i >= made ? 0 : i == 0 ? 1 : 2);
-    if (failed(!right)) {
-        printf("FAILED: chain of n %zu with limit %zu, which settles after %zu sweeps\n", n, limit, count);
-        show("library  ", &c, &by_library);
-    }
-}
-
-/* Counts and limits below, at and above the sweeps whose sums are told, and the latest count of all chains. */
-static void chain_calls(void)
-{
-    static const size_t sizes[] = {2, 3, 31, 32, 33, 34}, limits[] = {0, 1, 2, 3, 62, 63, 64, 65, 66, 67, LEMBIKAT_MAX_LIMIT};
-    for (size_t i = 0; i < sizeof sizes / sizeof sizes[0]; i++)
-        for (size_t j = 0; j < sizeof limits / sizeof limits[0]; j++) {
-            chain_call(sizes[i], 0, limits[j]);
-            chain_call(sizes[i], 1, limits[j]);
-        }
-    chain_call(LEMBIKAT_MAX_VERTICES, 1, LEMBIKAT_MAX_LIMIT - 2);
-    chain_call(LEMBIKAT_MAX_VERTICES, 1, LEMBIKAT_MAX_LIMIT - 1);
-}
-
-/* The largest sum: at each of 2,048 vertices the word is sixteen ones, the codewords are zero and a lone 1, and 15 bits are
- * changed. No plan has more: sixteen ones get fewer with any codeword put on them. */
-static void largest_sum(void)
-{
-    plan.d = 16;
-    plan.k = 1;
-    memcpy(sheet, (const uint8_t[]){16, 1, 0, 1}, 4);
-    for (size_t i = 0; i < MAX_EDGES; i++)
-        put_pair(wiring, i, i);
-    memset(first, 0xff, MAX_BLOCK);
-    call c = decoder_call(LEMBIKAT_MAX_VERTICES, 1);
-    compare("largest sum", 0, &c);
-    if (failed(by_library.answer.number != LEMBIKAT_DONE || by_library.answer.value != 1 ||
-               by_library.sums[0] != 15 * LEMBIKAT_MAX_VERTICES)) {
-        printf("FAILED: one sweep changes 15 bits at every vertex\n");
-        show("library  ", &c, &by_library);
-    }
 }
 
 /* How the decoder's random calls ended, by their limit, since what the sums tell depends on both: a codeword from the start,
@@ -1097,27 +1714,60 @@ static void show_ends(void)
     }
 }
 
-static void part_two(void)
+/* The sweeps that random calls of the margin named, by how the sides of the plan differ. */
+#define SWEEPS_SHOWN 6 /* so many and more */
+static size_t sweeps_named[WAYS][SWEEPS_SHOWN + 1];
+static const char *const way_names[WAYS] = {"the same sides", "other sheets", "other n and d"};
+
+static void show_margins(void)
+{
+    printf("sweeps that the margin named");
+    for (int sweeps = 1; sweeps <= SWEEPS_SHOWN; sweeps++)
+        printf(" %7d", sweeps);
+    printf(" and more\n");
+    for (int way = 0; way < WAYS; way++) {
+        printf("%28s", way_names[way]);
+        for (int sweeps = 1; sweeps <= SWEEPS_SHOWN; sweeps++)
+            printf(" %7zu", sweeps_named[way][sweeps]);
+        printf("\n");
+        for (int sweeps = 1; sweeps <= 4; sweeps++)
+            if (failed(sweeps_named[way][sweeps] == 0))
+                printf("FAILED: no random call on such a plan named %d sweeps\n", sweeps);
+    }
+}
+
+static void random_calls(void)
 {
     static const unsigned called[8] = {1, 3, 4, 5, 6, 7, 8, 9};
-    static size_t ended[LAST_REFUSAL + 1][LAST_SERVICE + 1];
+    static size_t ended[LAST_REFUSAL + 1][LAST_SERVICE + 1], ended_by_way[LAST_REFUSAL + 1][WAYS], plans[WAYS];
     for (size_t i = 0; i < RANDOM_CALLS; i++) {
         call c = draw_whole_call(called[draw(8)]);
+        int way = way_of_plan();
         if (!one_in(2))
-            for (size_t faults = one_in(3) ? 1 + draw(3) : 1; faults > 0; faults--)
+            for (size_t faults_put = one_in(3) ? 1 + draw(3) : 1; faults_put > 0; faults_put--)
                 spoil(&c);
         compare("random", i, &c);
-        if (by_reference.answer.number <= LAST_REFUSAL)
-            ended[by_reference.answer.number][c.service]++;
+        lembikat_answer answer = by_reference.answer;
+        if (answer.number <= LAST_REFUSAL)
+            ended[answer.number][c.service]++;
         if (c.service == 4)
-            note_end(c.number, by_reference.answer);
+            note_end(c.number, answer);
+        if (c.service == 7 && answer.number == LEMBIKAT_DONE)
+            sweeps_named[way][smaller(answer.value, SWEEPS_SHOWN)]++;
+        if (c.service != 1) {
+            plans[way]++;
+            if (answer.number <= LAST_REFUSAL)
+                ended_by_way[answer.number][way]++;
+        }
     }
 
-    printf("random calls: %d; how they ended\n  number", RANDOM_CALLS);
+    printf("random calls: %d; how they ended, and how many were on plans with the same sides and with others\n  number",
+           RANDOM_CALLS);
     for (int s = 0; s < 8; s++)
         printf(" %8s", service_names[called[s]]);
-    printf("      all\n");
+    printf("      all     same   sheets  degrees\n");
     for (unsigned number = LEMBIKAT_DONE; number <= LAST_REFUSAL; number++) {
+        const size_t *by_way = ended_by_way[number];
         size_t all = 0;
         if (number == LEMBIKAT_DONE)
             printf("    done");
@@ -1131,11 +1781,14 @@ static void part_two(void)
             else
                 printf(" %8zu", count);
         }
-        printf(" %8zu\n", all);
-        if (failed(all == 0))
-            printf("FAILED: no random call ended in %u\n", number);
+        printf(" %8zu %8zu %8zu %8zu\n", all, by_way[SAME_SIDES], by_way[OTHER_SHEETS], by_way[OTHER_DEGREES]);
+        if (failed(by_way[SAME_SIDES] == 0 || by_way[OTHER_SHEETS] == 0 || by_way[OTHER_DEGREES] == 0))
+            printf("FAILED: no random call on one of these kinds of plan ended in %u\n", number);
     }
+    if (failed(plans[SAME_SIDES] > plans[OTHER_SHEETS] + plans[OTHER_DEGREES]))
+        printf("FAILED: fewer than half of the random plans have unequal sides\n");
     show_ends();
+    show_margins();
 }
 
 int main(int argc, char **argv)
@@ -1147,8 +1800,12 @@ int main(int argc, char **argv)
     part_one(argv[1], argv[2]);
     border_calls();
     chain_calls();
-    largest_sum();
-    part_two();
+    largest_sums();
+    lone_vertex_calls();
+    sheet_calls();
+    all_count_calls();
+    all_fault_calls();
+    random_calls();
     printf("test_vectors: %zu passed, %zu failed\n", cases - failures, failures);
     return failures != 0;
 }

@@ -1,26 +1,35 @@
 /* lembikat.h: blocks of Zemor's graph code, checked, decoded, explained and guaranteed.
  *
- * A plan is a sheet (the inner code) and a wiring (the bipartite graph). Every call takes the plan anew and keeps nothing.
+ * A plan is two sheets (the inner codes of the left and the right side), two counts of vertices and a wiring (the bipartite
+ * graph). The sides may be unequal in all of it. Every call takes the plan anew and keeps nothing.
  * Link with -llembikat; of the host it needs nothing but memset and memcpy, which every C host has. The calls are proved: for
  * whatever bytes and numbers they are given they answer what this header says, end, and write no byte but those named here.
  *
  * THE PLAN
- *   sheet    byte 0 is d, the bits a vertex reads (2 to 16); byte 1 is k, the number of rows (1 to 11, at most d); then k
- *            rows of two bytes, high byte first. The inner codewords are all exclusive-ors of rows.
- *   n        the number of vertices on each side, 1 to 2,048. N = n * d is the number of edges, one bit each.
- *   wiring   N entries of two bytes, high byte first. Entries v * d to v * d + d - 1 are the edges of right vertex v in order.
- *            Left vertex u has the edges u * d to u * d + d - 1. Every edge stands exactly once.
+ *   left_sheet, right_sheet
+ *            the inner code of each side. Byte 0 is d, the bits a vertex of the side reads (2 to 16), called dl on the left and
+ *            dr on the right; byte 1 is k, the number of rows (1 to 11, at most d); then k rows of two bytes, high byte first.
+ *            The inner codewords are all exclusive-ors of rows. D, the inner distance, is the fewest ones in a nonzero one.
+ *   nl, nr   the number of vertices on the left and on the right, 1 to 2,048 each. N = nl * dl is the number of edges, one bit
+ *            each; nr * dr must be the same number.
+ *   wiring   N entries of two bytes, high byte first. Entries v * dr to v * dr + dr - 1 are the edges of right vertex v in
+ *            order. Left vertex u has the edges u * dl to u * dl + dl - 1. Every edge stands exactly once; two vertices may
+ *            share more than one.
+ *   A plan with equal sides names one sheet and one count twice. lembikat_plan holds the parts together, so that a host writes
+ *   them once.
  *
  * BLOCKS AND MESSAGES
  *   A block is N / 8 bytes, rounded up. Bit 0 has weight 128 in byte 0; the bits after bit N - 1 are zero. It is a codeword if
- *   every vertex, left and right, reads an inner codeword, its first edge having the highest weight.
+ *   every left vertex reads a codeword of the left sheet and every right vertex one of the right sheet, a vertex's first edge
+ *   having the highest weight.
  *   A message is K / 8 bytes, rounded up, with the same order of bits and zero bits after bit K - 1; K depends on the plan
  *   alone and is at most N.
  *
  * REFUSALS
  *   A call checks from the top of this list down, as far as the numbers concern it, and stops at the first that applies. A
  *   refused call has written nothing, with one exception: after LEMBIKAT_UNSETTLED the front of the output holds the received
- *   block.
+ *   block. The left sheet is checked by 1 to 6, then the right one by 1 to 6; a refusal does not say which sheet it was.
+ *   "The plan's" refusals below are 1 to 7, 23, and 8 to 10, in this order.
  *
  *   number  name                            place  condition
  *        1  LEMBIKAT_SHEET_SHORT                0  sheet: fewer than 2 bytes
@@ -29,7 +38,8 @@
  *        4  LEMBIKAT_SHEET_LENGTH_WRONG         0  sheet: its length is not 2 + 2k
  *        5  LEMBIKAT_ROW_TOO_LARGE            row  sheet: the first faulty row is at or above 2^d
  *        6  LEMBIKAT_ROW_DEPENDENT            row  sheet: the first faulty row is an exclusive-or of earlier rows (zero is)
- *        7  LEMBIKAT_VERTICES_OUT_OF_RANGE      0  wiring: n is not 1 to 2,048
+ *        7  LEMBIKAT_VERTICES_OUT_OF_RANGE      0  wiring: nl is not 1 to 2,048, or nr is not
+ *       23  LEMBIKAT_EDGE_COUNTS_DIFFER         0  wiring: nl * dl is not nr * dr
  *        8  LEMBIKAT_WIRING_LENGTH_WRONG        0  wiring: its length is not 2N
  *        9  LEMBIKAT_ENTRY_TOO_LARGE        entry  wiring: the first faulty entry is at or above N
  *       10  LEMBIKAT_ENTRY_REPEATED         entry  wiring: the first faulty entry stood before
@@ -65,9 +75,9 @@ extern "C" {
 
 /* The version, as text (pkg-config tells the same) and as numbers; the last two are below 1,000 each. LEMBIKAT_VERSION_NUMBER
  * rises with every version, the first number where a caller must change its code. A host asks for a version or a later one so:
- *   #if LEMBIKAT_VERSION_AT_LEAST(2, 0, 0) */
-#define LEMBIKAT_VERSION "2.0"
-#define LEMBIKAT_VERSION_MAJOR 2
+ *   #if LEMBIKAT_VERSION_AT_LEAST(3, 0, 0) */
+#define LEMBIKAT_VERSION "3.0"
+#define LEMBIKAT_VERSION_MAJOR 3
 #define LEMBIKAT_VERSION_MINOR 0
 #define LEMBIKAT_VERSION_PATCH 0
 #define LEMBIKAT_VERSION_AS_NUMBER(major, minor, patch) (1000000L * (major) + 1000L * (minor) + (patch))
@@ -77,7 +87,7 @@ extern "C" {
     (LEMBIKAT_VERSION_NUMBER >= LEMBIKAT_VERSION_AS_NUMBER(major, minor, patch))
 
 /* The largest values over all plans. Names that end in BYTES count bytes. */
-#define LEMBIKAT_MAX_VERTICES 2048      /* n, the vertices of a side */
+#define LEMBIKAT_MAX_VERTICES 2048      /* nl, nr, the vertices of a side */
 #define LEMBIKAT_MAX_EDGES 32768        /* N, the edges of a plan and the bits of a block */
 #define LEMBIKAT_MAX_SHEET_BYTES 24     /* a sheet of 11 rows */
 #define LEMBIKAT_MAX_WIRING_BYTES 65536 /* two bytes an edge */
@@ -87,7 +97,8 @@ extern "C" {
 #define LEMBIKAT_MAX_MESSAGE_BYTES 64   /* a message, or a block that carries one */
 #define LEMBIKAT_MAX_LIMIT 4096         /* the decoder's limit, in sweeps */
 
-/* The bytes of a block of a plan with n vertices of degree d. */
+/* The bytes of a block, where a side has n vertices that read d bits each. The left side's nl and dl and the right side's nr
+ * and dr give the same. */
 #define LEMBIKAT_BLOCK_BYTES(n, d) (((size_t)(n) * (size_t)(d) + 7) / 8)
 
 /* How a call ended: the names of the table above, with their numbers. */
@@ -115,6 +126,7 @@ enum lembikat_outcome {
     LEMBIKAT_MESSAGE_LENGTH_WRONG = 20,
     LEMBIKAT_MESSAGE_STRAY_BIT = 21,
     LEMBIKAT_NO_CODEWORD = 22,
+    LEMBIKAT_EDGE_COUNTS_DIFFER = 23,
 };
 
 /* What a call answers. The answers of the nearest word and of the decoder begin alike and tell more.
@@ -161,55 +173,136 @@ typedef struct {
 #define LEMBIKAT_LEFT 1
 #define LEMBIKAT_RIGHT 2
 
+/* The calls. All but the nearest word, which needs one sheet alone, begin with the eight parameters of the plan. */
+
 /* The nearest inner codeword of a word of d bits: of all error patterns that turn the word into a codeword the one with
  * fewest ones, of those the smallest as a number, is put on the word.
  *   value: the codeword.  changed: the ones of the pattern.  Refusals: 1 to 6, 12.  Stack: at most 5 KiB. */
 lembikat_word_answer lembikat_nearest_word(const uint8_t *sheet, size_t sheet_bytes, uint64_t word);
 
-/* The first vertex that reads no inner codeword, the left side before the right, the lowest number first.
- *   place: LEMBIKAT_NONE where the block is a codeword, else LEMBIKAT_LEFT or LEMBIKAT_RIGHT; value: the vertex.
- *   Refusals: 1 to 12.  Stack: at most 5 KiB. */
-lembikat_answer lembikat_locate(const uint8_t *sheet, size_t sheet_bytes, size_t n, const uint8_t *wiring, size_t wiring_bytes,
+/* The first vertex that reads no inner codeword of its side, the left side before the right, the lowest number first.
+ *   place: LEMBIKAT_NONE where the block is a codeword, else LEMBIKAT_LEFT or LEMBIKAT_RIGHT; value: the vertex, below nl on
+ *   the left and below nr on the right.
+ *   Refusals: the plan's, 11, 12.  Stack: at most 5 KiB. */
+lembikat_answer lembikat_locate(const uint8_t *left_sheet, size_t left_sheet_bytes, const uint8_t *right_sheet,
+                                size_t right_sheet_bytes, size_t nl, size_t nr, const uint8_t *wiring, size_t wiring_bytes,
                                 const uint8_t *block, size_t block_bytes);
 
-/* Decodes a received block. Sweep 1 puts the nearest word at every left vertex, sweep 2 at every right vertex, and so on; the
- * block settles at the first count from 0 to `limit` after which it is a codeword. A block that differs from a codeword in no
- * more bits than lembikat_margin covers settles at that codeword within the sweeps that it names.
+/* Decodes a received block. Sweep 1 puts the nearest word of the left code at every left vertex, sweep 2 the nearest word of
+ * the right code at every right vertex, and so on; the block settles at the first count from 0 to `limit` after which it is a
+ * codeword. A block that differs from a codeword in no more bits than lembikat_margin covers settles at that codeword within
+ * the sweeps that it names.
  *   output: the settled block at the front; with LEMBIKAT_UNSETTLED the received block; else untouched.  value: the sweeps.
  *   sums: the bits that each of the first 64 sweeps changed, with LEMBIKAT_UNSETTLED too.
- *   Refusals: 1 to 12, 13, 14, 15.  Stack: at most 12 KiB. */
-lembikat_decode_answer lembikat_decode(const uint8_t *sheet, size_t sheet_bytes, size_t n, const uint8_t *wiring,
+ *   Refusals: the plan's, 11, 12, 13, 14, 15.  Stack: at most 19 KiB. */
+lembikat_decode_answer lembikat_decode(const uint8_t *left_sheet, size_t left_sheet_bytes, const uint8_t *right_sheet,
+                                       size_t right_sheet_bytes, size_t nl, size_t nr, const uint8_t *wiring,
                                        size_t wiring_bytes, const uint8_t *received, size_t received_bytes, uint8_t *output,
                                        size_t output_bytes, size_t limit);
 
 /* Lists the maximal runs of bits at which a received and a settled block differ, in rising order. A run takes four bytes of
  * the list: its bit offset and its length, two bytes each, high byte first. Neither block need be a codeword.
  *   list: the runs at the front.  value: their number, at most (N + 1) / 2.
- *   Refusals: 1 to 10, then 11 and 12 for the received block, 11 and 12 for the settled one, 16.  Stack: at most 5 KiB. */
-lembikat_answer lembikat_report(const uint8_t *sheet, size_t sheet_bytes, size_t n, const uint8_t *wiring, size_t wiring_bytes,
+ *   Refusals: the plan's, then 11 and 12 for the received block, 11 and 12 for the settled one, 16.  Stack: at most 5 KiB. */
+lembikat_answer lembikat_report(const uint8_t *left_sheet, size_t left_sheet_bytes, const uint8_t *right_sheet,
+                                size_t right_sheet_bytes, size_t nl, size_t nr, const uint8_t *wiring, size_t wiring_bytes,
                                 const uint8_t *received, size_t received_bytes, const uint8_t *settled, size_t settled_bytes,
                                 uint8_t *list, size_t list_bytes);
 
-/* The spread of a plan's wiring: the smaller, the more evenly its left vertices meet.
- *   value: the spread.  Refusals: 1 to 10.  Stack: at most 138 KiB. */
-lembikat_answer lembikat_spread(const uint8_t *sheet, size_t sheet_bytes, size_t n, const uint8_t *wiring, size_t wiring_bytes);
+/* The spread R of a plan's wiring: the smaller, the more evenly its left vertices meet. For left vertices u and w let G be the
+ * sum, over right vertices, of (edges from u) * (edges from w). R is the largest, over u, of the sum over all w, u included, of
+ * the absolute value of nr * G - dl * dl.
+ *   value: the spread.  Refusals: the plan's.  Stack: at most 138 KiB. */
+lembikat_answer lembikat_spread(const uint8_t *left_sheet, size_t left_sheet_bytes, const uint8_t *right_sheet,
+                                size_t right_sheet_bytes, size_t nl, size_t nr, const uint8_t *wiring, size_t wiring_bytes);
 
-/* The sweeps within which so many flipped bits are mended, whichever they are.
- *   value: the sweeps, at least 1.  Refusals: 1 to 10, 17, 18.  Stack: at most 142 KiB. */
-lembikat_answer lembikat_margin(const uint8_t *sheet, size_t sheet_bytes, size_t n, const uint8_t *wiring, size_t wiring_bytes,
+/* The sweeps within which so many flipped bits are mended, whichever they are. With R the spread and D the inner distance of a
+ * side, b begins as 2 * flips / D for the left D. While b is not 0 a step is made, to the right, then to the left, and so on in
+ * turn. For the D of the side stepped to, let A be D * nr - 2 * dl * b. The flips are covered only where, at every step, A is
+ * above 0 and A * A above 4 * nr * R; the next b is 4 * nr * R * b / (A * A). Quotients are rounded down.
+ *   value: the sweeps, one more than the steps.  Refusals: the plan's, 17, 18.  Stack: at most 142 KiB. */
+lembikat_answer lembikat_margin(const uint8_t *left_sheet, size_t left_sheet_bytes, const uint8_t *right_sheet,
+                                size_t right_sheet_bytes, size_t nl, size_t nr, const uint8_t *wiring, size_t wiring_bytes,
                                 uint64_t flips);
 
 /* Writes the codeword that carries a message.
  *   output: the block at the front.  value: 0.
- *   Refusals: 1 to 10, 19, 20, 21, 13.  Stack: at most 38 KiB. */
-lembikat_answer lembikat_encode(const uint8_t *sheet, size_t sheet_bytes, size_t n, const uint8_t *wiring, size_t wiring_bytes,
+ *   Refusals: the plan's, 19, 20, 21, 13.  Stack: at most 38 KiB. */
+lembikat_answer lembikat_encode(const uint8_t *left_sheet, size_t left_sheet_bytes, const uint8_t *right_sheet,
+                                size_t right_sheet_bytes, size_t nl, size_t nr, const uint8_t *wiring, size_t wiring_bytes,
                                 const uint8_t *message, size_t message_bytes, uint8_t *output, size_t output_bytes);
 
 /* Writes the message that a codeword block carries: it undoes lembikat_encode.
  *   output: the message at the front.  value: 0.
- *   Refusals: 1 to 10, 19, 11, 12, 22, 13.  Stack: at most 38 KiB. */
-lembikat_answer lembikat_read(const uint8_t *sheet, size_t sheet_bytes, size_t n, const uint8_t *wiring, size_t wiring_bytes,
+ *   Refusals: the plan's, 19, 11, 12, 22, 13.  Stack: at most 38 KiB. */
+lembikat_answer lembikat_read(const uint8_t *left_sheet, size_t left_sheet_bytes, const uint8_t *right_sheet,
+                              size_t right_sheet_bytes, size_t nl, size_t nr, const uint8_t *wiring, size_t wiring_bytes,
                               const uint8_t *block, size_t block_bytes, uint8_t *output, size_t output_bytes);
+
+/* A plan in one piece, so that a host writes it once: the parts that the calls take, by the same names. It holds pointers to
+ * the host's own bytes, which must stay as long as it is used. Nothing is checked until it is called with. */
+typedef struct {
+    const uint8_t *left_sheet;
+    size_t left_sheet_bytes;
+    const uint8_t *right_sheet;
+    size_t right_sheet_bytes;
+    size_t nl;
+    size_t nr;
+    const uint8_t *wiring;
+    size_t wiring_bytes;
+} lembikat_plan;
+
+/* The calls on a plan in one piece. Each hands its parts to the call of the same name without `plan_`, with all else that it is
+ * given, and answers what that answers. */
+
+static inline lembikat_answer lembikat_plan_locate(const lembikat_plan *plan, const uint8_t *block, size_t block_bytes)
+{
+    return lembikat_locate(plan->left_sheet, plan->left_sheet_bytes, plan->right_sheet, plan->right_sheet_bytes, plan->nl,
+                           plan->nr, plan->wiring, plan->wiring_bytes, block, block_bytes);
+}
+
+static inline lembikat_decode_answer lembikat_plan_decode(const lembikat_plan *plan, const uint8_t *received,
+                                                          size_t received_bytes, uint8_t *output, size_t output_bytes,
+                                                          size_t limit)
+{
+    return lembikat_decode(plan->left_sheet, plan->left_sheet_bytes, plan->right_sheet, plan->right_sheet_bytes, plan->nl,
+                           plan->nr, plan->wiring, plan->wiring_bytes, received, received_bytes, output, output_bytes, limit);
+}
+
+static inline lembikat_answer lembikat_plan_report(const lembikat_plan *plan, const uint8_t *received, size_t received_bytes,
+                                                   const uint8_t *settled, size_t settled_bytes, uint8_t *list,
+                                                   size_t list_bytes)
+{
+    return lembikat_report(plan->left_sheet, plan->left_sheet_bytes, plan->right_sheet, plan->right_sheet_bytes, plan->nl,
+                           plan->nr, plan->wiring, plan->wiring_bytes, received, received_bytes, settled, settled_bytes, list,
+                           list_bytes);
+}
+
+static inline lembikat_answer lembikat_plan_spread(const lembikat_plan *plan)
+{
+    return lembikat_spread(plan->left_sheet, plan->left_sheet_bytes, plan->right_sheet, plan->right_sheet_bytes, plan->nl,
+                           plan->nr, plan->wiring, plan->wiring_bytes);
+}
+
+static inline lembikat_answer lembikat_plan_margin(const lembikat_plan *plan, uint64_t flips)
+{
+    return lembikat_margin(plan->left_sheet, plan->left_sheet_bytes, plan->right_sheet, plan->right_sheet_bytes, plan->nl,
+                           plan->nr, plan->wiring, plan->wiring_bytes, flips);
+}
+
+static inline lembikat_answer lembikat_plan_encode(const lembikat_plan *plan, const uint8_t *message, size_t message_bytes,
+                                                   uint8_t *output, size_t output_bytes)
+{
+    return lembikat_encode(plan->left_sheet, plan->left_sheet_bytes, plan->right_sheet, plan->right_sheet_bytes, plan->nl,
+                           plan->nr, plan->wiring, plan->wiring_bytes, message, message_bytes, output, output_bytes);
+}
+
+static inline lembikat_answer lembikat_plan_read(const lembikat_plan *plan, const uint8_t *block, size_t block_bytes,
+                                                 uint8_t *output, size_t output_bytes)
+{
+    return lembikat_read(plan->left_sheet, plan->left_sheet_bytes, plan->right_sheet, plan->right_sheet_bytes, plan->nl,
+                         plan->nr, plan->wiring, plan->wiring_bytes, block, block_bytes, output, output_bytes);
+}
 
 #ifdef __cplusplus
 }

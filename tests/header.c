@@ -58,8 +58,25 @@ static const char *name_of(enum lembikat_outcome outcome)
         NAMED(LEMBIKAT_MESSAGE_LENGTH_WRONG);
         NAMED(LEMBIKAT_MESSAGE_STRAY_BIT);
         NAMED(LEMBIKAT_NO_CODEWORD);
+        NAMED(LEMBIKAT_EDGE_COUNTS_DIFFER);
     }
     return "no name";
+}
+
+/* Each call on a plan in one piece takes what its name says and answers what the call on the parts does. No call is made. */
+static int calls_on_a_plan_fit(void)
+{
+    const uint8_t bytes[1] = {0};
+    uint8_t written[1] = {0};
+    lembikat_plan plan = {bytes, 1, bytes, 1, 1, 1, bytes, 1};
+    return plan.left_sheet_bytes == 1 && plan.right_sheet == bytes && plan.nl == 1 && plan.nr == 1 && plan.wiring == bytes &&
+           sizeof lembikat_plan_locate(&plan, bytes, 1) == sizeof(lembikat_answer) &&
+           sizeof lembikat_plan_decode(&plan, bytes, 1, written, 1, 1) == sizeof(lembikat_decode_answer) &&
+           sizeof lembikat_plan_report(&plan, bytes, 1, bytes, 1, written, 1) == sizeof(lembikat_answer) &&
+           sizeof lembikat_plan_spread(&plan) == sizeof(lembikat_answer) &&
+           sizeof lembikat_plan_margin(&plan, 1) == sizeof(lembikat_answer) &&
+           sizeof lembikat_plan_encode(&plan, bytes, 1, written, 1) == sizeof(lembikat_answer) &&
+           sizeof lembikat_plan_read(&plan, bytes, 1, written, 1) == sizeof(lembikat_answer);
 }
 
 int main(void)
@@ -67,6 +84,8 @@ int main(void)
     lembikat_answer answer = {LEMBIKAT_DONE, LEMBIKAT_NONE, 0};
     lembikat_word_answer word;
     lembikat_decode_answer decoded;
+    if (!calls_on_a_plan_fit())
+        return 1;
     if (sizeof answer.number != sizeof(uint32_t))
         return 1;
     /* The fields of an answer follow one another without a gap, as the library fills them. */
@@ -74,7 +93,7 @@ int main(void)
         sizeof decoded.sums != 128)
         return 1;
     printf("version %s, numbers %d %d %d\n", LEMBIKAT_VERSION, MAJOR, MINOR, PATCH);
-    for (; answer.number <= LEMBIKAT_NO_CODEWORD; answer.number++)
+    for (; answer.number <= LEMBIKAT_EDGE_COUNTS_DIFFER; answer.number++)
         printf("%d %s\n", (int)answer.number, name_of((enum lembikat_outcome)answer.number));
     return 0;
 }

@@ -1,6 +1,6 @@
 #!/usr/bin/env bash
-# The header is complete by itself, in C and in C++. Its version is the one of lembikat.pc.in, and its names have the numbers of its table of
-# refusals.
+# The header is complete by itself, in C and in C++, and gives no warning where none of its inline calls is used. Its version is the one of
+# lembikat.pc.in, and its names have the numbers of its table of refusals.
 set -eu
 cd "$(dirname "$0")/.."
 made=$(mktemp -d)

@@ -1,4 +1,5 @@
 // Bits of byte strings and two-byte numbers, with the laws that every other crate cites.
+ghost use mathlib.Core.Bool.{true, false};
 ghost use mathlib.Core.Path.{_≡_};
 ghost use Prim.Native.Nat.{_%_, _<_, _≤_, min};
 ghost use Rattle.bits.specs.Window.{at, wordAt};
@@ -62,6 +63,24 @@ fn cut(bytes: &[u8], i: usize, d: usize) -> u16
     let low = byte(bytes, first + 2);
     let window = high + middle + low;
     ((window >> (24 - i % 8 - d)) % (1u32 << d)) as u16
+}
+
+// Whether two byte strings are the same.
+pub fn same(a: &[u8], b: &[u8]) -> bool
+    ensures { λ r. ⌜ (r ≡ true → now (a .entry) ≡ now (b .entry)) ⌝ }
+    ensures { λ r. ⌜ (r ≡ false → now (a .entry) ≡ now (b .entry) → ⊥) ⌝ }
+{
+    if a.len() != b.len() {
+        return false;
+    }
+    let mut i = 0;
+    while i < a.len() {
+        if a[i] != b[i] {
+            return false;
+        }
+        i += 1;
+    }
+    true
 }
 
 // Byte i of a byte string, 0 past its end.

@@ -74,34 +74,43 @@ pub extern "C" fn lembikat_nearest_word(sheet: &[u8], word: u64) -> WordAnswer
     }
 }
 
-// The first unsatisfied vertex of a block, the left side before the right, the lowest number first. Refusals 1 to 12.
+// The first unsatisfied vertex of a block, the left side before the right, the lowest number first. Refusals 1 to 12 and 23.
 #[no_mangle]
-pub extern "C" fn lembikat_locate(sheet: &[u8], n: usize, wiring: &[u8], block: &[u8]) -> Answer
-    ensures { λ r. ⌜ r ≡ toldPlace (locateAnswer (planOf (now (sheet .entry)) n (now (wiring .entry))) (now (block .entry))) ⌝ }
+pub extern "C" fn lembikat_locate(
+    left: &[u8],
+    right: &[u8],
+    nl: usize,
+    nr: usize,
+    wiring: &[u8],
+    block: &[u8],
+) -> Answer
+    ensures { λ r. ⌜ r ≡ toldPlace (locateAnswer (planOf (now (left .entry)) (now (right .entry)) nl nr (now (wiring .entry))) (now (block .entry))) ⌝ }
 {
-    match wiring::locate(sheet, n, wiring, block) {
+    match wiring::locate(left, right, nl, nr, wiring, block) {
         Located::Nowhere => done(0),
         Located::At { side, vertex } => found(side, vertex as u64),
         Located::Refused(r) => refused(r),
     }
 }
 
-// Decodes a received block into the front of `output`; the value is the number of sweeps. Refusals 1 to 15; with 15 the front of `output`
+// Decodes a received block into the front of `output`; the value is the number of sweeps. Refusals 1 to 15 and 23; with 15 the front of `output`
 // holds the received block, and no other refusal writes a byte. The sums are told with 15 too; with any other refusal they are 0.
 #[no_mangle]
 pub extern "C" fn lembikat_decode(
-    sheet: &[u8],
-    n: usize,
+    left: &[u8],
+    right: &[u8],
+    nl: usize,
+    nr: usize,
     wiring: &[u8],
     received: &[u8],
     output: &mut [u8],
     limit: usize,
 ) -> DecodeAnswer
-    ensures { λ r. ⌜ r ≡ toldDecode (decodeAnswer (planOf (now (sheet .entry)) n (now (wiring .entry))) (now (received .entry)) (now (output .entry)) limit)
-        (decodeSums (planOf (now (sheet .entry)) n (now (wiring .entry))) (now (received .entry)) (now (output .entry)) limit) ⌝ }
-    ensures { λ _. ⌜ now (output .exit) ≡ decodeOutput (planOf (now (sheet .entry)) n (now (wiring .entry))) (now (received .entry)) (now (output .entry)) limit ⌝ }
+    ensures { λ r. ⌜ r ≡ toldDecode (decodeAnswer (planOf (now (left .entry)) (now (right .entry)) nl nr (now (wiring .entry))) (now (received .entry)) (now (output .entry)) limit)
+        (decodeSums (planOf (now (left .entry)) (now (right .entry)) nl nr (now (wiring .entry))) (now (received .entry)) (now (output .entry)) limit) ⌝ }
+    ensures { λ _. ⌜ now (output .exit) ≡ decodeOutput (planOf (now (left .entry)) (now (right .entry)) nl nr (now (wiring .entry))) (now (received .entry)) (now (output .entry)) limit ⌝ }
 {
-    let decoding = decoder::decode(sheet, n, wiring, received, output, limit);
+    let decoding = decoder::decode(left, right, nl, nr, wiring, received, output, limit);
     let outcome = decoding.outcome;
     let sums = decoding.sums;
     match outcome {
@@ -120,80 +129,99 @@ pub extern "C" fn lembikat_decode(
     }
 }
 
-// Lists the runs of bits at which a received and a settled block differ; the value is their number. Refusals 1 to 12 and 16; a refusal
+// Lists the runs of bits at which a received and a settled block differ; the value is their number. Refusals 1 to 12, 16 and 23; a refusal
 // writes nothing.
 #[no_mangle]
 pub extern "C" fn lembikat_report(
-    sheet: &[u8],
-    n: usize,
+    left: &[u8],
+    right: &[u8],
+    nl: usize,
+    nr: usize,
     wiring: &[u8],
     received: &[u8],
     settled: &[u8],
     list: &mut [u8],
 ) -> Answer
-    ensures { λ r. ⌜ r ≡ told (reportAnswer (planOf (now (sheet .entry)) n (now (wiring .entry))) (now (received .entry)) (now (settled .entry)) (now (list .entry))) ⌝ }
-    ensures { λ _. ⌜ now (list .exit) ≡ reportList (planOf (now (sheet .entry)) n (now (wiring .entry))) (now (received .entry)) (now (settled .entry)) (now (list .entry)) ⌝ }
+    ensures { λ r. ⌜ r ≡ told (reportAnswer (planOf (now (left .entry)) (now (right .entry)) nl nr (now (wiring .entry))) (now (received .entry)) (now (settled .entry)) (now (list .entry))) ⌝ }
+    ensures { λ _. ⌜ now (list .exit) ≡ reportList (planOf (now (left .entry)) (now (right .entry)) nl nr (now (wiring .entry))) (now (received .entry)) (now (settled .entry)) (now (list .entry)) ⌝ }
 {
-    match decoder::report_runs(sheet, n, wiring, received, settled, list) {
+    match decoder::report_runs(left, right, nl, nr, wiring, received, settled, list) {
         Reported::Pairs(pairs) => done(pairs as u64),
         Reported::Refused(r) => refused(r),
     }
 }
 
-// The spread of a plan. Refusals 1 to 10.
+// The spread of a plan. Refusals 1 to 10 and 23.
 #[no_mangle]
-pub extern "C" fn lembikat_spread(sheet: &[u8], n: usize, wiring: &[u8]) -> Answer
-    ensures { λ r. ⌜ r ≡ told (spreadAnswer (planOf (now (sheet .entry)) n (now (wiring .entry)))) ⌝ }
+pub extern "C" fn lembikat_spread(
+    left: &[u8],
+    right: &[u8],
+    nl: usize,
+    nr: usize,
+    wiring: &[u8],
+) -> Answer
+    ensures { λ r. ⌜ r ≡ told (spreadAnswer (planOf (now (left .entry)) (now (right .entry)) nl nr (now (wiring .entry)))) ⌝ }
 {
-    match radius::plan_spread(sheet, n, wiring) {
+    match radius::plan_spread(left, right, nl, nr, wiring) {
         Spread::Value(spread) => done(spread),
         Spread::Refused(r) => refused(r),
     }
 }
 
-// The sweeps within which so many flipped bits are mended, whichever they are. Refusals 1 to 10, 17 and 18.
+// The sweeps within which so many flipped bits are mended, whichever they are. Refusals 1 to 10, 17, 18 and 23.
 #[no_mangle]
-pub extern "C" fn lembikat_margin(sheet: &[u8], n: usize, wiring: &[u8], flips: u64) -> Answer
-    ensures { λ r. ⌜ r ≡ told (marginAnswer (planOf (now (sheet .entry)) n (now (wiring .entry))) flips) ⌝ }
+pub extern "C" fn lembikat_margin(
+    left: &[u8],
+    right: &[u8],
+    nl: usize,
+    nr: usize,
+    wiring: &[u8],
+    flips: u64,
+) -> Answer
+    ensures { λ r. ⌜ r ≡ told (marginAnswer (planOf (now (left .entry)) (now (right .entry)) nl nr (now (wiring .entry))) flips) ⌝ }
 {
-    match radius::margin_sweeps(sheet, n, wiring, flips) {
+    match radius::margin_sweeps(left, right, nl, nr, wiring, flips) {
         Margin::Sweeps(sweeps) => done(sweeps),
         Margin::Refused(r) => refused(r),
     }
 }
 
-// Writes the codeword that carries a message to the front of `output`. Refusals 1 to 10, 19, 20, 21 and 13; a refusal writes nothing.
+// Writes the codeword that carries a message to the front of `output`. Refusals 1 to 10, 13, 19, 20, 21 and 23; a refusal writes nothing.
 #[no_mangle]
 pub extern "C" fn lembikat_encode(
-    sheet: &[u8],
-    n: usize,
+    left: &[u8],
+    right: &[u8],
+    nl: usize,
+    nr: usize,
     wiring: &[u8],
     message: &[u8],
     output: &mut [u8],
 ) -> Answer
-    ensures { λ r. ⌜ r ≡ told (encodeAnswer (planOf (now (sheet .entry)) n (now (wiring .entry))) (now (message .entry)) (now (output .entry))) ⌝ }
-    ensures { λ _. ⌜ now (output .exit) ≡ encodeOutput (planOf (now (sheet .entry)) n (now (wiring .entry))) (now (message .entry)) (now (output .entry)) ⌝ }
+    ensures { λ r. ⌜ r ≡ told (encodeAnswer (planOf (now (left .entry)) (now (right .entry)) nl nr (now (wiring .entry))) (now (message .entry)) (now (output .entry))) ⌝ }
+    ensures { λ _. ⌜ now (output .exit) ≡ encodeOutput (planOf (now (left .entry)) (now (right .entry)) nl nr (now (wiring .entry))) (now (message .entry)) (now (output .entry)) ⌝ }
 {
-    match messages::encode(sheet, n, wiring, message, output) {
+    match messages::encode(left, right, nl, nr, wiring, message, output) {
         Encoded::Done => done(0),
         Encoded::Refused(r) => refused(r),
     }
 }
 
-// Writes the message that a codeword block carries to the front of `output`. Refusals 1 to 10, 19, 11, 12, 22 and 13; a refusal writes
+// Writes the message that a codeword block carries to the front of `output`. Refusals 1 to 13, 19, 22 and 23; a refusal writes
 // nothing.
 #[no_mangle]
 pub extern "C" fn lembikat_read(
-    sheet: &[u8],
-    n: usize,
+    left: &[u8],
+    right: &[u8],
+    nl: usize,
+    nr: usize,
     wiring: &[u8],
     block: &[u8],
     output: &mut [u8],
 ) -> Answer
-    ensures { λ r. ⌜ r ≡ told (readAnswer (planOf (now (sheet .entry)) n (now (wiring .entry))) (now (block .entry)) (now (output .entry))) ⌝ }
-    ensures { λ _. ⌜ now (output .exit) ≡ readOutput (planOf (now (sheet .entry)) n (now (wiring .entry))) (now (block .entry)) (now (output .entry)) ⌝ }
+    ensures { λ r. ⌜ r ≡ told (readAnswer (planOf (now (left .entry)) (now (right .entry)) nl nr (now (wiring .entry))) (now (block .entry)) (now (output .entry))) ⌝ }
+    ensures { λ _. ⌜ now (output .exit) ≡ readOutput (planOf (now (left .entry)) (now (right .entry)) nl nr (now (wiring .entry))) (now (block .entry)) (now (output .entry)) ⌝ }
 {
-    match messages::read_block(sheet, n, wiring, block, output) {
+    match messages::read_block(left, right, nl, nr, wiring, block, output) {
         Taken::Done => done(0),
         Taken::Refused(r) => refused(r),
     }

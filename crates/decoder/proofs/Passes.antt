@@ -1,5 +1,5 @@
 -- Sweeps in turn as the code makes them: each sweep's number of changed bits is its sum, and tells whether the block before it was settled.
---   SideSwept plan name before changed after finder   one sweep as the code makes it (specs Visiting)
+--   SideSwept side before changed after    one sweep as the code makes it (specs Visiting)
 --   settledAfter plan block i              the block after i sweeps is a codeword (specs Decode)
 --   settlesAt plan block H                 the first count from 0 to H after which it is, H + 1 where none is (specs Decode)
 --   sweepSum, sweepSums                        how many bits a sweep changes, and the sums of those that are made (specs Decode)
@@ -23,12 +23,11 @@ use Rattle.bits.proofs.Searches.{first-all, first-all-each}
 use lib.ListN.{length, replicate}
 use Rattle.bits.specs.Bit.{flips}
 use Rattle.inner_code.specs.Reply.{done}
-use Rattle.inner_code.specs.Sheet.{degree}
-use Rattle.wiring.specs.Plan.{Plan, Side, edgeCount, left, right, sideOf}
+use Rattle.wiring.specs.Plan.{Plan, Side, edgeCount, left, right, countOf, sideOf}
 use Rattle.wiring.specs.Wiring.{planCheck}
 use Rattle.wiring.specs.Block.{satisfied, firstUnsatisfied, isCodewordBlock, blockCheck}
 use Rattle.wiring.specs.declared.side.SideName.{SideName}
-use Rattle.wiring.proofs.Permutation.{Joined, edges-le}
+use Rattle.wiring.proofs.Permutation.{Joined, fitted-edges}
 use Rattle.wiring.proofs.VertexWords.{vertex-lt}
 use Rattle.wiring.proofs.CodewordBlocks.{codeword-block-each}
 use Rattle.wiring.proofs.Plans.{plan-sound, plan-joined}
@@ -75,8 +74,8 @@ module _ {side : Side} (mends : Mends side) (block : List ℕ) where
 
 pub record Pass (plan : Plan) (received : List ℕ) (i changed : ℕ) (after : List ℕ) : Type 0 where
   pub leaves : after ≡ sweptBlock plan (i + 1) received
-  pub clean : changed ≡ 0 → firstUnsatisfied (sideOf plan (turn i)) (sweptBlock plan i received) ≡ plan .n
-  pub dirty : (changed ≡ 0 → ⊥) → firstUnsatisfied (sideOf plan (turn i)) (sweptBlock plan i received) ≡ plan .n → ⊥
+  pub clean : changed ≡ 0 → firstUnsatisfied (sideOf plan (turn i)) (sweptBlock plan i received) ≡ countOf plan (turn i)
+  pub dirty : (changed ≡ 0 → ⊥) → firstUnsatisfied (sideOf plan (turn i)) (sweptBlock plan i received) ≡ countOf plan (turn i) → ⊥
   pub counted : changed ≡ sweepSum plan received i
 
 pub record Told (plan : Plan) (received : List ℕ) (H i : ℕ) (sums : List ℕ) : Type 0 where
@@ -102,28 +101,29 @@ module _ {plan : Plan} {received : List ℕ} (b : Begun plan received) where
   -- ---- one sweep
 
   -- the bits that a defined sweep changes are those that its vertices change
-  pub sum-changed : (i : ℕ) → sweepSum plan received i ≡ changedBy (sideOf plan (turn i)) (plan .n) (sweptBlock plan i received)
+  pub sum-changed : (i : ℕ) → sweepSum plan received i ≡ changedBy (sideOf plan (turn i)) (countOf plan (turn i)) (sweptBlock plan i received)
   unfolding sweepSum
   sum-changed i =
       ap (flips (edgeCount plan) (sweptBlock plan i received)) (after-one-more (sideOf plan) i received)
       ∙ sweep-flips (joined .whole (turn i)) _ (after-block (sideOf plan) (joined .whole) i received (b .block-done)) (mends (turn i))
 
-  pub pass : {i : ℕ} {name : SideName} {block : List ℕ} {changed : ℕ} {after finder : List ℕ}
-      → SideSwept plan name block changed after finder → name ≡ turn i → block ≡ sweptBlock plan i received → Pass plan received i changed after
+  pub pass : {i : ℕ} {name : SideName} {block : List ℕ} {changed : ℕ} {after : List ℕ}
+      → SideSwept (sideOf plan name) block changed after → name ≡ turn i → block ≡ sweptBlock plan i received → Pass plan received i changed after
   pass {i} {name} {block} swept at e =
       let here = ap₂ (λ (s : SideName) (l : List ℕ). firstUnsatisfied (sideOf plan s) l) at e in
+      let all-of = ap (countOf plan) at in
       record {
         leaves = swept .leaves ∙ ap₂ (λ (s : SideName) (l : List ℕ). sweep (sideOf plan s) l) at e ∙ sym (after-one-more (sideOf plan) i received);
-        clean = λ none. sym here ∙ clean-side (mends name) block (sym (swept .counted) ∙ none);
-        dirty = λ some all. some (swept .counted ∙ clean-side-back (mends name) block (here ∙ all));
-        counted = swept .counted ∙ ap₂ (λ (s : SideName) (l : List ℕ). changedBy (sideOf plan s) (plan .n) l) at e ∙ sym (sum-changed i);
+        clean = λ none. sym here ∙ clean-side (mends name) block (sym (swept .counted) ∙ none) ∙ all-of;
+        dirty = λ some all. some (swept .counted ∙ clean-side-back (mends name) block (here ∙ all ∙ sym all-of));
+        counted = swept .counted ∙ ap₂ (λ (s : SideName) (l : List ℕ). changedBy (sideOf plan s) (countOf plan s) l) at e ∙ sym (sum-changed i);
       }
 
   -- it fits in 16 bits
   pub pass-few : {i changed : ℕ} {after : List ℕ} → Pass plan received i changed after → changed < 65536
   pass-few {i} a =
-      let (s, w) = plan-sound plan (b .plan-done) in
-      omega (arith, a .counted, sum-le plan received i, edges-le (plan .n) (degree (plan .sheet)) (w .n-high) (s .degree-high))
+      let w = plan-sound plan (b .plan-done) .1 in
+      omega (arith, a .counted, sum-le plan received i, fitted-edges (w .left-fits))
 
   -- ---- sums
 
@@ -157,13 +157,13 @@ module _ {plan : Plan} {received : List ℕ} (b : Begun plan received) where
   pass-unsettled {i} a some = go (settledAfter plan received i) refl
     where
       go : (t : Bool) → settledAfter plan received i ≡ t → settledAfter plan received i ≡ false
-      go true q = absurd (a .dirty some (first-all (plan .n) _ (codeword-block-each (sideOf plan) _ q (turn i))))
+      go true q = absurd (a .dirty some (first-all (countOf plan (turn i)) _ (codeword-block-each (sideOf plan) _ q (turn i))))
       go false q = q
 
   -- before a sweep that changes none it was, since the side swept before is satisfied
   pass-settled : {i changed : ℕ} {after : List ℕ} → 1 ≤ i → Pass plan received i changed after → changed ≡ 0 → settledAfter plan received i ≡ true
   pass-settled {i} h a none =
-      settled-by-next (sideOf plan) (joined .whole) mends i received h (b .block-done) ∙ eq-eqb _ (plan .n) (a .clean none)
+      settled-by-next (sideOf plan) (joined .whole) mends i received h (b .block-done) ∙ eq-eqb _ (countOf plan (turn i)) (a .clean none)
 
   -- a first sweep that changes no vertex leaves the block as it was
   first-same : {first : ℕ} {after : List ℕ} → Pass plan received 0 first after → first ≡ 0 → sweptBlock plan 1 received ≡ sweptBlock plan 0 received

@@ -24,11 +24,11 @@ use lib.Seq.{sets}
 use borrow.Author.Tests.{ne-eqb}
 use Rattle.bits.specs.Bit.{bitAt, written}
 use Rattle.inner_code.specs.Reply.{Reply, done, refused}
-use Rattle.inner_code.specs.declared.sheet.CheckedSheet.{CheckedSheet}
 use Rattle.wiring.specs.Wiring.{planCheck}
 use Rattle.wiring.specs.Block.{blockBytes, blockCheck}
-use Rattle.wiring.proofs.Permutation.{edges-le}
-use Rattle.wiring.proofs.Plans.{PlanAccepted}
+use Rattle.wiring.specs.declared.plan.CheckedPlan.{CheckedPlan}
+use Rattle.wiring.proofs.Permutation.{fitted-edges}
+use Rattle.wiring.proofs.Plans.{PlanAccepted, accepted-edges}
 use Rattle.wiring.proofs.Blocks.{block-sized}
 use Rattle.decoder.specs.Report.{differsAt, runStart, endsAt, runCount, pairBytes, runBytes}
 use Rattle.decoder.specs.Answer.{reportAnswer, reportList}
@@ -167,8 +167,8 @@ unfolding blockBytes
 blocks-held N received settled few pass-r pass-s =
     record { few = few; first = omega (arith, block-sized N received pass-r); second = omega (arith, block-sized N settled pass-s) }
 
-pub edges-few : {plan : Plan} {r : CheckedSheet} {d k : ℕ} → PlanAccepted plan r d k → plan .n * d ≤ 32768
-edges-few {plan} {d = d} p = edges-le (plan .n) d (p .plan-wired .n-high) (omega (arith, p .d-is, p .sheet-sound .degree-high))
+pub edges-few : {plan : Plan} {r : CheckedPlan} → PlanAccepted plan r → r .left .n * r .left .d ≤ 32768
+edges-few p = rw (accepted-edges p) (fitted-edges (p .plan-wired .left-fits))
 
 module _ (plan : Plan) (received settled list : List ℕ) where
   abbrev Outcome : Reply → List ℕ → Type 0
@@ -180,27 +180,31 @@ module _ (plan : Plan) (received settled list : List ℕ) where
   pub outcome-plan : (number place : ℕ) → planCheck plan ≡ refused number place → Outcome (refused number place) list
   outcome-plan number place e = outcome (report-plan plan received settled list number place e)
 
-  module _ {r : CheckedSheet} {d k : ℕ} (p : PlanAccepted plan r d k) where
-    edges-are : plan .n * d ≡ edgeCount plan
-    edges-are = ap (λ (x : ℕ). plan .n * x) (p .d-is)
+  module _ {r : CheckedPlan} (p : PlanAccepted plan r) where
+    -- the bits that the code counts
+    abbrev edges : ℕ
+    edges = r .left .n * r .left .d
 
-    pub outcome-received : (number place : ℕ) → blockCheck (plan .n * d) received ≡ refused number place → Outcome (refused number place) list
+    edges-are : edges ≡ edgeCount plan
+    edges-are = accepted-edges p
+
+    pub outcome-received : (number place : ℕ) → blockCheck edges received ≡ refused number place → Outcome (refused number place) list
     outcome-received number place e =
         outcome (report-received plan received settled list (p .plan-done) number place (rw edges-are at e))
 
-    module _ (pass-r : blockCheck (plan .n * d) received ≡ done []) where
-      pub outcome-settled : (number place : ℕ) → blockCheck (plan .n * d) settled ≡ refused number place → Outcome (refused number place) list
+    module _ (pass-r : blockCheck edges received ≡ done []) where
+      pub outcome-settled : (number place : ℕ) → blockCheck edges settled ≡ refused number place → Outcome (refused number place) list
       outcome-settled number place e =
           outcome (report-settled-block plan received settled list (p .plan-done) (rw edges-are at pass-r) number place (rw edges-are at e))
 
-      module _ (pass-s : blockCheck (plan .n * d) settled ≡ done []) (count : ℕ)
-          (counted : count ≡ runCount (differsAt received settled) (plan .n * d + 1)) where
+      module _ (pass-s : blockCheck edges settled ≡ done []) (count : ℕ)
+          (counted : count ≡ runCount (differsAt received settled) (edges + 1)) where
         pub outcome-short : length list < 4 * count → Outcome (refused 16 0) list
         outcome-short short =
             outcome (report-short plan received settled list (p .plan-done) (rw edges-are at pass-r) (rw edges-are at pass-s)
             (rw (counted, edges-are) at short))
 
-        pub outcome-done : (left : List ℕ) → 4 * count ≤ length list → left ≡ written (runBytes (differsAt received settled) (plan .n * d + 1)) list
+        pub outcome-done : (left : List ℕ) → 4 * count ≤ length list → left ≡ written (runBytes (differsAt received settled) (edges + 1)) list
             → Outcome (done (count ∷ [])) left
         outcome-done left room e =
             rw (e, counted, edges-are)

@@ -11,7 +11,7 @@
 -- Laws are named by their subject, then by the fact: `start-` is about where a run begins, `ends-` about where one ends, `runs-`
 -- about all runs, `runCount-` and `runBytes-` about their number and their bytes, `differs-` and `flips-` about the bits of two blocks, and
 -- `report-` gives answer and list at one outcome each, from the checks before it that have passed and the one that holds:
---   report-plan (1 to 10), report-received and report-settled-block (11, 12), report-short (16), report-done
+--   report-plan (1 to 10, 23), report-received and report-settled-block (11, 12), report-short (16), report-done
 -- `report-tests` is the answer as these checks in their order.
 -- At the end of a name, `-zero` and `-one-more` are a loop's start and step: a bit in the run (-inside) or not (-outside), a run
 -- that ends there (-ends) or none (-none).

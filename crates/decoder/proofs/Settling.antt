@@ -25,9 +25,10 @@ use Rattle.inner_code.specs.Reply.{Reply, done, refused, refuseIf, andThen}
 use Rattle.inner_code.proofs.Replies.{refuse-taken, refuse-passed, refuse-done, andThen-passed, andThen-refused, andThen-done}
 use Rattle.inner_code.proofs.Replies.{ifDone-done, ifDone-refused}
 use Rattle.inner_code.proofs.SheetChecks.{Sound}
-use Rattle.wiring.specs.Plan.{Plan, edgeCount, sideOf}
+use Rattle.wiring.specs.Plan.{Plan, edgeCount, sheetOf, sideOf}
 use Rattle.wiring.specs.Wiring.{planCheck}
 use Rattle.wiring.specs.Block.{blockBytes, blockCheck}
+use Rattle.wiring.specs.declared.side.SideName.{SideName}
 use Rattle.decoder.specs.Decode.{sweptBlock, settledAfter, settlesAt, sweepSums, trial}
 use Rattle.decoder.specs.Answer.{decodeCheck, decodeAnswer, decodeSums, decodeOutput}
 use Rattle.decoder.proofs.Sweeping.{sheet-mends, after-stays}
@@ -58,7 +59,7 @@ module _ (plan : Plan) (block : List ℕ) where
   settles-first H i e j l = not-true _ (first-passed (H + 1) unsettled j (omega (arith, settles-tests H)))
 
   -- a settled block stays
-  pub settles-stays : Sound (plan .sheet) → (H : ℕ) → settlesAt plan block H ≤ H → (j : ℕ) → settlesAt plan block H ≤ j
+  pub settles-stays : ((name : SideName) → Sound (sheetOf plan name)) → (H : ℕ) → settlesAt plan block H ≤ H → (j : ℕ) → settlesAt plan block H ≤ j
       → sweptBlock plan j block ≡ sweptBlock plan (settlesAt plan block H) block
   settles-stays s H l j h =
       let i : ℕ = settlesAt plan block H in

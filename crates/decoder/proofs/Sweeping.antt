@@ -35,7 +35,7 @@ use Rattle.inner_code.specs.Reply.{done}
 use Rattle.inner_code.specs.Code.{isCodeword}
 use Rattle.inner_code.proofs.NearestWord.{nearest-codeword, nearest-lt, nearest-fixed, changed-ones}
 use Rattle.inner_code.proofs.SheetChecks.{Sound}
-use Rattle.wiring.specs.Plan.{Plan, Side, sideOf}
+use Rattle.wiring.specs.Plan.{Plan, Side, sheetOf, sideOf}
 use Rattle.wiring.specs.Block.{vertexWord, withWord, satisfied, firstUnsatisfied, isCodewordBlock, blockCheck}
 use Rattle.wiring.specs.declared.side.SideName.{SideName}
 use Rattle.wiring.proofs.Permutation.{Whole}
@@ -114,8 +114,9 @@ pub record Mends (side : Side) : Type 0 where
   pub map-codeword : (w : ℕ) → w < 2 ^ side .d → isCodeword (side .row) (side .k) (nearestOf side w) ≡ true
   pub map-fixed : (w : ℕ) → isCodeword (side .row) (side .k) w ≡ true → nearestOf side w ≡ w
 
-pub sheet-mends : (plan : Plan) → Sound (plan .sheet) → (name : SideName) → Mends (sideOf plan name)
-sheet-mends plan s name =
+pub sheet-mends : (plan : Plan) → ((name : SideName) → Sound (sheetOf plan name)) → (name : SideName) → Mends (sideOf plan name)
+sheet-mends plan sound name =
+    let s = sound name in
     record {
       map-lt = nearest-lt _ _ _ (s .degree-high) (s .rows-lt);
       map-codeword = nearest-codeword _ _ _ (s .degree-high) (s .rows-lt);

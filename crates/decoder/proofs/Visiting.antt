@@ -5,10 +5,10 @@
 --   Visits side before v changed block   the first v vertices are visited: `changed` bits changed, and the block is `block`
 --   Passing side block from v  the words of the vertices from .. v - 1 are their own nearest ones
 -- Laws are named by their subject, then by the fact: `changed-` is about the number of bits that change, `visits-` about the block so
--- far, `passing-` and `passed-` about vertices that stay, `word-` about one vertex's word in the code, `ready-` about a checked plan.
+-- far, `passing-` and `passed-` about vertices that stay, `word-` about one vertex's word in the code, `ready-` about a side of a checked plan.
 use Prim.Native.Nat.{ℕ, zero, suc, _+_, _-_, _*_, _^_, _≤_, _<_}
 use mathlib.Core.Bool.{Bool, true, false}
-use mathlib.Core.List.{List}
+use mathlib.Core.List.{List, []}
 use mathlib.Core.Path.{_≡_, refl, sym, ap, ap₂, _∙_}
 use native.Mathlib.Nat.{le-refl, le-trans, le-of-eq, add-zero}
 use native.Mathlib.Decide.{ℕ-discrete}
@@ -18,18 +18,21 @@ use lib.ListN.{length}
 use Rattle.inner_code.specs.Sheet.{degree}
 use Rattle.inner_code.specs.declared.nearest.Step.{Step}
 use Rattle.inner_code.proofs.NearestWord.{changed-none, changed-none-back, changed-le}
-use Rattle.inner_code.proofs.SheetChecks.{Sound}
+use Rattle.inner_code.specs.Reply.{done}
+use Rattle.inner_code.specs.Finding.{Finds}
+use Rattle.inner_code.proofs.SheetChecks.{Sound, sound}
 use Rattle.inner_code.proofs.Finding.{OwnNearest, Found}
-use Rattle.wiring.specs.Plan.{Plan, Side, edgeCount, sideOf}
+use Rattle.wiring.specs.Plan.{Plan, Side, sheetOf, countOf, sideBy}
+use Rattle.wiring.specs.Wiring.{planCheck}
 use Rattle.wiring.specs.Access.{readWord, writtenWord}
 use Rattle.wiring.specs.declared.side.SideName.{SideName}
 use Rattle.wiring.proofs.VertexWords.{vertex-lt}
 use Rattle.wiring.proofs.VertexAccess.{read-inside, write-inside}
-use Rattle.wiring.proofs.Plans.{plan-sound, plan-joined}
+use Rattle.wiring.proofs.Plans.{plan-sound, fitted-sheet}
 use Rattle.wiring.specs.Block.{vertexWord, withWord}
-use Rattle.wiring.proofs.Permutation.{Whole, edges-le}
+use Rattle.wiring.proofs.Permutation.{Whole, edges-le, side-fits, side-edges, side-lt, side-once}
 use Rattle.decoder.specs.Sweep.{visited, sweep}
-use Rattle.decoder.specs.Visiting.{changedAt, changedBy, Ready, PassedOver, nearestOf}
+use Rattle.decoder.specs.Visiting.{changedAt, changedBy, Ready, SideReady, PassedOver, nearestOf}
 use Rattle.decoder.proofs.Sweeping.{length-visited, visited-one-more, visited-skip, visited-later}
 
 -- ---- how many bits change
@@ -55,14 +58,14 @@ module _ (side : Side) (block : List ℕ) where
       sum-none m (λ v. changedAt side (vertexWord side block v)) (λ v l. changed-none-back _ _ _ _ (same v l))
 
 -- a vertex changes d bits at most
-changed-by-le : (plan : Plan) → Sound (plan .sheet) → (name : SideName) (m : ℕ) (block : List ℕ)
-    → changedBy (sideOf plan name) m block ≤ m * degree (plan .sheet)
+changed-by-le : (sheet : List ℕ) (n : ℕ) (wiring : List ℕ) (name : SideName) → Sound sheet → (m : ℕ) (block : List ℕ)
+    → changedBy (sideBy sheet n wiring name) m block ≤ m * degree sheet
 unfolding changedBy
-changed-by-le plan s name m block =
+changed-by-le sheet n wiring name s m block =
     le-trans
-    (sum-mono m _ (λ v. degree (plan .sheet)) (λ v l.
-    changed-le _ _ _ (s .degree-high) (s .rows-lt) _ (vertex-lt (sideOf plan name) block v)))
-    (le-of-eq (sum-const m (degree (plan .sheet))))
+    (sum-mono m _ (λ v. degree sheet) (λ v l.
+    changed-le _ _ _ (s .degree-high) (s .rows-lt) _ (vertex-lt (sideBy sheet n wiring name) block v)))
+    (le-of-eq (sum-const m (degree sheet)))
 
 -- ---- vertices visited so far
 
@@ -74,15 +77,15 @@ pub visits-none : {side : Side} {before : List ℕ} → Visits side before 0 0 b
 unfolding visited
 visits-none {side} {before} = record { counted = sym (changed-start side before); swept = refl }
 
-pub visits-le : {plan : Plan} {finder : List ℕ} → Ready plan finder → (name : SideName) {before : List ℕ} {v changed : ℕ} {block : List ℕ}
-    → v ≤ plan .n → Visits (sideOf plan name) before v changed block → changed ≤ 32768
-visits-le {plan} ready name {before} {v} within all =
-    let sound = plan-sound plan (ready .plan-done) in
+pub visits-le : {sheet : List ℕ} {n : ℕ} {wiring finder : List ℕ} → SideReady sheet n wiring finder → (name : SideName) {before : List ℕ}
+    {v changed : ℕ} {block : List ℕ} → v ≤ n → Visits (sideBy sheet n wiring name) before v changed block → changed ≤ 32768
+visits-le {sheet} {n} {wiring} ready name {before} {v} within all =
+    let s = sound sheet [] (ready .finds .accepted) in
     omega (
       arith,
       all .counted,
-      changed-by-le plan (sound .0) name v before,
-      edges-le v (degree (plan .sheet)) (le-trans within (sound .1 .n-high)) (sound .0 .degree-high),
+      changed-by-le sheet n wiring name s v before,
+      edges-le v (degree sheet) (le-trans within (ready .fits .n-high)) (s .degree-high),
     )
 
 module _ {N : ℕ} {side : Side} (whole : Whole N side) {before block : List ℕ} {v changed : ℕ} (below : v < side .n)
@@ -172,46 +175,75 @@ visits-passed {N} {side} whole {before} {block} {v} {to} {changed} so-far passed
 
 -- ---- a vertex's word as the code reads it, and what the finder says of it
 
-module _ {plan : Plan} {finder : List ℕ} (ready : Ready plan finder) (name : SideName) (block : List ℕ) {v d word : ℕ} (below : v < plan .n)
-    (d-is : d ≡ degree (plan .sheet)) (read : word ≡ readWord name (plan .wiring) d block v) where
-  word-is : word ≡ vertexWord (sideOf plan name) block v
+module _ {sheet : List ℕ} {n : ℕ} {wiring finder : List ℕ} (ready : SideReady sheet n wiring finder) (name : SideName) (block : List ℕ)
+    {v d word : ℕ} (below : v < n) (d-is : d ≡ degree sheet) (read : word ≡ readWord name wiring d block v) where
+  abbrev side : Side
+  side = sideBy sheet n wiring name
+
+  word-is : word ≡ vertexWord side block v
   word-is =
-      read ∙ ap (λ (x : ℕ). readWord name (plan .wiring) x block v) d-is
-      ∙ read-inside plan (plan-sound plan (ready .plan-done) .1) name block v below
+      read ∙ ap (λ (x : ℕ). readWord name wiring x block v) d-is ∙ read-inside sheet (ready .fits) name block v below
 
-  word-lt : word < 2 ^ degree (plan .sheet)
-  word-lt = rw word-is (vertex-lt (sideOf plan name) block v)
+  word-lt : word < 2 ^ degree sheet
+  word-lt = rw word-is (vertex-lt side block v)
 
-  pub word-stays : {r : Bool} → OwnNearest finder word r → r ≡ true
-      → nearestOf (sideOf plan name) (vertexWord (sideOf plan name) block v) ≡ vertexWord (sideOf plan name) block v
-  word-stays own e = rw word-is at (own .stays e (plan .sheet) (ready .finds) word-lt)
+  pub word-stays : {r : Bool} → OwnNearest finder word r → r ≡ true → nearestOf side (vertexWord side block v) ≡ vertexWord side block v
+  word-stays own e = rw word-is at (own .stays e sheet (ready .finds) word-lt)
 
-  pub word-moves : {r : Bool} → OwnNearest finder word r → r ≡ false
-      → nearestOf (sideOf plan name) (vertexWord (sideOf plan name) block v) ≡ vertexWord (sideOf plan name) block v → ⊥
-  word-moves own e = rw word-is at (own .changes e (plan .sheet) (ready .finds) word-lt)
+  pub word-moves : {r : Bool} → OwnNearest finder word r → r ≡ false → nearestOf side (vertexWord side block v) ≡ vertexWord side block v → ⊥
+  word-moves own e = rw word-is at (own .changes e sheet (ready .finds) word-lt)
 
-  pub word-found : {step : Step} {after : List ℕ} → Found finder word step after
-      → step .word ≡ nearestOf (sideOf plan name) (vertexWord (sideOf plan name) block v)
-  word-found found = found .nearest (plan .sheet) (ready .finds) word-lt ∙ ap (nearestOf (sideOf plan name)) word-is
+  pub word-found : {step : Step} {after : List ℕ} → Found finder word step after → step .word ≡ nearestOf side (vertexWord side block v)
+  word-found found = found .nearest sheet (ready .finds) word-lt ∙ ap (nearestOf side) word-is
 
-  pub word-counted : {step : Step} {after : List ℕ} → Found finder word step after
-      → step .changed ≡ changedAt (sideOf plan name) (vertexWord (sideOf plan name) block v)
-  word-counted found = found .counted (plan .sheet) (ready .finds) word-lt ∙ ap (changedAt (sideOf plan name)) word-is
+  pub word-counted : {step : Step} {after : List ℕ} → Found finder word step after → step .changed ≡ changedAt side (vertexWord side block v)
+  word-counted found = found .counted sheet (ready .finds) word-lt ∙ ap (changedAt side) word-is
 
 -- the word put where the code puts it
-pub word-put : {plan : Plan} {finder : List ℕ} → Ready plan finder → (name : SideName) (block : List ℕ) (mended : ℕ)
-    {after : List ℕ} {v d : ℕ} → v < plan .n → d ≡ degree (plan .sheet)
-    → after ≡ writtenWord name (plan .wiring) d v mended block → after ≡ withWord (sideOf plan name) v mended block
-word-put {plan} ready name block mended {after} {v} {d} below d-is e =
-    e ∙ ap (λ (x : ℕ). writtenWord name (plan .wiring) x v mended block) d-is
-    ∙ write-inside plan (plan-sound plan (ready .plan-done) .1) name v mended block below
+pub word-put : {sheet : List ℕ} {n : ℕ} {wiring finder : List ℕ} → SideReady sheet n wiring finder → (name : SideName) (block : List ℕ) (mended : ℕ)
+    {after : List ℕ} {v d : ℕ} → v < n → d ≡ degree sheet
+    → after ≡ writtenWord name wiring d v mended block → after ≡ withWord (sideBy sheet n wiring name) v mended block
+word-put {sheet} {wiring = wiring} ready name block mended {after} {v} {d} below d-is e =
+    e ∙ ap (λ (x : ℕ). writtenWord name wiring x v mended block) d-is ∙ write-inside sheet (ready .fits) name v mended block below
 
--- the sheet of a checked plan has its first byte
-pub ready-sheet : {plan : Plan} {finder : List ℕ} → Ready plan finder → 0 < length (plan .sheet)
-ready-sheet {plan} ready = omega (arith, plan-sound plan (ready .plan-done) .0 .sized)
+-- the sheet of a side has its first byte
+pub ready-sheet : {sheet : List ℕ} {n : ℕ} {wiring finder : List ℕ} → SideReady sheet n wiring finder → 0 < length sheet
+ready-sheet {sheet} ready = fitted-sheet sheet (ready .fits)
 
-pub ready-whole : {plan : Plan} {finder : List ℕ} → Ready plan finder → (name : SideName) → Whole (edgeCount plan) (sideOf plan name)
-ready-whole {plan} ready = plan-joined plan (ready .plan-done) .whole
+pub ready-whole : {sheet : List ℕ} {n : ℕ} {wiring finder : List ℕ} → SideReady sheet n wiring finder → (name : SideName)
+    → Whole (n * degree sheet) (sideBy sheet n wiring name)
+ready-whole ready name =
+    record { degree-pos = ready .fits .d-low; entries = refl; bit-lt = side-lt (ready .permuted) name; bit-once = side-once (ready .permuted) name }
+
+-- ---- the sides of a checked plan
+
+pub ready-side : (plan : Plan) → planCheck plan ≡ done [] → (name : SideName) {finder : List ℕ} → Finds (sheetOf plan name) finder
+    → SideReady (sheetOf plan name) (countOf plan name) (plan .wiring) finder
+ready-side plan accepted name finds =
+    let w = plan-sound plan accepted .1 in
+    record { fits = side-fits plan w name; permuted = rw (side-edges plan w name) (w .permuted); finds = finds }
+
+-- a finder that is used still finds, and the other one is not touched
+module _ {plan : Plan} {l r : List ℕ} (ready : Ready plan l r) {after : List ℕ} where
+  pub ready-left-swept : Finds (plan .leftSheet) after → Ready plan after r
+  ready-left-swept finds =
+      record { plan-done = ready .plan-done; left-finds = finds; right-finds = ready .right-finds; shared = ready .shared }
+
+  pub ready-right-swept : length after ≡ length r → (length r ≡ 0 → ⊥) → Finds (plan .rightSheet) after → Ready plan l after
+  ready-right-swept kept some finds =
+      record {
+        plan-done = ready .plan-done;
+        left-finds = ready .left-finds;
+        right-finds = λ _. finds;
+        shared = λ none. absurd (some (sym kept ∙ none));
+      }
+
+  -- the left finder serves the right side
+  pub ready-shared-swept : length r ≡ 0 → Finds (plan .rightSheet) after → Ready plan after r
+  ready-shared-swept none finds = ready-left-swept (rw (ready .shared none) finds)
+
+pub ready-shared : {plan : Plan} {l r : List ℕ} → Ready plan l r → length r ≡ 0 → Finds (plan .rightSheet) l
+ready-shared ready none = rw (ready .shared none) at (ready .left-finds)
 
 pub visits-length : {side : Side} {before : List ℕ} {v changed : ℕ} {block : List ℕ} → Visits side before v changed block
     → length block ≡ length before

@@ -1,8 +1,8 @@
 -- What the services of this layer answer, and what they leave in the lent buffers.
---   decodeCheck ..               what stops a decoder call before it decodes: 1 to 12, 13, 14
+--   decodeCheck ..               what stops a decoder call before it decodes: 1 to 10, 23, 11 to 14
 --   decodeAnswer, decodeOutput   the decoder: these, 15, or the sweep count; its output at exit has the trial's block at the front
 --   decodeSums ..                the 64 sums that it tells beside: the trial's, and zeros where it is stopped before it decodes
---   reportAnswer, reportList     the report: 1 to 12, 16, or the number of pairs; its list at exit has the runs at the front
+--   reportAnswer, reportList     the report: 1 to 10, 23, 11, 12, 16, or the number of pairs; its list at exit has the runs at the front
 --   decodeReply, reportReply     the paper's number, place and values for each case of an answer in the code
 use Prim.Native.Nat.{ℕ, _+_, _*_}
 use mathlib.Core.List.{List, [], _∷_}

@@ -2,24 +2,28 @@
 --   nearestOf side w            the nearest word of w by the side's inner code
 --   changedAt side w            how many bits the nearest word of w changes
 --   changedBy side m block      how many bits the vertices 0 .. m - 1 of a side change, each by the nearest word of what it reads
---   Ready plan finder           the plan is accepted, and the finder finds its sheet's nearest words
---   SideSwept plan name before changed after finder  one sweep as the code makes it: how many bits it changed, the block that it leaves, and a finder that still finds
+--   SideReady sheet n wiring finder  a side of this sheet and n vertices fits the wiring, whose entries are its edges, and the finder finds
+--                               the sheet's nearest words
+--   Ready plan leftFinder rightFinder  the plan is accepted, and each finder finds its side's nearest words; a right finder of no numbers
+--                               stands for the left one, and both sides have one sheet
+--   SideSwept side before changed after  one sweep as the code makes it: how many bits it changed, and the block that it leaves
 --   noted sums i H changed      the sums with that of sweep i + 1 in them, where it is one of the H sweeps and one that is told
 --   PassedOver side block from to   the words of the vertices from .. to - 1 are their own nearest ones, and that of `to` is not unless to is n
-use Prim.Native.Nat.{ℕ, _≤_, _<_, min}
+use Prim.Native.Nat.{ℕ, _*_, _≤_, _<_, min}
 use mathlib.Core.List.{List, []}
 use mathlib.Core.Bool.{cond}
 use mathlib.Core.Path.{_≡_}
 use lib.Dec.{ltb}
-use lib.ListN.{set}
+use lib.ListN.{length, set}
 use Rattle.bits.specs.Sum.{sum}
 use Rattle.inner_code.specs.Reply.{done}
 use Rattle.inner_code.specs.Code.{nearestWord, bitsChanged}
 use Rattle.inner_code.specs.Finding.{Finds}
-use Rattle.wiring.specs.Plan.{Plan, Side, sideOf}
+use Rattle.inner_code.specs.Sheet.{degree}
+use Rattle.wiring.specs.Plan.{Plan, Side}
 use Rattle.wiring.specs.Wiring.{planCheck}
 use Rattle.wiring.specs.Block.{vertexWord}
-use Rattle.wiring.specs.declared.side.SideName.{SideName}
+use Rattle.wiring.specs.Checking.{Fitted, Permuted}
 use Rattle.decoder.specs.Sweep.{sweep}
 
 abbrev pub nearestOf : Side → ℕ → ℕ
@@ -32,14 +36,20 @@ unfoldable pub changedBy : Side → ℕ → List ℕ → ℕ
 unfolding sum vertexWord
 changedBy side m block = sum m (λ v. changedAt side (vertexWord side block v))
 
-pub record Ready (plan : Plan) (finder : List ℕ) : Type 0 where
-  pub plan-done : planCheck plan ≡ done []
-  pub finds : Finds (plan .sheet) finder
+pub record SideReady (sheet : List ℕ) (n : ℕ) (wiring finder : List ℕ) : Type 0 where
+  pub fits : Fitted (degree sheet) n wiring
+  pub permuted : Permuted (n * degree sheet) wiring
+  pub finds : Finds sheet finder
 
-pub record SideSwept (plan : Plan) (name : SideName) (before : List ℕ) (changed : ℕ) (after finder : List ℕ) : Type 0 where
-  pub counted : changed ≡ changedBy (sideOf plan name) (sideOf plan name .n) before
-  pub leaves : after ≡ sweep (sideOf plan name) before
-  pub finds : Finds (plan .sheet) finder
+pub record Ready (plan : Plan) (leftFinder rightFinder : List ℕ) : Type 0 where
+  pub plan-done : planCheck plan ≡ done []
+  pub left-finds : Finds (plan .leftSheet) leftFinder
+  pub right-finds : (length rightFinder ≡ 0 → ⊥) → Finds (plan .rightSheet) rightFinder
+  pub shared : length rightFinder ≡ 0 → plan .leftSheet ≡ plan .rightSheet
+
+pub record SideSwept (side : Side) (before : List ℕ) (changed : ℕ) (after : List ℕ) : Type 0 where
+  pub counted : changed ≡ changedBy side (side .n) before
+  pub leaves : after ≡ sweep side before
 
 unfoldable pub noted : List ℕ → ℕ → ℕ → ℕ → List ℕ
 noted sums i H changed = cond (ltb i (min H 64)) (set sums i changed) sums

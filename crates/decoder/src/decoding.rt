@@ -1,19 +1,21 @@
-// The decoder: refusals 1 to 15.
+// The decoder: refusals 1 to 15 and 23.
 use crate::settle::SUMS;
 use crate::settle::settle;
 use inner_code::FINDER_WORDS;
 use inner_code::Refusal;
-use inner_code::Sheet;
 use inner_code::refusal;
 use wiring::Checked;
+use wiring::SideCode;
 ghost use mathlib.Core.List.{[]};
 ghost use mathlib.Core.Path.{_≡_};
 ghost use Prim.Native.Nat.{_≤_};
 ghost use lib.ListN.{length, replicate};
 ghost use Rattle.bits.specs.Bit.{written};
 ghost use Rattle.inner_code.specs.Reply.{done, refused};
-ghost use Rattle.inner_code.specs.Finding.{Finds};
 ghost use Rattle.wiring.specs.Plan.{planOf};
+ghost use Rattle.wiring.specs.Checking.{codeOf};
+ghost use Rattle.wiring.specs.declared.side.SideName.{SideName};
+ghost use Rattle.decoder.specs.Visiting.{Ready};
 ghost use Rattle.decoder.specs.Answer.{decodeCheck, decodeAnswer, decodeSums, decodeOutput, decodeReply};
 
 // The most sweeps that a call may allow.
@@ -31,25 +33,28 @@ pub struct Decoding {
     pub sums: [u16; SUMS],
 }
 
-// Decodes a received block into the front of `output` and answers after how many sweeps it settled. Refusals 1 to 15; with 15 the front of
-// `output` holds the received block, and no other refusal writes a byte. The sums are told with 15 too; with any other refusal they are 0.
+// Decodes a received block into the front of `output` and answers after how many sweeps it settled. Refusals 1 to 15 and 23; with 15 the
+// front of `output` holds the received block, and no other refusal writes a byte. The sums are told with 15 too; with any other refusal
+// they are 0.
 pub fn decode(
-    sheet: &[u8],
-    n: usize,
+    left: &[u8],
+    right: &[u8],
+    nl: usize,
+    nr: usize,
     wiring: &[u8],
     received: &[u8],
     output: &mut [u8],
     limit: usize,
 ) -> Decoding
-    ensures { λ r. ⌜ decodeReply (r .outcome) ≡ decodeAnswer (planOf (now (sheet .entry)) n (now (wiring .entry))) (now (received .entry)) (now (output .entry)) limit ⌝ }
-    ensures { λ r. ⌜ r .sums ≡ decodeSums (planOf (now (sheet .entry)) n (now (wiring .entry))) (now (received .entry)) (now (output .entry)) limit ⌝ }
-    ensures { λ _. ⌜ now (output .exit) ≡ decodeOutput (planOf (now (sheet .entry)) n (now (wiring .entry))) (now (received .entry)) (now (output .entry)) limit ⌝ }
+    ensures { λ r. ⌜ decodeReply (r .outcome) ≡ decodeAnswer (planOf (now (left .entry)) (now (right .entry)) nl nr (now (wiring .entry))) (now (received .entry)) (now (output .entry)) limit ⌝ }
+    ensures { λ r. ⌜ r .sums ≡ decodeSums (planOf (now (left .entry)) (now (right .entry)) nl nr (now (wiring .entry))) (now (received .entry)) (now (output .entry)) limit ⌝ }
+    ensures { λ _. ⌜ now (output .exit) ≡ decodeOutput (planOf (now (left .entry)) (now (right .entry)) nl nr (now (wiring .entry))) (now (received .entry)) (now (output .entry)) limit ⌝ }
 {
-    let checked = wiring::check_plan(sheet, n, wiring);
-    let values = checked.sheet;
-    match values {
-        Sheet::Refused(r) => refuse(r),
-        Sheet::Accepted { d, k } => match wiring::check_block(n * d, received) {
+    let plan = wiring::check_plan(left, right, nl, nr, wiring);
+    let checked = plan.checked;
+    match checked {
+        Checked::Refused(r) => refuse(r),
+        Checked::Passed => match wiring::check_block(plan.left.n * plan.left.d, received) {
             Checked::Refused(r) => refuse(r),
             Checked::Passed => {
                 if output.len() < received.len() {
@@ -64,34 +69,111 @@ pub fn decode(
                         place: 0,
                     });
                 }
-                let basis = checked.basis;
-                let mut finder = [0u16; FINDER_WORDS];
-                inner_code::prepare_finder(sheet, k, &basis, &mut finder);
-                decode_copy(sheet, n, wiring, &mut finder, received, output, limit)
+                decode_checked(
+                    left,
+                    right,
+                    nl,
+                    nr,
+                    wiring,
+                    plan.left,
+                    plan.right,
+                    received,
+                    output,
+                    limit,
+                )
             }
         },
     }
 }
 
-// Sweeps a copy of the received block at the front of the output; where it does not settle, the copy is made again.
-fn decode_copy(
-    sheet: &[u8],
-    n: usize,
+// Decodes once nothing stops the call, with the sides that the plan's check has told. One finder serves both sides where they have the same
+// sheet.
+fn decode_checked(
+    left: &[u8],
+    right: &[u8],
+    nl: usize,
+    nr: usize,
     wiring: &[u8],
-    finder: &mut [u16; FINDER_WORDS],
+    left_code: SideCode,
+    right_code: SideCode,
     received: &[u8],
     output: &mut [u8],
     limit: usize,
 ) -> Decoding
-    requires { ⌜ Finds (now sheet) (now finder) ⌝ }
-    requires { ⌜ decodeCheck (planOf (now sheet) n (now wiring)) (now received) (now output) limit ≡ done [] ⌝ }
-    ensures { λ r. ⌜ decodeReply (r .outcome) ≡ decodeAnswer (planOf (now (sheet .entry)) n (now (wiring .entry))) (now (received .entry)) (now (output .entry)) limit ⌝ }
-    ensures { λ r. ⌜ r .sums ≡ decodeSums (planOf (now (sheet .entry)) n (now (wiring .entry))) (now (received .entry)) (now (output .entry)) limit ⌝ }
-    ensures { λ _. ⌜ now (output .exit) ≡ decodeOutput (planOf (now (sheet .entry)) n (now (wiring .entry))) (now (received .entry)) (now (output .entry)) limit ⌝ }
+    requires { ⌜ «left_code» ≡ codeOf (planOf (now left) (now right) nl nr (now wiring)) SideName.Left ⌝ }
+    requires { ⌜ «right_code» ≡ codeOf (planOf (now left) (now right) nl nr (now wiring)) SideName.Right ⌝ }
+    requires { ⌜ decodeCheck (planOf (now left) (now right) nl nr (now wiring)) (now received) (now output) limit ≡ done [] ⌝ }
+    ensures { λ r. ⌜ decodeReply (r .outcome) ≡ decodeAnswer (planOf (now (left .entry)) (now (right .entry)) nl nr (now (wiring .entry))) (now (received .entry)) (now (output .entry)) limit ⌝ }
+    ensures { λ r. ⌜ r .sums ≡ decodeSums (planOf (now (left .entry)) (now (right .entry)) nl nr (now (wiring .entry))) (now (received .entry)) (now (output .entry)) limit ⌝ }
+    ensures { λ _. ⌜ now (output .exit) ≡ decodeOutput (planOf (now (left .entry)) (now (right .entry)) nl nr (now (wiring .entry))) (now (received .entry)) (now (output .entry)) limit ⌝ }
+{
+    let left_basis = left_code.basis;
+    let mut left_finder = [0u16; FINDER_WORDS];
+    inner_code::prepare_finder(left, left_code.k, &left_basis, &mut left_finder);
+    if bits::same(left, right) {
+        let mut none = [0u16; 0];
+        return decode_copy(
+            left,
+            right,
+            nl,
+            nr,
+            wiring,
+            &mut left_finder,
+            &mut none,
+            received,
+            output,
+            limit,
+        );
+    }
+    let right_basis = right_code.basis;
+    let mut right_finder = [0u16; FINDER_WORDS];
+    inner_code::prepare_finder(right, right_code.k, &right_basis, &mut right_finder);
+    decode_copy(
+        left,
+        right,
+        nl,
+        nr,
+        wiring,
+        &mut left_finder,
+        &mut right_finder,
+        received,
+        output,
+        limit,
+    )
+}
+
+// Sweeps a copy of the received block at the front of the output; where it does not settle, the copy is made again.
+fn decode_copy(
+    left: &[u8],
+    right: &[u8],
+    nl: usize,
+    nr: usize,
+    wiring: &[u8],
+    left_finder: &mut [u16],
+    right_finder: &mut [u16],
+    received: &[u8],
+    output: &mut [u8],
+    limit: usize,
+) -> Decoding
+    requires { ⌜ Ready (planOf (now left) (now right) nl nr (now wiring)) (now «left_finder») (now «right_finder») ⌝ }
+    requires { ⌜ decodeCheck (planOf (now left) (now right) nl nr (now wiring)) (now received) (now output) limit ≡ done [] ⌝ }
+    ensures { λ r. ⌜ decodeReply (r .outcome) ≡ decodeAnswer (planOf (now (left .entry)) (now (right .entry)) nl nr (now (wiring .entry))) (now (received .entry)) (now (output .entry)) limit ⌝ }
+    ensures { λ r. ⌜ r .sums ≡ decodeSums (planOf (now (left .entry)) (now (right .entry)) nl nr (now (wiring .entry))) (now (received .entry)) (now (output .entry)) limit ⌝ }
+    ensures { λ _. ⌜ now (output .exit) ≡ decodeOutput (planOf (now (left .entry)) (now (right .entry)) nl nr (now (wiring .entry))) (now (received .entry)) (now (output .entry)) limit ⌝ }
 {
     copy_front(received, output);
     let size = received.len();
-    let settled = settle(sheet, n, wiring, finder, limit, &mut output[0..size]);
+    let settled = settle(
+        left,
+        right,
+        nl,
+        nr,
+        wiring,
+        left_finder,
+        right_finder,
+        limit,
+        &mut output[0..size],
+    );
     let count = settled.count;
     let sums = settled.sums;
     if limit < count {

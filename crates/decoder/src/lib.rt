@@ -10,3 +10,4 @@ pub use decoding::decode;
 pub use report::Reported;
 pub use report::report_runs;
 pub use settle::SUMS;
+pub use sweep::other_side;

@@ -1,6 +1,5 @@
 // The correction report: the maximal runs of bits at which a received and a settled block differ.
 use inner_code::Refusal;
-use inner_code::Sheet;
 use inner_code::refusal;
 use wiring::Checked;
 ghost use mathlib.Core.Path.{_≡_};
@@ -21,24 +20,26 @@ pub enum Reported {
 
 // Lists the runs of bits at which the received and the settled block differ, in rising order, and answers their number. A run takes four
 // bytes of the list, its bit offset and its length, high byte first; what lies behind the last run stays as it was, and with a refusal, 1 to
-// 12 or 16, the whole list does.
+// 12, 16 or 23, the whole list does.
 pub fn report_runs(
-    sheet: &[u8],
-    n: usize,
+    left: &[u8],
+    right: &[u8],
+    nl: usize,
+    nr: usize,
     wiring: &[u8],
     received: &[u8],
     settled: &[u8],
     list: &mut [u8],
 ) -> Reported
-    ensures { λ r. ⌜ reportReply r ≡ reportAnswer (planOf (now (sheet .entry)) n (now (wiring .entry))) (now (received .entry)) (now (settled .entry)) (now (list .entry)) ⌝ }
-    ensures { λ _. ⌜ now (list .exit) ≡ reportList (planOf (now (sheet .entry)) n (now (wiring .entry))) (now (received .entry)) (now (settled .entry)) (now (list .entry)) ⌝ }
+    ensures { λ r. ⌜ reportReply r ≡ reportAnswer (planOf (now (left .entry)) (now (right .entry)) nl nr (now (wiring .entry))) (now (received .entry)) (now (settled .entry)) (now (list .entry)) ⌝ }
+    ensures { λ _. ⌜ now (list .exit) ≡ reportList (planOf (now (left .entry)) (now (right .entry)) nl nr (now (wiring .entry))) (now (received .entry)) (now (settled .entry)) (now (list .entry)) ⌝ }
 {
-    let checked = wiring::check_plan(sheet, n, wiring);
-    let values = checked.sheet;
-    match values {
-        Sheet::Refused(r) => Reported::Refused(r),
-        Sheet::Accepted { d, k: _ } => {
-            let edges = n * d;
+    let plan = wiring::check_plan(left, right, nl, nr, wiring);
+    let checked = plan.checked;
+    match checked {
+        Checked::Refused(r) => Reported::Refused(r),
+        Checked::Passed => {
+            let edges = plan.left.n * plan.left.d;
             match wiring::check_block(edges, received) {
                 Checked::Refused(r) => Reported::Refused(r),
                 Checked::Passed => match wiring::check_block(edges, settled) {

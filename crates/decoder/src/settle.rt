@@ -1,7 +1,6 @@
 // Sweeps in turn, up to the first count after which the block is a codeword.
 use crate::sweep::other_side;
-use crate::sweep::sweep_side;
-use inner_code::FINDER_WORDS;
+use crate::sweep::sweep_named;
 use wiring::SideName;
 ghost use mathlib.Core.List.{[]};
 ghost use mathlib.Core.Path.{_≡_};
@@ -25,24 +24,47 @@ pub(crate) struct Settling {
 // Sweeps a block until it settles. No pass is made for the test alone: a sweep that changes no bit says that its side was satisfied, and the
 // side swept before it always is. Sweeps made beyond the count or the limit are such tests, and their sums are not told.
 pub(crate) fn settle(
-    sheet: &[u8],
-    n: usize,
+    left: &[u8],
+    right: &[u8],
+    nl: usize,
+    nr: usize,
     wiring: &[u8],
-    finder: &mut [u16; FINDER_WORDS],
+    left_finder: &mut [u16],
+    right_finder: &mut [u16],
     limit: usize,
     block: &mut [u8],
 ) -> Settling
     requires { ⌜ limit ≤ 4096 ⌝ }
-    requires { ⌜ Ready (planOf (now sheet) n (now wiring)) (now finder) ⌝ }
-    requires { ⌜ blockCheck (edgeCount (planOf (now sheet) n (now wiring))) (now block) ≡ done [] ⌝ }
-    ensures { λ r. ⌜ r .count ≡ settlesAt (planOf (now (sheet .entry)) n (now (wiring .entry))) (now (block .entry)) limit ⌝ }
-    ensures { λ r. ⌜ r .sums ≡ sweepSums (planOf (now (sheet .entry)) n (now (wiring .entry))) (now (block .entry)) (min (r .count) limit) ⌝ }
-    ensures { λ r. ⌜ (r .count ≤ limit → now (block .exit) ≡ sweptBlock (planOf (now (sheet .entry)) n (now (wiring .entry))) (r .count) (now (block .entry))) ⌝ }
+    requires { ⌜ Ready (planOf (now left) (now right) nl nr (now wiring)) (now «left_finder») (now «right_finder») ⌝ }
+    requires { ⌜ blockCheck (edgeCount (planOf (now left) (now right) nl nr (now wiring))) (now block) ≡ done [] ⌝ }
+    ensures { λ r. ⌜ r .count ≡ settlesAt (planOf (now (left .entry)) (now (right .entry)) nl nr (now (wiring .entry))) (now (block .entry)) limit ⌝ }
+    ensures { λ r. ⌜ r .sums ≡ sweepSums (planOf (now (left .entry)) (now (right .entry)) nl nr (now (wiring .entry))) (now (block .entry)) (min (r .count) limit) ⌝ }
+    ensures { λ r. ⌜ (r .count ≤ limit → now (block .exit) ≡ sweptBlock (planOf (now (left .entry)) (now (right .entry)) nl nr (now (wiring .entry))) (r .count) (now (block .entry))) ⌝ }
 {
     let mut sums = [0u16; SUMS];
-    let first = sweep_side(sheet, n, wiring, SideName::Left, finder, block);
+    let first = sweep_named(
+        left,
+        right,
+        nl,
+        nr,
+        wiring,
+        SideName::Left,
+        left_finder,
+        right_finder,
+        block,
+    );
     note(&mut sums, 0, limit, first);
-    let second = sweep_side(sheet, n, wiring, SideName::Right, finder, block);
+    let second = sweep_named(
+        left,
+        right,
+        nl,
+        nr,
+        wiring,
+        SideName::Right,
+        left_finder,
+        right_finder,
+        block,
+    );
     if second == 0 {
         if first == 0 {
             return Settling { count: 0, sums };
@@ -53,7 +75,17 @@ pub(crate) fn settle(
     let mut side = SideName::Left;
     let mut count = 2;
     while count <= limit {
-        let changed = sweep_side(sheet, n, wiring, side, finder, block);
+        let changed = sweep_named(
+            left,
+            right,
+            nl,
+            nr,
+            wiring,
+            side,
+            left_finder,
+            right_finder,
+            block,
+        );
         if changed == 0 {
             return Settling { count, sums };
         }

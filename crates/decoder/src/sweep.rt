@@ -3,22 +3,57 @@ use inner_code::FINDER_WORDS;
 use wiring::SideName;
 ghost use mathlib.Core.Path.{_≡_};
 ghost use Prim.Native.Nat.{_≤_};
-ghost use Rattle.wiring.specs.Plan.{planOf, sideOf};
+ghost use Rattle.inner_code.specs.Finding.{Finds};
+ghost use Rattle.wiring.specs.Plan.{planOf, sideBy, sideOf};
 ghost use Rattle.decoder.specs.Sweep.{other};
-ghost use Rattle.decoder.specs.Visiting.{Ready, SideSwept, PassedOver};
+ghost use Rattle.decoder.specs.Visiting.{Ready, SideReady, SideSwept, PassedOver};
 
-// Puts the nearest word at every vertex of a side of a checked plan and answers how many bits that changed: what the steps tell, added up.
-pub(crate) fn sweep_side(
+// Sweeps the named side of a checked plan. Its finder is the one of its side; where there is none for the right side, both sides have the
+// left sheet, and its finder serves both.
+pub(crate) fn sweep_named(
+    left: &[u8],
+    right: &[u8],
+    nl: usize,
+    nr: usize,
+    wiring: &[u8],
+    side: SideName,
+    left_finder: &mut [u16],
+    right_finder: &mut [u16],
+    block: &mut [u8],
+) -> usize
+    requires { ⌜ Ready (planOf (now left) (now right) nl nr (now wiring)) (now «left_finder») (now «right_finder») ⌝ }
+    ensures { λ r. ⌜ SideSwept (sideOf (planOf (now (left .entry)) (now (right .entry)) nl nr (now (wiring .entry))) side) (now (block .entry)) r (now (block .exit)) ⌝ }
+    ensures { λ _. ⌜ Ready (planOf (now (left .entry)) (now (right .entry)) nl nr (now (wiring .entry))) (now («left_finder» .exit)) (now («right_finder» .exit)) ⌝ }
+{
+    match side {
+        SideName::Left => sweep_side(left, nl, wiring, SideName::Left, left_finder, block),
+        SideName::Right => {
+            if right_finder.len() == 0 {
+                return sweep_side(right, nr, wiring, SideName::Right, left_finder, block);
+            }
+            sweep_side(right, nr, wiring, SideName::Right, right_finder, block)
+        }
+    }
+}
+
+// Puts the nearest word at every vertex of a side, which has this sheet and n vertices, and answers how many bits that changed: what the
+// steps tell, added up.
+fn sweep_side(
     sheet: &[u8],
     n: usize,
     wiring: &[u8],
     side: SideName,
-    finder: &mut [u16; FINDER_WORDS],
+    finder: &mut [u16],
     block: &mut [u8],
 ) -> usize
-    requires { ⌜ Ready (planOf (now sheet) n (now wiring)) (now finder) ⌝ }
-    ensures { λ r. ⌜ SideSwept (planOf (now (sheet .entry)) n (now (wiring .entry))) side (now (block .entry)) r (now (block .exit)) (now (finder .exit)) ⌝ }
+    requires { ⌜ SideReady (now sheet) n (now wiring) (now finder) ⌝ }
+    ensures { λ r. ⌜ SideSwept (sideBy (now (sheet .entry)) n (now (wiring .entry)) side) (now (block .entry)) r (now (block .exit)) ⌝ }
+    ensures { λ _. ⌜ Finds (now (sheet .entry)) (now (finder .exit)) ⌝ }
 {
+    // a finder has this length: said once, so that the compiler drops the test of it at each visit
+    if finder.len() != FINDER_WORDS {
+        return 0;
+    }
     let d = sheet[0] as usize;
     let mut changed = 0;
     let mut v = 0;
@@ -42,13 +77,13 @@ fn pass_over(
     n: usize,
     wiring: &[u8],
     side: SideName,
-    finder: &[u16; FINDER_WORDS],
+    finder: &[u16],
     block: &[u8],
     from: usize,
 ) -> usize
     requires { ⌜ from ≤ n ⌝ }
-    requires { ⌜ Ready (planOf (now sheet) n (now wiring)) (now finder) ⌝ }
-    ensures { λ r. ⌜ PassedOver (sideOf (planOf (now (sheet .entry)) n (now (wiring .entry))) side) (now (block .entry)) from r ⌝ }
+    requires { ⌜ SideReady (now sheet) n (now wiring) (now finder) ⌝ }
+    ensures { λ r. ⌜ PassedOver (sideBy (now (sheet .entry)) n (now (wiring .entry)) side) (now (block .entry)) from r ⌝ }
 {
     let d = sheet[0] as usize;
     let mut v = from;
@@ -63,7 +98,7 @@ fn pass_over(
 }
 
 // The other side.
-pub(crate) fn other_side(side: SideName) -> SideName
+pub fn other_side(side: SideName) -> SideName
     ensures { λ r. ⌜ r ≡ other side ⌝ }
 {
     match side {

@@ -22,6 +22,8 @@ pub const ROW_DEPENDENT: u32 = 6;
 // the wiring
 pub const VERTICES_OUT_OF_RANGE: u32 = 7;
 
+pub const EDGE_COUNTS_DIFFER: u32 = 23;
+
 pub const WIRING_LENGTH_WRONG: u32 = 8;
 
 pub const ENTRY_TOO_LARGE: u32 = 9;

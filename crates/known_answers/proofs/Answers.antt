@@ -11,7 +11,7 @@ use Rattle.inner_code.specs.Answer.{nearestAnswer}
 use Rattle.inner_code.specs.Sheet.{degree, rowCount, rowOf, rowCheck, rowsCheck, sheetCheck}
 use Rattle.inner_code.specs.House.{houseSheet}
 use Rattle.wiring.specs.Plan.{edgeOf, sideBit}
-use Rattle.wiring.specs.Wiring.{entryCheck, entriesCheck, wiringCheck, planCheck, edgesBetween}
+use Rattle.wiring.specs.Wiring.{entryCheck, entriesCheck, countFaulty, wiringCheck, planCheck, edgesBetween}
 use Rattle.wiring.specs.Block.{blockBytes, bitsCheck, vertexWord, scattered, satisfied, firstUnsatisfied, isCodewordBlock}
 use Rattle.wiring.specs.Square.{entryBytes, squareWiring}
 use Rattle.decoder.specs.Sweep.{visited, sweep, other, turn, afterSweeps}
@@ -29,7 +29,7 @@ unfolding
     allHold holds table sameList sameReply entryBytes squareWiring nearestAnswer nearestWord bitsChanged nearestPattern least key noKey
     isCodeword someBelow combination digit word bitAt putDigit withBit pairAt sum gap
     flag ones onesIn distance refuseIf andThen ifDone degree rowCount rowOf
-    rowCheck rowsCheck sheetCheck houseSheet firstFailing edgeOf sideBit entryCheck entriesCheck wiringCheck planCheck
+    rowCheck rowsCheck sheetCheck houseSheet firstFailing edgeOf sideBit entryCheck entriesCheck countFaulty wiringCheck planCheck
     edgesBetween blockBytes bitsCheck vertexWord scattered satisfied firstUnsatisfied isCodewordBlock visited sweep other turn
     afterSweeps settlesAt sweepSum sweepSums trial decodeCheck decodeAnswer decodeSums written values flips decodeOutput meeting unevenness largest spread slack
     stepCovered nextBound oneMore chainSweeps sweepsNamed marginAnswer bitsPut blockOf codewordNumber isPosition positionsBefore carries

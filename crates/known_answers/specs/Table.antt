@@ -1,11 +1,12 @@
 -- The marked examples of the paper's bench values, by which the definitions are tried: none of this is needed to believe a contract of a service.
 --   Row         one example, with what it must give
 --   sameList, sameReply   two lists of numbers, and two replies, are the same
---   pairPlan    the pair plan: d 2, k 1, row 3, n 1, wiring 0, 1
+--   distances, named   the distance of each side, and the sweeps that the margin's numbers name
+--   pairPlan    the pair plan: d 2, k 1, row 3 on both sides, n 1, wiring 0, 1
 --   holds row   what the definitions give is what the row says
 --   table       all rows
 --   allHold     every row of a list holds
-use Prim.Native.Nat.{ℕ}
+use Prim.Native.Nat.{ℕ, _*_}
 use mathlib.Core.List.{List, [], _∷_}
 use mathlib.Core.Bool.{Bool, true, false, _&&_}
 use lib.Dec.{eqb}
@@ -15,9 +16,9 @@ use Rattle.inner_code.specs.Answer.{nearestAnswer}
 use Rattle.inner_code.specs.House.{houseSheet}
 use Rattle.wiring.specs.Plan.{Plan, planOf}
 use Rattle.wiring.specs.Square.{squareWiring, squarePlan}
+use Rattle.wiring.specs.declared.side.SideName.{SideName}
 use Rattle.decoder.specs.Answer.{decodeAnswer, decodeSums, decodeOutput}
 use Rattle.radius.specs.Margin.{sweepsNamed}
-use Rattle.radius.specs.Ranges.{equalSides}
 use Rattle.radius.specs.Answer.{marginAnswer}
 use Rattle.messages.specs.Message.{encodedBlock}
 
@@ -26,8 +27,10 @@ pub data Row : Type 0 where
   house : ℕ → ℕ → ℕ → Row
   -- the square plan: F flips and the margin's answer
   square : ℕ → Reply → Row
-  -- the margin's numbers alone: n, d, D, R, F and the sweeps named, 0 where F is not covered
+  -- the margin's numbers alone, of equal sides: n, d, D, R, F and the sweeps named, 0 where F is not covered
   margin : ℕ → ℕ → ℕ → ℕ → ℕ → ℕ → Row
+  -- the same of sides that differ: nl, dl, nr, left D, right D, R, F and the sweeps
+  unequal : ℕ → ℕ → ℕ → ℕ → ℕ → ℕ → ℕ → ℕ → Row
   -- the pair plan: a received byte and a limit, the decoder's answer, the byte in its output and the sum of its first sweep; the others are 0
   pair : ℕ → ℕ → Reply → ℕ → ℕ → Row
   -- the pair plan: a message byte and the byte that it encodes to
@@ -47,15 +50,24 @@ sameReply (done a) (refused n p) = false
 sameReply (refused n p) (done b) = false
 sameReply (refused n p) (refused m q) = eqb n m && eqb p q
 
--- the pair plan: d 2, k 1, row 3, n 1, wiring 0, 1
+-- the sweeps that the margin's numbers name for F flips
+abbrev pub distances : ℕ → ℕ → SideName → ℕ
+distances Dl Dr SideName.Left = Dl
+distances Dl Dr SideName.Right = Dr
+
+abbrev pub named : ℕ → ℕ → ℕ → ℕ → ℕ → ℕ → ℕ → ℕ
+named nl dl nr Dl Dr R F = sweepsNamed (record { edges = nl * dl; n = nr; d = dl; distance = distances Dl Dr; spread = R }) F
+
+-- the pair plan: d 2, k 1, row 3 on both sides, n 1, wiring 0, 1
 abbrev pub pairPlan : Plan
-pairPlan = planOf (2 ∷ 1 ∷ 0 ∷ 3 ∷ []) 1 (0 ∷ 0 ∷ 0 ∷ 1 ∷ [])
+pairPlan = let sheet : List ℕ = 2 ∷ 1 ∷ 0 ∷ 3 ∷ [] in planOf sheet sheet 1 1 (0 ∷ 0 ∷ 0 ∷ 1 ∷ [])
 
 unfoldable pub holds : Row → Bool
 unfolding nearestAnswer sameReply sameList squareWiring marginAnswer sweepsNamed decodeAnswer decodeSums decodeOutput encodedBlock
 holds (house word nearest changed) = sameReply (nearestAnswer houseSheet word) (done (nearest ∷ changed ∷ []))
 holds (square flips reply) = sameReply (marginAnswer squarePlan flips) reply
-holds (margin n d D R flips sweeps) = eqb (sweepsNamed (equalSides n d D R) flips) sweeps
+holds (margin n d D R flips sweeps) = eqb (named n d n D D R flips) sweeps
+holds (unequal nl dl nr Dl Dr R flips sweeps) = eqb (named nl dl nr Dl Dr R flips) sweeps
 holds (pair received limit reply left sum) =
     sameReply (decodeAnswer pairPlan (received ∷ []) (0 ∷ []) limit) reply
     && (sameList (decodeOutput pairPlan (received ∷ []) (0 ∷ []) limit) (left ∷ [])
@@ -82,6 +94,8 @@ table =
     ∷ margin 15 8 8 112 12 0
     ∷ margin 31 16 16 480 63 4
     ∷ margin 31 16 16 480 64 0
+    ∷ unequal 30 8 16 7 15 128 20 3
+    ∷ unequal 30 8 16 7 15 128 21 0
     ∷ pair 0x80 1 (done (1 ∷ [])) 0xc0 1
     ∷ pair 0x80 0 (refused 15 0) 0x80 0
     ∷ message 0x80 0xc0

@@ -3,21 +3,23 @@
 --   planPart input                         the plan in an input
 --   numbersAnswer, marginOf, beyond        of radius: the first line, the sweeps in the line of F, the first F that is not covered
 -- and of radius, for numbers that may be out of the range of plans:
---   namedInRange n d D R F, beyondInRange n d D R
+--   namedInRange p F, beyondInRange p
 -- `first-` laws speak of the first line, `line-` laws of the lines of covered F (-covered, -sweeps), `last-` laws of the last line.
 use Prim.Native.Nat.{ℕ, _-_, _<_}
-use mathlib.Core.List.{List, [], _∷_}
-use mathlib.Core.Path.{_≡_, refl, _∙_}
+use mathlib.Core.List.{List, []}
+use mathlib.Core.Path.{_≡_, refl, ap, _∙_}
 use native.Mathlib.Nat.{le-refl}
 use lib.ListN.{length, take, drop, length-drop}
 use lib.Seq.{take-all}
 use Rattle.inner_code.specs.Reply.{done}
 use Rattle.wiring.specs.Plan.{planOf}
+use Rattle.wiring.specs.Wiring.{planCheck}
 use Rattle.radius.specs.Margin.{beyond}
-use Rattle.radius.specs.Answer.{measuresOf, marginOf, numbersAnswer}
+use Rattle.radius.specs.Answer.{measuresOf, marginOf, numbersOf, inOrder, numbersAnswer}
 use Rattle.radius.specs.Ranges.{namedInRange, beyondInRange}
 use Rattle.radius.specs.declared.numbers.Numbers.{Numbers}
-use Rattle.radius.proofs.PlanNumbers.{NumbersKnown, numbers-known}
+use Rattle.radius.specs.declared.numbers.PlanNumbers.{PlanNumbers}
+use Rattle.radius.proofs.PlanNumbers.{numbers-known}
 use Rattle.radius.proofs.PlanRanges.{named-plan}
 use Rattle.radius.proofs.Uncovered.{beyond-covers, beyond-plan}
 use Rattle.margin.specs.Input.{inputParts}
@@ -26,21 +28,23 @@ use Rattle.margin.specs.Output.{planPart}
 
 -- the answer for the parts that lie where `inputParts` says is that for the input
 pub first-is : (input : List ℕ) (p : MarginInput) → p ≡ inputParts input
-    → numbersAnswer (planOf (take (p .sheet) input) (p .n) (take (length input - p .wiring) (drop (p .wiring) input))) ≡ numbersAnswer (planPart input)
+    → numbersAnswer
+    (planOf (take (p .left) input) (take (p .right - p .left) (drop (p .left) input)) (p .nl) (p .nr)
+    (take (length input - p .wiring) (drop (p .wiring) input)))
+    ≡ numbersAnswer (planPart input)
 first-is input p e =
     rw (e, take-all (length input - inputParts input .wiring) (planPart input .wiring) (simp length-drop (le-refl (length input - inputParts input .wiring))))
 
 -- what is below the first F that is not covered names sweeps
 pub line-covered : (input : List ℕ) (F : ℕ) → F < beyond (measuresOf (planPart input)) → 0 < marginOf (planPart input) F
-line-covered input F l = beyond-covers _ _ _ _ F l
+line-covered input F l = beyond-covers _ F l
 
-module _ (input : List ℕ) (n d k D R : ℕ) (n-is : n ≡ planPart input .n) (numbers : done (d ∷ k ∷ D ∷ R ∷ []) ≡ numbersAnswer (planPart input)) where
-  known : NumbersKnown (planPart input) d D R
-  known = numbers-known _ (Numbers.Plan d k D R) d k D R numbers refl
+module _ (input : List ℕ) (p : PlanNumbers) (numbers : done (inOrder p) ≡ numbersAnswer (planPart input)) where
+  known : (planCheck (planPart input) ≡ done []) × (p ≡ numbersOf (planPart input))
+  known = numbers-known _ (Numbers.Plan p) p numbers refl
 
-  pub line-sweeps : (F sweeps : ℕ) → sweeps ≡ namedInRange n d D R F → sweeps ≡ marginOf (planPart input) F
-  line-sweeps F sweeps e =
-      e ∙ rw (n-is, known .d-is, known .distance-is, known .spread-is) (named-plan (planPart input) (known .accepted) F)
+  pub line-sweeps : (F sweeps : ℕ) → sweeps ≡ namedInRange p F → sweeps ≡ marginOf (planPart input) F
+  line-sweeps F sweeps e = e ∙ ap (λ (q : PlanNumbers). namedInRange q F) (known .1) ∙ named-plan (planPart input) (known .0) F
 
-  pub last-is : (F : ℕ) → F ≡ beyondInRange n d D R → F ≡ beyond (measuresOf (planPart input))
-  last-is F e = e ∙ rw (n-is, known .d-is, known .distance-is, known .spread-is) (beyond-plan (planPart input) (known .accepted))
+  pub last-is : (F : ℕ) → F ≡ beyondInRange p → F ≡ beyond (measuresOf (planPart input))
+  last-is F e = e ∙ ap beyondInRange (known .1) ∙ beyond-plan (planPart input) (known .0)

@@ -1,4 +1,5 @@
-// The program `margin`: reads a sheet, n and a wiring from standard input and writes the margin sheet of the plan, or the refusal.
+// The program `margin`: reads a plan from standard input, both sheets, both numbers of vertices and the wiring, and writes its margin sheet,
+// or the refusal.
 // No contract can say what is written. So each function that writes numbers is lent the input, and requires that they are those which
 // are defined for it.
 mod margin_input;
@@ -9,19 +10,19 @@ use libc::STDIN_FILENO;
 use libc::STDOUT_FILENO;
 use margin_input::split_input;
 use radius::Numbers;
+use radius::PlanNumbers;
 use wiring::MAX_VERTICES;
-ghost use mathlib.Core.List.{[], _∷_};
 ghost use mathlib.Core.Path.{_≡_};
 ghost use Prim.Native.Nat.{_<_};
 ghost use Rattle.inner_code.specs.Reply.{done, refused};
 ghost use Rattle.radius.specs.Margin.{beyond};
-ghost use Rattle.radius.specs.Answer.{measuresOf, marginOf, numbersAnswer};
+ghost use Rattle.radius.specs.Answer.{measuresOf, marginOf, inOrder, numbersAnswer};
 ghost use Rattle.margin.specs.Output.{planPart};
 
-// The largest accepted input, of 65,562 bytes: d and k, 11 rows of two bytes, n, and 2,048 · 16 entries of two bytes.
-const LARGEST_INPUT: usize = 2 + 2 * MAX_ROWS + 2 + 2 * MAX_VERTICES * MAX_DEGREE;
+// The largest accepted input, of 65,588 bytes: for each side d and k, 11 rows of two bytes and n, and 2,048 · 16 entries of two bytes.
+const LARGEST_INPUT: usize = 2 * (2 + 2 * MAX_ROWS + 2) + 2 * MAX_VERTICES * MAX_DEGREE;
 
-// What is read must be able to exceed it: an input that is longer is refused by its first 65,563 bytes, at the latest because its wiring
+// What is read must be able to exceed it: an input that is longer is refused by its first 65,589 bytes, at the latest because its wiring
 // is too long, so no byte behind them matters.
 const SPACE: usize = LARGEST_INPUT + 1;
 
@@ -34,17 +35,18 @@ fn main() {
 // What the program writes for an input.
 fn write_margins(input: &[u8]) {
     let parts = split_input(input);
-    let sheet = parts.sheet;
+    let left = parts.left;
+    let right = parts.right;
     let wiring = parts.wiring;
-    let n = parts.n;
-    match radius::plan_numbers(&input[..sheet], n, &input[wiring..]) {
+    match radius::plan_numbers(
+        &input[..left],
+        &input[left..right],
+        parts.nl,
+        parts.nr,
+        &input[wiring..],
+    ) {
         Numbers::Refused(r) => write_refusal(input, r.number, r.place),
-        Numbers::Plan {
-            d,
-            k,
-            distance,
-            spread,
-        } => write_plan(input, n as u64, d, k, distance, spread),
+        Numbers::Plan(plan) => write_plan(input, plan),
     }
 }
 
@@ -56,31 +58,34 @@ fn write_refusal(input: &[u8], number: u32, place: u32)
     word(b"\n");
 }
 
-// The five numbers; a line with F and its sweeps for each covered F; the first F that is not covered.
-fn write_plan(input: &[u8], n: u64, d: u64, k: u64, distance: u64, spread: u64)
-    requires { ⌜ n ≡ planPart (now input) .n ⌝ }
-    requires { ⌜ done (d ∷ k ∷ distance ∷ spread ∷ []) ≡ numbersAnswer (planPart (now input)) ⌝ }
+// The plan's numbers; a line with F and its sweeps for each covered F; the first F that is not covered.
+fn write_plan(input: &[u8], plan: PlanNumbers)
+    requires { ⌜ done (inOrder plan) ≡ numbersAnswer (planPart (now input)) ⌝ }
 {
-    write_numbers(input, n, d, k, distance, spread);
-    let beyond = radius::first_uncovered(n, d, distance, spread);
+    write_numbers(input, plan);
+    let beyond = radius::first_uncovered(plan);
     let mut flips: u64 = 0;
     while flips < beyond {
-        let sweeps = radius::sweeps_named(n, d, distance, spread, flips);
+        let sweeps = radius::sweeps_named(plan, flips);
         write_line(input, flips, sweeps);
         flips += 1;
     }
     write_beyond(input, flips);
 }
 
-fn write_numbers(input: &[u8], n: u64, d: u64, k: u64, distance: u64, spread: u64)
-    requires { ⌜ n ≡ planPart (now input) .n ⌝ }
-    requires { ⌜ done (d ∷ k ∷ distance ∷ spread ∷ []) ≡ numbersAnswer (planPart (now input)) ⌝ }
+// The nine numbers, of those that each side has the left one first.
+fn write_numbers(input: &[u8], plan: PlanNumbers)
+    requires { ⌜ done (inOrder plan) ≡ numbersAnswer (planPart (now input)) ⌝ }
 {
-    named(b"n ", n);
-    named(b" d ", d);
-    named(b" k ", k);
-    named(b" distance ", distance);
-    named(b" spread ", spread);
+    named(b"n ", plan.nl);
+    named(b" ", plan.nr);
+    named(b" d ", plan.dl);
+    named(b" ", plan.dr);
+    named(b" k ", plan.kl);
+    named(b" ", plan.kr);
+    named(b" distance ", plan.left_distance);
+    named(b" ", plan.right_distance);
+    named(b" spread ", plan.spread);
     word(b"\n");
 }
 

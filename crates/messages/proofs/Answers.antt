@@ -4,7 +4,7 @@
 --   written front l              the list l with `front` at its beginning (bits specs Bit)
 --   Encoded plan message output reply left  the encoder answers `reply` and leaves `left`
 --   Read plan block output reply left       the reader answers `reply` and leaves `left`
--- Laws are named by the service, then by the outcome: -plan (1 to 10), -long (19), -message (20, 21) or -block (11, 12), -stranger (22),
+-- Laws are named by the service, then by the outcome: -plan (1 to 10, 23), -long (19), -message (20, 21) or -block (11, 12), -stranger (22),
 -- -output (13), -done. Each takes the places before its own as passed.
 use Prim.Native.Nat.{ℕ, _≤_, _<_}
 use mathlib.Core.Bool.{true, false, not}

@@ -141,17 +141,20 @@ module _ (sides : SideName → Side) where
   unfolding graphCheck
   check-left m l = rw (lt-ltb m _ l)
 
-  pub check-right : (m : ℕ) → sides left .n * sides left .d ≤ m
+  check-right : (m : ℕ) → sides left .n * sides left .d ≤ m
       → graphCheck sides m ≡ sideCheck (sides right) (m - sides left .n * sides left .d)
   unfolding graphCheck
   check-right m l = rw (le-ltb m _ l)
 
+  pub check-past : (i : ℕ) → graphCheck sides (sides left .n * sides left .d + i) ≡ sideCheck (sides right) i
+  check-past i =
+      let past : sides left .n * sides left .d + i - sides left .n * sides left .d ≡ i = omega arith in
+      check-right _ (omega arith) ∙ ap (sideCheck (sides right)) past
+
   pub check-at : (name : SideName) (v j : ℕ) → v < sides name .n → j < sides name .d
       → graphCheck sides (checkNumber sides name v j) ≡ vertexCheck (sides name) v j
   check-at SideName.Left v j hv hj = check-left _ (digits-lt hv hj) ∙ side-check (sides left) v j hj
-  check-at SideName.Right v j hv hj =
-      let past : sides left .n * sides left .d + (v * sides right .d + j) - sides left .n * sides left .d ≡ v * sides right .d + j = omega arith in
-      check-right _ (omega arith) ∙ ap (sideCheck (sides right)) past ∙ side-check (sides right) v j hj
+  check-at SideName.Right v j hv hj = check-past _ ∙ side-check (sides right) v j hj
 
 -- ---- codewords and solutions
 

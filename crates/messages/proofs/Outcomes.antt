@@ -9,19 +9,19 @@
 use Prim.Native.Nat.{ℕ, _≤_, _<_}
 use mathlib.Core.Bool.{Bool, true, false}
 use mathlib.Core.List.{List, [], _∷_}
-use mathlib.Core.Path.{_≡_, refl, sym, ap₂, _∙_}
+use mathlib.Core.Path.{_≡_, refl, sym, _∙_}
 use native.Mathlib.Omega.{arith}
 use lib.ListN.{length, replicate}
 use Rattle.bits.specs.Bit.{written}
 use Rattle.inner_code.specs.Reply.{done, refused}
 use Rattle.inner_code.specs.declared.refusal.Refusal.{Refusal}
-use Rattle.inner_code.specs.declared.sheet.CheckedSheet.{CheckedSheet}
 use Rattle.wiring.specs.Plan.{Plan, sideOf}
 use Rattle.wiring.specs.Block.{blockBytes, blockCheck, isCodewordBlock, located}
-use Rattle.wiring.specs.Access.{locatedBy}
+use Rattle.wiring.specs.Access.{bothCodes, locatedBy}
+use Rattle.wiring.specs.declared.plan.CheckedPlan.{CheckedPlan}
 use Rattle.wiring.proofs.Plans.{PlanAccepted}
 use Rattle.wiring.proofs.CodewordBlocks.{located-none, located-some}
-use Rattle.wiring.proofs.Locating.{located-by}
+use Rattle.wiring.proofs.Locating.{located-told}
 use Rattle.messages.specs.Message.{messageCheck}
 use Rattle.messages.specs.Answer.{encodeReply, takenReply}
 use Rattle.messages.specs.Columns.{StoredPlan, liveBefore, Chosen, BitsPut, bitsTaken}
@@ -93,16 +93,14 @@ module _ (N : ℕ) (columns block output : List ℕ) (bytes : ℕ) (sized : byte
       (read-done plan block output (s .accepted) (rw (s .edges) at (s .short)) (rw (s .edges) at passes) codeword
       (rw (sized, stored-bits s) at fits)))
 
--- ---- the search for an unsatisfied vertex by an accepted plan's basis
+-- ---- the search for an unsatisfied vertex by the sides of an accepted plan
 
-module _ (plan : Plan) (block : List ℕ) (r : CheckedSheet) (d k : ℕ) (a : PlanAccepted plan r d k) where
+module _ (plan : Plan) (block : List ℕ) (r : CheckedPlan) (a : PlanAccepted plan r) where
   abbrev found : List ℕ
-  found = locatedBy (r .basis) k d (plan .n) (plan .wiring) block
+  found = locatedBy (bothCodes (r .left) (r .right)) (plan .wiring) block
 
   found-is : found ≡ located (sideOf plan) block
-  found-is =
-      ap₂ (λ (x y : ℕ). locatedBy (r .basis) x y (plan .n) (plan .wiring) block) (a .k-is) (a .d-is)
-      ∙ located-by plan (r .basis) block (a .basis-is) (a .sheet-sound .count-high) (a .plan-wired)
+  found-is = located-told plan r block a
 
   pub located-nowhere : done [] ≡ done found → isCodewordBlock (sideOf plan) block ≡ true
   located-nowhere e = let none : found ≡ [] = cc in located-some (sideOf plan) block (sym found-is ∙ none)

@@ -1,25 +1,27 @@
 -- One check on the stored rows: the set of the rows that fail it, its lowest row, and that row put on all of them.
 --   rowBit columns p e              bit e of row p, for p below 512 (specs Columns)
 --   ColumnPut from a to b left      `left` is `to` with column a of `from` put on its column b (specs Columns)
---   checkAt d n m                   check m of a graph as the code holds it (specs Columns)
---   FailSet i check .. hits         column 0 of `hits` is the set of the rows that fail it on the first i edges of the vertex (specs Columns)
---   HitSet .. m columns hits        column 0 of `hits` is the set of the rows that fail check m (specs Columns)
+--   checkOf name d m                check m of a side as the code holds it (specs Columns)
+--   checkValue i check .. f         its value on the vector f, by the first i edges of the vertex (specs Columns)
+--   FailSet i check .. hits         column 0 of `hits` is the set of the rows on which that is 1 (specs Columns)
 --   lowestRow hits N                the lowest row of column 0, N where it has none below N (specs Columns)
 --   Spread N p hits columns left    `left` is `columns` with row p put on every row of `hits` (specs Columns)
 --   Stores N s columns              the columns hold the rows of the state s (specs Columns)
+--   CheckMade .. columns left       `left` holds the rows of `columns` after one check more (specs Columns)
+--   Fitted, Permuted                a side that fits a wiring, and a wiring that has every edge once (wiring specs Checking)
 --   after, stepped, hit, pivot      the states of the elimination, the rows that a check hits, the lowest of them (specs Elimination)
 --   SpreadSoFar p hits columns i left  the columns with row p put on the rows of `hits` in the columns below i
 -- Laws are named by their subject, then by the fact: `lowest-` is about the lowest row, `hits-` about the set, `check-` about
 -- the check that the code holds, `spread-` about the row that is put on the set, `dropped-` about rows that are no longer live, `step-`
--- about the state after a check. At the end of a name, `-none` is the beginning of a loop or a check that no row fails, `-put` and `-kept`
--- a turn that adds a column and one that does not, `-last` the end of a loop.
+-- and `made-` about the state after a check. At the end of a name, `-none` is the beginning of a loop or a check that no row fails,
+-- `-put` and `-kept` a turn that adds a column and one that does not, `-last` the end of a loop.
 use Prim.Native.Nat.{ℕ, zero, suc, _+_, _-_, _*_, _/_, _%_, _^_, _≤_, _<_}
 use mathlib.Core.Bool.{Bool, true, false, not, _&&_, true≢false}
 use mathlib.Core.List.{List}
 use mathlib.Core.Logic.{⊎-elim, _≢_}
 use mathlib.Core.Path.{_≡_, refl, sym, ap, ap₂, _∙_}
 use native.Mathlib.Nat.{le-refl, mul-zero, mul-one, zero-mul, one-mul, eq-or-lt-of-le, le-of-suc-le-suc}
-use native.Mathlib.Nat.{lt-of-lt-of-le, le-antisymm, mod-lt, div-lt-iff-lt-mul, add-mul-mod-self-right}
+use native.Mathlib.Nat.{lt-of-lt-of-le, le-antisymm, mod-lt, div-lt-iff-lt-mul}
 use native.Mathlib.Decide.{decLe}
 use native.Mathlib.Numerals.{add-one}
 use native.Mathlib.Omega.{arith}
@@ -28,23 +30,25 @@ use lib.Bits.{bitXor, xor-self, xor-zero-r}
 use lib.Dec.{eqb}
 use lib.ListN.{getD}
 use lib.Pow.{pow-mono, shr-lt}
-use borrow.Author.Tests.{lt-ltb, le-ltb, ltb-false, eqb-true, eq-eqb, not-true}
+use borrow.Author.Tests.{ltb-false, eqb-true, eq-eqb, not-true}
 use Rattle.bits.specs.Bit.{digit}
 use Rattle.bits.specs.Sum.{flag}
 use Rattle.bits.proofs.Sums.{flag-true, flag-false, flag-apart}
 use Rattle.bits.proofs.Xor.{digit-lt, digit-zero}
 use Rattle.bits.proofs.Windows.{digit-low, digit-shifted}
-use Rattle.wiring.specs.Plan.{left, right, sideBit}
-use Rattle.wiring.specs.Checking.{Wired}
+use Rattle.inner_code.specs.Reduction.{reduced}
+use Rattle.wiring.specs.Plan.{Side, sideBit}
+use Rattle.wiring.specs.Checking.{Fitted, Permuted}
 use Rattle.wiring.specs.declared.side.SideName.{SideName}
-use Rattle.wiring.proofs.Permutation.{side-lt, wired-fits}
+use Rattle.wiring.proofs.Permutation.{side-lt, fitted-vertex}
 use Rattle.bits.proofs.Searches.{first-le, first-zero, first-at, first-all, first-all-each, first-ext}
-use Rattle.messages.specs.Elimination.{parity, State, start, hit, pivot, stepped, after, mask, sideCheck, graphCheck}
-use Rattle.messages.specs.Columns.{rowBit, noRows, ColumnPut, sidesBy, Masks, Uses, Stores, checkAt, Within, FailSet, HitSet, lowestRow, Spread}
+use Rattle.messages.specs.Elimination.{parity, State, start, hit, pivot, stepped, after, mask, sideCheck}
+use Rattle.messages.specs.Columns.{rowBit, noRows, ColumnPut, Uses, Stores, checkOf, Within, checkValue, FailSet}
+use Rattle.messages.specs.Columns.{lowestRow, Spread, CheckMade}
 use Rattle.messages.specs.declared.solver.Check.{Check}
 use Rattle.messages.proofs.Elimination.{parity-zero, parity-one-more, parity-ext, parity-none, hit-live, hit-product, pivot-hit}
 use Rattle.messages.proofs.Elimination.{stepped-live-is, stepped-row, stepped-missed, after-one-more, after-reduced}
-use Rattle.messages.proofs.Checks.{vertex-parity, check-left, check-right}
+use Rattle.messages.proofs.Checks.{vertex-parity}
 use Rattle.messages.proofs.StoredRows.{rowBit-lt, rows-empty}
 
 -- ---- the lowest row of a set
@@ -101,7 +105,7 @@ module _ (hits : List ℕ) where
   unfolding lowestRow
   lowest-past N p l e = first-all N _ (λ q b. first-all-each p _ e q (omega arith))
 
-pub lowest-empty : lowestRow noRows 512 ≡ 512
+lowest-empty : lowestRow noRows 512 ≡ 512
 unfolding lowestRow
 lowest-empty = first-all 512 _ (λ q l. ap (λ (b : ℕ). not (eqb b 1)) (rows-empty q))
 
@@ -151,101 +155,49 @@ module _ (check : Check) (wiring residues columns : List ℕ) where
               ∙ ap (bitXor (rowBit hits p 0)) (zero-mul _) ∙ xor-zero-r _);
         }
 
--- ---- check m
+  -- none, where no residue has the digit of the check
+  hits-unused : (d used : ℕ) → Uses d residues used → digit used (check .digit) ≡ 0 → FailSet d check wiring residues columns noRows
+  hits-unused d used uses unused = go d (le-refl d)
+    where
+      go : (i : ℕ) → i ≤ d → FailSet i check wiring residues columns noRows
+      go zero h = hits-none
+      go (suc i) h =
+          let none : counts i ≡ 0 = uses .none i (check .digit) h unused in
+          rw add-one at (hits-kept i noRows (go i (omega arith)) (λ one. absurd (omega arith)))
 
--- check i of a side, as the code holds it
-abbrev checkOf : ℕ → SideName → ℕ → Check
-checkOf d name i = record { side = name; base = i / d * d; digit = i % d }
+-- ---- check m of a side
 
-module _ (d n m : ℕ) where
-  pub check-on-left : m < n * d → checkAt d n m ≡ checkOf d left m
-  unfolding checkAt
-  check-on-left l = rw (lt-ltb m (n * d) l)
-
-  pub check-on-right : n * d ≤ m → checkAt d n m ≡ checkOf d right (m - n * d)
-  unfolding checkAt
-  check-on-right h = rw (le-ltb m (n * d) h)
-
-  -- the digit is the same as if the sides' checks were counted through
-  pub check-digit : checkAt d n m .digit ≡ m % d
-  check-digit =
-      elim (decLe (suc m) (n * d)) [
-        | yes l ↦ ap (λ (c : Check). c .digit) (check-on-left l)
-        | no h ↦
-            let whole : m - n * d + n * d ≡ m = omega arith in
-            ap (λ (c : Check). c .digit) (check-on-right (omega arith))
-            ∙ sym (add-mul-mod-self-right (m - n * d) n d) ∙ ap (λ (x : ℕ). x % d) whole
-      ]
-
-module _ {d n : ℕ} {wiring : List ℕ} (w : Wired d n wiring) where
+module _ {d n : ℕ} {wiring : List ℕ} (f : Fitted d n wiring) where
   pub check-digit-lt : (m : ℕ) → m % d < 16
-  check-digit-lt m = omega (arith, mod-lt m (w .d-low), w .d-high)
+  check-digit-lt m = omega (arith, mod-lt m (f .d-low), f .d-high)
 
-  vertex-low : (i : ℕ) → i < n * d → i / d < n
-  vertex-low i l = div-lt-iff-lt-mul (w .d-low) .1 l
+  module _ {N : ℕ} (even : n * d ≡ N) (p : Permuted N wiring) (name : SideName) (m : ℕ) (low : m < N) where
+    vertex-low : m / d < n
+    vertex-low = div-lt-iff-lt-mul (f .d-low) .1 (rw even low)
 
-  bit-low : (name : SideName) (i x : ℕ) → i < n * d → x < d → sideBit name wiring (i / d * d + x) < n * d
-  bit-low name i x l b = side-lt w name _ (digits-lt (vertex-low i l) b)
+    bit-low : (i : ℕ) → i < d → sideBit name wiring (m / d * d + i) < N
+    bit-low i l = side-lt p name _ (rw even at (digits-lt vertex-low l))
 
-  -- check i of a side
-  side-within : n * d ≤ 512 → (name : SideName) (i : ℕ) → i < n * d → Within d wiring (checkOf d name i)
-  side-within short name i l =
-      record {
-        narrow = w .d-high;
-        digit-lt = check-digit-lt i;
-        sized = wired-fits w (i / d) (vertex-low i l);
-        bit-lt = λ x b. lt-of-lt-of-le (bit-low name i x l b) short;
-      }
-
-  side-hits : (residues columns hits : List ℕ) (name : SideName) (i : ℕ) → i < n * d → FailSet d (checkOf d name i) wiring residues columns hits
-      → (row : ℕ → ℕ) (k : ℕ) → Masks row k d residues → (p : ℕ) → p < 512
-      → rowBit hits p 0 ≡ parity (n * d) (sideCheck (sidesBy row k d n wiring name) i) (rowBit columns p)
-  unfolding mask
-  side-hits residues columns hits name i l all row k masks p b =
-      let side = sidesBy row k d n wiring name in
-      all .bits p b
-      ∙ parity-ext d _ (mask side (i % d)) _ _
-      (λ y h. ap (λ (x : ℕ). digit x (i % d) * rowBit columns p (sideBit name wiring (i / d * d + y))) (masks .each y h))
-      ∙ sym (vertex-parity side (n * d) (rowBit columns p) (i / d) (i % d) (λ y h. bit-low name i y l h))
-
-  module _ (m : ℕ) (low : m < 2 * (n * d)) where
-    pub check-within : n * d ≤ 512 → Within d wiring (checkAt d n m)
+    pub check-within : N ≤ 512 → Within d wiring (checkOf name d m)
     check-within short =
-        elim (decLe (suc m) (n * d)) [
-          | yes l ↦ rw (check-on-left d n m l) (side-within short left m l)
-          | no h ↦ rw (check-on-right d n m (omega arith)) (side-within short right (m - n * d) (omega arith))
-        ]
+        record {
+          narrow = f .d-high;
+          digit-lt = check-digit-lt m;
+          sized = fitted-vertex f (m / d) vertex-low;
+          bit-lt = λ i l. lt-of-lt-of-le (bit-low i l) short;
+        }
 
-    -- the rows that fail it are those that fail check m of the graph
-    pub hits-last : (residues columns hits : List ℕ) → FailSet d (checkAt d n m) wiring residues columns hits
-        → HitSet d n wiring residues m columns hits
-    hits-last residues columns hits all = record { rows = rows }
-      where
-        rows : (row : ℕ → ℕ) (k : ℕ) → Masks row k d residues → (p : ℕ) → p < 512
-            → rowBit hits p 0 ≡ parity (n * d) (graphCheck (sidesBy row k d n wiring) m) (rowBit columns p)
-        rows row k masks p b =
-            elim (decLe (suc m) (n * d)) [
-              | yes l ↦
-                  side-hits residues columns hits left m l (rw (check-on-left d n m l) at all) row k masks p b
-                  ∙ ap (λ (a : ℕ → ℕ). parity (n * d) a (rowBit columns p)) (sym (check-left (sidesBy row k d n wiring) m l))
-              | no h ↦
-                  side-hits residues columns hits right (m - n * d) (omega arith) (rw (check-on-right d n m (omega arith)) at all) row k masks p b
-                  ∙ ap (λ (a : ℕ → ℕ). parity (n * d) a (rowBit columns p)) (sym (check-right (sidesBy row k d n wiring) m (omega arith)))
-            ]
-
-    -- none, where no residue has the digit of the check
-    pub hits-unused : (residues columns : List ℕ) (used : ℕ) → Uses d residues used → digit used (m % d) ≡ 0
-        → HitSet d n wiring residues m columns noRows
-    hits-unused residues columns used uses unused = hits-last residues columns noRows (go d (le-refl d))
-      where
-        check : Check
-        check = checkAt d n m
-
-        go : (i : ℕ) → i ≤ d → FailSet i check wiring residues columns noRows
-        go zero h = hits-none check wiring residues columns
-        go (suc i) h =
-            let none : digit (getD residues i 0) (check .digit) ≡ 0 = rw (check-digit d n m) (uses .none i (m % d) h unused) in
-            rw add-one at (hits-kept check wiring residues columns i noRows (go i (omega arith)) (λ one. absurd (omega arith)))
+    -- what the code finds is the value of check m of a side of whose rows the residues are made
+    pub check-value : (residues : List ℕ) (rows : ℕ → ℕ) (count : ℕ)
+        → ((i : ℕ) → i < d → getD residues i 0 ≡ reduced rows count (2 ^ (d - 1 - i))) → (g : ℕ → ℕ)
+        → checkValue d (checkOf name d m) wiring residues g
+        ≡ parity N (sideCheck (record { n = n; d = d; k = count; row = rows; bit = sideBit name wiring }) m) g
+    unfolding mask
+    check-value residues rows count masks g =
+        let side : Side = record { n = n; d = d; k = count; row = rows; bit = sideBit name wiring } in
+        parity-ext d _ (mask side (m % d)) _ _
+        (λ i l. ap (λ (x : ℕ). digit x (m % d) * g (sideBit name wiring (m / d * d + i))) (masks i l))
+        ∙ sym (vertex-parity side N g (m / d) (m % d) bit-low)
 
 -- ---- a row put on the rows of a set
 
@@ -352,7 +304,7 @@ module _ (N : ℕ) (few : N ≤ 512) (checks : ℕ → ℕ → ℕ) (m : ℕ) (c
   lowest-pivot =
       first-ext N _ _ (λ p l. ap not (ap (λ (x : ℕ). eqb x 1) (hits-flag p (lt-of-lt-of-le l few)) ∙ flag-test (hit N (checks m) now p)))
 
-  pub step-spread : (p : ℕ) (left : List ℕ) → p ≡ lowestRow hits N → p < N → Spread N p hits columns left → Stores N (after N checks (m + 1)) left
+  step-spread : (p : ℕ) (left : List ℕ) → p ≡ lowestRow hits N → p < N → Spread N p hits columns left → Stores N (after N checks (m + 1)) left
   step-spread p left low inside spread =
       rw after-one-more
       (record {
@@ -363,7 +315,7 @@ module _ (N : ℕ) (few : N ≤ 512) (checks : ℕ → ℕ → ℕ) (m : ℕ) (c
             ∙ sym (stepped-row N (checks m) now q e);
       })
 
-  pub step-none : N ≤ lowestRow hits N → Stores N (after N checks (m + 1)) columns
+  step-none : N ≤ lowestRow hits N → Stores N (after N checks (m + 1)) columns
   unfolding lowestRow
   step-none none =
       rw after-one-more
@@ -376,3 +328,28 @@ module _ (N : ℕ) (few : N ≤ 512) (checks : ℕ → ℕ → ℕ) (m : ℕ) (c
           let all : lowestRow hits N ≡ N = le-antisymm (first-le N _) none in
           let clear = not-true _ (first-all-each N _ all q inside) in
           absurd (true≢false (sym h ∙ sym (flag-test _) ∙ ap (λ (x : ℕ). eqb x 1) (sym (hits-flag q l)) ∙ clear))
+
+-- ---- a check that is made
+
+module _ (N : ℕ) (few : N ≤ 512) (d : ℕ) (check : Check) (wiring residues columns : List ℕ) where
+  module _ (hits : List ℕ) (fails : FailSet d check wiring residues columns hits) where
+    pub made-spread : (p : ℕ) (left : List ℕ) → p ≡ lowestRow hits N → p < N → Spread N p hits columns left
+        → CheckMade N d check wiring residues columns left
+    made-spread p left low inside spread =
+        record {
+          rows = λ checks m same stored.
+              step-spread N few checks m columns hits stored (λ q l. fails .bits q l ∙ same (rowBit columns q)) p left low inside spread;
+        }
+
+    pub made-none : (p : ℕ) → p ≡ lowestRow hits N → N ≤ p → CheckMade N d check wiring residues columns columns
+    made-none p low none =
+        record {
+          rows = λ checks m same stored.
+              step-none N few checks m columns hits stored (λ q l. fails .bits q l ∙ same (rowBit columns q)) (rw low at none);
+        }
+
+  -- no row fails a check whose digit is in no residue
+  pub made-unused : (used : ℕ) → Uses d residues used → digit used (check .digit) ≢ 1 → CheckMade N d check wiring residues columns columns
+  made-unused used uses other =
+      let unused : digit used (check .digit) ≡ 0 = omega (arith, digit-lt used (check .digit)) in
+      made-none noRows (hits-unused check wiring residues columns d used uses unused) N (sym (lowest-past noRows N 512 few lowest-empty)) (le-refl N)

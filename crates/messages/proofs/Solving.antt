@@ -1,19 +1,18 @@
 -- The rows of a plan once all its checks are done, as the code keeps them, and the message positions among them.
 --   UnitResidues basis k d residues  entry i is what the basis leaves of the word whose one digit is at edge i (specs Columns)
---   Masks row k d residues           the same by the rows of a sheet (specs Columns)
 --   Uses d residues used             a digit that `used` does not have is in none of the first d residues (specs Columns)
---   Eliminated .. m columns          the columns hold the rows after m checks (specs Columns)
---   Solved basis k .. columns        the columns hold the rows after all checks (specs Columns)
+--   CheckMade .. columns left        `left` holds the rows of `columns` after one check more (specs Columns)
+--   Eliminated .. m columns left     `left` holds the rows of `columns` after m checks of a side more (specs Columns)
+--   Solved l r wiring columns        the columns hold the rows after all checks (specs Columns)
 --   StoredPlan plan N columns        the columns hold the final rows of an accepted plan of N edges (specs Columns)
---   Wired d n wiring                 an accepted wiring (wiring specs Checking)
---   PlanAccepted plan r d k          what a caller learns from a plan's check that accepts (wiring Plans)
+--   Fitted, Permuted, Wired          a side that fits a wiring, the edges of one, and an accepted wiring (wiring specs Checking)
+--   PlanAccepted plan r              what a caller learns from a plan's check that accepts (wiring Plans)
 -- Laws are named by their subject, then by the fact: `residues-` is about the masks, `uses-` about the digits in use, `eliminated-` about
--- the checks in turn, `plan-` about an accepted plan.
+-- the checks of a side in turn, `side-` and `solved-` about those of a plan, `plan-` about an accepted plan.
 use Prim.Native.Nat.{ℕ, _+_, _-_, _*_, _/_, _%_, _^_, _≤_, _<_, min}
-use mathlib.Core.List.{List}
-use mathlib.Core.Logic.{_≢_}
-use mathlib.Core.Path.{_≡_, sym, ap, ap₂, _∙_}
-use native.Mathlib.Nat.{min-eq-left, ne-of-lt, le-refl}
+use mathlib.Core.List.{List, []}
+use mathlib.Core.Path.{_≡_, refl, sym, ap, ap₂, _∙_}
+use native.Mathlib.Nat.{add-zero, zero-add, add-assoc, min-eq-left, ne-of-lt}
 use native.Mathlib.Decide.{ℕ-discrete}
 use native.Mathlib.Omega.{arith}
 use lib.Bits.{bitOr, or-add-and, and-le-l, and-le-r, or-shr, or-mod}
@@ -22,19 +21,23 @@ use lib.Seq.{getD-set-same, getD-set-other}
 use borrow.Author.Count.{below-more}
 use Rattle.bits.specs.Window.{at}
 use Rattle.bits.specs.Bit.{digit}
-use Rattle.bits.proofs.Xor.{digit-lt}
-use Rattle.inner_code.specs.Reduction.{reducedBy, withEchelon}
+use Rattle.inner_code.specs.Reply.{done}
+use Rattle.inner_code.specs.Reduction.{reduced, reducedBy, withEchelon}
 use Rattle.inner_code.specs.Sheet.{rowOf}
-use Rattle.inner_code.specs.declared.sheet.CheckedSheet.{CheckedSheet}
 use Rattle.inner_code.proofs.EchelonForm.{reducedBy-stored}
-use Rattle.wiring.specs.Plan.{Plan, edgeCount}
-use Rattle.wiring.specs.Checking.{Wired}
-use Rattle.wiring.proofs.Plans.{PlanAccepted}
-use Rattle.messages.specs.Elimination.{after, start, graphCheck, planChecks, finalState}
-use Rattle.messages.specs.Columns.{noRows, UnitResidues, Masks, Uses, sidesBy, Stores, HitSet}
-use Rattle.messages.specs.Columns.{lowestRow, Spread, Eliminated, Solved, StoredPlan}
+use Rattle.wiring.specs.Plan.{Plan, edgeCount, left, right, sheetOf, sideOf}
+use Rattle.wiring.specs.Wiring.{planCheck}
+use Rattle.wiring.specs.Access.{bothCodes}
+use Rattle.wiring.specs.Checking.{Fitted, Permuted, Wired, codeOf}
+use Rattle.wiring.specs.declared.plan.CheckedPlan.{CheckedPlan}
+use Rattle.wiring.specs.declared.side.SideCode.{SideCode}
+use Rattle.wiring.specs.declared.side.SideName.{SideName}
+use Rattle.wiring.proofs.Plans.{PlanAccepted, plan-sound, accepted-edges}
+use Rattle.messages.specs.Elimination.{parity, after, start, sideCheck, planChecks, finalState}
+use Rattle.messages.specs.Columns.{UnitResidues, Uses, Stores, checkOf, CheckMade, Eliminated, Solved, StoredPlan}
 use Rattle.messages.proofs.Elimination.{after-zero}
-use Rattle.messages.proofs.Pivots.{lowest-empty, lowest-past, hits-unused, step-spread, step-none}
+use Rattle.messages.proofs.Checks.{check-left, check-past}
+use Rattle.messages.proofs.Pivots.{check-value}
 
 -- ---- the masks
 
@@ -53,15 +56,13 @@ module _ (basis : List ℕ) (k d : ℕ) where
       → ((q : ℕ) → q < i → getD residues q 0 ≡ reducedBy (at basis) (min k 11) (2 ^ (d - 1 - q))) → i ≡ d → UnitResidues basis k d residues
   residues-last i residues all last = record { each = λ q l. all q (rw last l) }
 
+-- the same by the rows of the sheet
 residues-masks : (row : ℕ → ℕ) (basis : List ℕ) (k d : ℕ) (residues : List ℕ) → UnitResidues basis k d residues
-    → basis ≡ withEchelon row k (replicate 11 0) → k ≤ 11 → Masks row k d residues
-residues-masks row basis k d residues units stored few =
-    record {
-      each = λ i l.
-          units .each i l
-          ∙ ap₂ (λ (b : List ℕ) (m : ℕ). reducedBy (at b) m (2 ^ (d - 1 - i))) stored (min-eq-left few)
-          ∙ reducedBy-stored row k (replicate 11 0) (2 ^ (d - 1 - i)) few;
-    }
+    → basis ≡ withEchelon row k (replicate 11 0) → k ≤ 11 → (i : ℕ) → i < d → getD residues i 0 ≡ reduced row k (2 ^ (d - 1 - i))
+residues-masks row basis k d residues units stored few i l =
+    units .each i l
+    ∙ ap₂ (λ (b : List ℕ) (m : ℕ). reducedBy (at b) m (2 ^ (d - 1 - i))) stored (min-eq-left few)
+    ∙ reducedBy-stored row k (replicate 11 0) (2 ^ (d - 1 - i)) few
 
 -- ---- the digits in use
 
@@ -86,67 +87,71 @@ uses-one-more i residues used so-far = record { none = go }
           | no earlier ↦ so-far .none q j (omega arith) before
         ]
 
--- ---- the checks in turn
+-- ---- the checks of a side in turn
 
-module _ {d n : ℕ} {wiring : List ℕ} (w : Wired d n wiring) (short : n * d ≤ 512) (residues : List ℕ) where
-  pub eliminated-start : (columns : List ℕ) → Stores (n * d) (start (n * d)) columns → Eliminated d n wiring residues 0 columns
-  eliminated-start columns stored = record { rows = λ row k masks. rw after-zero stored }
+module _ {N : ℕ} (name : SideName) (code : SideCode) {wiring : List ℕ} (columns : List ℕ) where
+  pub eliminated-none : Eliminated N name code wiring 0 columns columns
+  eliminated-none = record { rows = λ row stored few checks first same s. rw add-zero s }
 
-  module _ (m : ℕ) (columns hits : List ℕ) (earlier : Eliminated d n wiring residues m columns)
-      (fails : HitSet d n wiring residues m columns hits) where
-    pub eliminated-spread : (p : ℕ) (left : List ℕ) → p ≡ lowestRow hits (n * d) → p < n * d → Spread (n * d) p hits columns left
-        → Eliminated d n wiring residues (m + 1) left
-    eliminated-spread p left low inside spread =
-        record {
-          rows = λ row k masks.
-              step-spread (n * d) short (graphCheck (sidesBy row k d n wiring)) m columns hits (earlier .rows row k masks) (fails .rows row k masks)
-              p left low inside spread;
-        }
+  pub eliminated-one-more : Fitted (code .d) (code .n) wiring → code .n * code .d ≡ N → Permuted N wiring
+      → (residues : List ℕ) → UnitResidues (code .basis) (code .k) (code .d) residues
+      → (m : ℕ) → m < N → (so-far : List ℕ) → Eliminated N name code wiring m columns so-far
+      → (next : List ℕ) → CheckMade N (code .d) (checkOf name (code .d) m) wiring residues so-far next
+      → Eliminated N name code wiring (m + 1) columns next
+  eliminated-one-more f even p residues units m low so-far earlier next made =
+      record {
+        rows = λ row stored few checks first same s.
+            let here = check-value f even p name m low residues row (code .k) (residues-masks row _ _ _ residues units stored few) in
+            rw (← add-assoc first m 1)
+            (made .rows checks (first + m) (λ g. here g ∙ ap (λ (a : ℕ → ℕ). parity N a g) (sym (same m (omega arith))))
+            (earlier .rows row stored few checks first (λ i l. same i (omega arith)) s));
+      }
 
-    pub eliminated-none : (p : ℕ) → p ≡ lowestRow hits (n * d) → n * d ≤ p → Eliminated d n wiring residues (m + 1) columns
-    eliminated-none p low none =
-        record {
-          rows = λ row k masks.
-              step-none (n * d) short (graphCheck (sidesBy row k d n wiring)) m columns hits (earlier .rows row k masks) (fails .rows row k masks)
-              (rw low at none);
-        }
+-- ---- both sides of an accepted plan
 
-  -- no row fails a check whose digit is in no residue
-  pub eliminated-unused : (m : ℕ) → m < 2 * (n * d) → (columns : List ℕ) (used : ℕ) → Uses d residues used → (used / 2 ^ (m % d)) % 2 ≢ 1
-      → Eliminated d n wiring residues m columns → Eliminated d n wiring residues (m + 1) columns
-  unfolding digit
-  eliminated-unused m low columns used uses apart earlier =
-      eliminated-none m columns noRows earlier (hits-unused w m low residues columns used uses (omega (arith, digit-lt used (m % d)))) (n * d)
-      (sym (lowest-past noRows (n * d) 512 short lowest-empty)) (le-refl (n * d))
+-- the checks of a side, after those of the plan that come before them
+side-made : (plan : Plan) → planCheck plan ≡ done [] → (name : SideName) (code : SideCode) → code ≡ codeOf plan name
+    → (columns left : List ℕ) (m : ℕ) → Eliminated (edgeCount plan) name code (plan .wiring) m columns left → (first : ℕ)
+    → ((i : ℕ) → i < m → planChecks plan (first + i) ≡ sideCheck (sideOf plan name) i)
+    → Stores (edgeCount plan) (after (edgeCount plan) (planChecks plan) first) columns
+    → Stores (edgeCount plan) (after (edgeCount plan) (planChecks plan) (first + m)) left
+side-made plan accepted name code held columns left m made first same =
+    (rw held at made) .rows (rowOf (sheetOf plan name)) refl (plan-sound plan accepted .0 name .count-high) (planChecks plan) first same
 
-  pub eliminated-all : (basis : List ℕ) (k : ℕ) (columns : List ℕ) → UnitResidues basis k d residues
-      → Eliminated d n wiring residues (2 * (n * d)) columns → Solved basis k d n wiring columns
-  eliminated-all basis k columns units all =
-      record { rows = λ row stored few. all .rows row k (residues-masks row basis k d residues units stored few) }
+pub solved-both : (l r : SideCode) {wiring : List ℕ} (units half whole : List ℕ) → Stores (l .n * l .d) (start (l .n * l .d)) units
+    → Eliminated (l .n * l .d) left l wiring (l .n * l .d) units half → Eliminated (l .n * l .d) right r wiring (l .n * l .d) half whole
+    → Solved l r wiring whole
+unfolding finalState planChecks
+solved-both l r units half whole started first second =
+    record {
+      rows = λ plan accepted wired same.
+          let N = edgeCount plan in
+          let edges : l .n * l .d ≡ N = rw (same left) in
+          let begun : Stores N (after N (planChecks plan) 0) units = rw after-zero (rw edges at started) in
+          let left-done = side-made plan accepted left l (same left) units half N (rw (edges, ← wired) at first) 0
+          (λ i h. rw zero-add (check-left (sideOf plan) i h)) begun in
+          let both-done = side-made plan accepted right r (same right) half whole N (rw (edges, ← wired) at second) N
+          (λ i h. check-past (sideOf plan) i) (rw zero-add at left-done) in
+          let twice : N + N ≡ 2 * N = omega arith in
+          rw twice at both-done;
+    }
 
 -- ---- an accepted plan
 
-module _ (plan : Plan) (r : CheckedSheet) (d k : ℕ) (a : PlanAccepted plan r d k) where
-  pub plan-wired-by : Wired d (plan .n) (plan .wiring)
-  plan-wired-by = rw (a .d-is) (a .plan-wired)
+module _ (plan : Plan) (r : CheckedPlan) (a : PlanAccepted plan r) where
+  pub plan-wired-by : Wired (r .left .d) (r .right .d) (r .left .n) (r .right .n) (plan .wiring)
+  plan-wired-by = rw (a .code-is left, a .code-is right) (a .plan-wired)
 
-  pub plan-edges : plan .n * d ≡ edgeCount plan
-  plan-edges = ap (λ (x : ℕ). plan .n * x) (a .d-is)
-
-  pub plan-stored : (columns : List ℕ) → plan .n * d ≤ 512 → Solved (r .basis) k d (plan .n) (plan .wiring) columns
-      → StoredPlan plan (plan .n * d) columns
-  unfolding finalState planChecks
+  pub plan-stored : (columns : List ℕ) → r .left .n * r .left .d ≤ 512 → Solved (r .left) (r .right) (plan .wiring) columns
+      → StoredPlan plan (r .left .n * r .left .d) columns
   plan-stored columns short solved =
       record {
         accepted = a .plan-done;
-        edges = plan-edges;
+        edges = accepted-edges a;
         short = short;
-        stored = rw (a .d-is) (rw (a .d-is, a .k-is) at final);
+        stored = rw (accepted-edges a) (solved .rows plan (a .plan-done) refl go);
       }
     where
-      echelon : r .basis ≡ withEchelon (rowOf (plan .sheet)) k (replicate 11 0)
-      echelon = a .basis-is ∙ ap (λ (m : ℕ). withEchelon (rowOf (plan .sheet)) m (replicate 11 0)) (sym (a .k-is))
-
-      final : Stores (plan .n * d)
-          (after (plan .n * d) (graphCheck (sidesBy (rowOf (plan .sheet)) k d (plan .n) (plan .wiring))) (2 * (plan .n * d))) columns
-      final = solved .rows (rowOf (plan .sheet)) echelon (rw (a .k-is) (a .sheet-sound .count-high))
+      go : (name : SideName) → bothCodes (r .left) (r .right) name ≡ codeOf plan name
+      go SideName.Left = a .code-is left
+      go SideName.Right = a .code-is right

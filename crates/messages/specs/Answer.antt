@@ -1,6 +1,6 @@
 -- What the services of this layer answer, and what they leave in the lent output.
---   encodeAnswer, encodeOutput   the encoder: 1 to 10, 19, 20, 21, 13, or no value; its output at exit
---   readAnswer, readOutput       the reader: 1 to 10, 19, 11, 12, 22, 13, or no value; its output at exit
+--   encodeAnswer, encodeOutput   the encoder: 1 to 10, 23, 19, 20, 21, 13, or no value; its output at exit
+--   readAnswer, readOutput       the reader: 1 to 10, 23, 19, 11, 12, 22, 13, or no value; its output at exit
 --   encodeReply, takenReply      the paper's number, place and values for each case of an answer in the code
 use Prim.Native.Nat.{ℕ}
 use mathlib.Core.List.{List, []}

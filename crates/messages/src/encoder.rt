@@ -6,7 +6,6 @@ use crate::columns::row_bit;
 use crate::output::clear;
 use crate::solver::solve;
 use inner_code::Refusal;
-use inner_code::Sheet;
 use inner_code::refusal;
 use wiring::Checked;
 use wiring::check_bits;
@@ -26,26 +25,34 @@ pub enum Encoded {
 }
 
 // Writes the one codeword that has the message's bits at the message positions, in rising order, to the front of `output`. The
-// message's first bit has weight 128. Refusals 1 to 10, 19, 20, 21 and 13; a refusal writes nothing.
-pub fn encode(sheet: &[u8], n: usize, wiring: &[u8], message: &[u8], output: &mut [u8]) -> Encoded
-    ensures { λ r. ⌜ encodeReply r ≡ encodeAnswer (planOf (now (sheet .entry)) n (now (wiring .entry))) (now (message .entry)) (now (output .entry)) ⌝ }
-    ensures { λ _. ⌜ now (output .exit) ≡ encodeOutput (planOf (now (sheet .entry)) n (now (wiring .entry))) (now (message .entry)) (now (output .entry)) ⌝ }
+// message's first bit has weight 128. Refusals 1 to 10, 23, 19, 20, 21 and 13; a refusal writes nothing.
+pub fn encode(
+    left: &[u8],
+    right: &[u8],
+    nl: usize,
+    nr: usize,
+    wiring: &[u8],
+    message: &[u8],
+    output: &mut [u8],
+) -> Encoded
+    ensures { λ r. ⌜ encodeReply r ≡ encodeAnswer (planOf (now (left .entry)) (now (right .entry)) nl nr (now (wiring .entry))) (now (message .entry)) (now (output .entry)) ⌝ }
+    ensures { λ _. ⌜ now (output .exit) ≡ encodeOutput (planOf (now (left .entry)) (now (right .entry)) nl nr (now (wiring .entry))) (now (message .entry)) (now (output .entry)) ⌝ }
 {
-    let checked = check_plan(sheet, n, wiring);
-    let values = checked.sheet;
-    match values {
-        Sheet::Refused(r) => Encoded::Refused(r),
-        Sheet::Accepted { d, k } => {
-            if MAX_EDGES < n * d {
+    let plan = check_plan(left, right, nl, nr, wiring);
+    let checked = plan.checked;
+    match checked {
+        Checked::Refused(r) => Encoded::Refused(r),
+        Checked::Passed => {
+            let edges = plan.left.n * plan.left.d;
+            if MAX_EDGES < edges {
                 return Encoded::Refused(Refusal {
                     number: refusal::PLAN_TOO_LARGE,
                     place: 0,
                 });
             }
-            let basis = checked.basis;
             let mut columns = [0u64; COLUMN_WORDS];
-            solve(&basis, k, d, n, wiring, &mut columns[..]);
-            encode_rows(n * d, &columns[..], message, output)
+            solve(plan.left, plan.right, wiring, &mut columns[..]);
+            encode_rows(edges, &columns[..], message, output)
         }
     }
 }

@@ -6,7 +6,6 @@ use crate::columns::row_bit;
 use crate::output::clear;
 use crate::solver::solve;
 use inner_code::Refusal;
-use inner_code::Sheet;
 use inner_code::refusal;
 use wiring::Checked;
 use wiring::Located;
@@ -28,26 +27,34 @@ pub enum Taken {
 }
 
 // Writes the message that a codeword block carries, its bits at the message positions in rising order, to the front of `output`.
-// Refusals 1 to 10, 19, 11, 12, 22 and 13; a refusal writes nothing.
-pub fn read_block(sheet: &[u8], n: usize, wiring: &[u8], block: &[u8], output: &mut [u8]) -> Taken
-    ensures { λ r. ⌜ takenReply r ≡ readAnswer (planOf (now (sheet .entry)) n (now (wiring .entry))) (now (block .entry)) (now (output .entry)) ⌝ }
-    ensures { λ _. ⌜ now (output .exit) ≡ readOutput (planOf (now (sheet .entry)) n (now (wiring .entry))) (now (block .entry)) (now (output .entry)) ⌝ }
+// Refusals 1 to 10, 23, 19, 11, 12, 22 and 13; a refusal writes nothing.
+pub fn read_block(
+    left: &[u8],
+    right: &[u8],
+    nl: usize,
+    nr: usize,
+    wiring: &[u8],
+    block: &[u8],
+    output: &mut [u8],
+) -> Taken
+    ensures { λ r. ⌜ takenReply r ≡ readAnswer (planOf (now (left .entry)) (now (right .entry)) nl nr (now (wiring .entry))) (now (block .entry)) (now (output .entry)) ⌝ }
+    ensures { λ _. ⌜ now (output .exit) ≡ readOutput (planOf (now (left .entry)) (now (right .entry)) nl nr (now (wiring .entry))) (now (block .entry)) (now (output .entry)) ⌝ }
 {
-    let checked = check_plan(sheet, n, wiring);
-    let values = checked.sheet;
-    match values {
-        Sheet::Refused(r) => Taken::Refused(r),
-        Sheet::Accepted { d, k } => {
-            if MAX_EDGES < n * d {
+    let plan = check_plan(left, right, nl, nr, wiring);
+    let checked = plan.checked;
+    match checked {
+        Checked::Refused(r) => Taken::Refused(r),
+        Checked::Passed => {
+            let edges = plan.left.n * plan.left.d;
+            if MAX_EDGES < edges {
                 return Taken::Refused(Refusal {
                     number: refusal::PLAN_TOO_LARGE,
                     place: 0,
                 });
             }
-            let basis = checked.basis;
-            match check_block(n * d, block) {
+            match check_block(edges, block) {
                 Checked::Refused(r) => Taken::Refused(r),
-                Checked::Passed => match first_unsatisfied(&basis, k, d, n, wiring, block) {
+                Checked::Passed => match first_unsatisfied(plan.left, plan.right, wiring, block) {
                     Located::Refused(r) => Taken::Refused(r),
                     Located::At { side: _, vertex: _ } => Taken::Refused(Refusal {
                         number: refusal::NO_CODEWORD,
@@ -55,8 +62,8 @@ pub fn read_block(sheet: &[u8], n: usize, wiring: &[u8], block: &[u8], output: &
                     }),
                     Located::Nowhere => {
                         let mut columns = [0u64; COLUMN_WORDS];
-                        solve(&basis, k, d, n, wiring, &mut columns[..]);
-                        take_message(n * d, &columns[..], block, output)
+                        solve(plan.left, plan.right, wiring, &mut columns[..]);
+                        take_message(edges, &columns[..], block, output)
                     }
                 },
             }

@@ -2,13 +2,14 @@
 use crate::columns::add_column;
 use crate::columns::row_bit;
 use crate::columns::unit_columns;
+use wiring::SideCode;
 use wiring::SideName;
 ghost use mathlib.Core.Path.{_≡_};
 ghost use Prim.Native.Nat.{_+_, _*_, _<_, _≤_};
 ghost use lib.ListN.{length};
 ghost use Rattle.wiring.specs.Plan.{sideBit};
-ghost use Rattle.wiring.specs.Checking.{Wired};
-ghost use Rattle.messages.specs.Columns.{noColumns, noRows, UnitResidues, Uses, checkAt, Within, FailSet, lowestRow, Spread, Eliminated, Solved};
+ghost use Rattle.wiring.specs.Checking.{Fitted, Permuted, Wired};
+ghost use Rattle.messages.specs.Columns.{noColumns, noRows, UnitResidues, Uses, Within, FailSet, lowestRow, Spread, CheckMade, Eliminated, Solved};
 
 // One check: a digit of what the reduction leaves at a vertex, of which `base` is the first entry on its side.
 struct Check {
@@ -17,24 +18,42 @@ struct Check {
     digit: usize,
 }
 
-// Finds the rows of an accepted plan of at most 512 edges: a row is left for each message position, and the others are 0.
-pub(crate) fn solve(
-    basis: &[u16; 11],
-    k: usize,
-    d: usize,
-    n: usize,
-    wiring: &[u8],
-    columns: &mut [u64],
-)
-    requires { ⌜ Wired d n (now wiring) ⌝ }
-    requires { ⌜ n * d ≤ 512 ⌝ }
+// Finds the rows of an accepted plan of at most 512 edges by its sides: a row is left for each message position, and the others are 0.
+pub(crate) fn solve(left: SideCode, right: SideCode, wiring: &[u8], columns: &mut [u64])
+    requires { ⌜ Wired (left .d) (right .d) (left .n) (right .n) (now wiring) ⌝ }
+    requires { ⌜ left .n * left .d ≤ 512 ⌝ }
     requires { ⌜ now columns ≡ noColumns ⌝ }
-    ensures { λ _. ⌜ Solved (now (basis .entry)) k d n (now (wiring .entry)) (now (columns .exit)) ⌝ }
+    ensures { λ _. ⌜ Solved left right (now (wiring .entry)) (now (columns .exit)) ⌝ }
 {
+    let edges = left.n * left.d;
+    unit_columns(edges, columns);
+    eliminate(SideName::Left, left, edges, wiring, columns);
+    eliminate(SideName::Right, right, edges, wiring, columns);
+}
+
+// All checks of a side in order. Where no residue has the check's digit, no row can fail it.
+fn eliminate(side: SideName, code: SideCode, edges: usize, wiring: &[u8], columns: &mut [u64])
+    requires { ⌜ Fitted (code .d) (code .n) (now wiring) ⌝ }
+    requires { ⌜ code .n * code .d ≡ edges ⌝ }
+    requires { ⌜ Permuted edges (now wiring) ⌝ }
+    requires { ⌜ edges ≤ 512 ⌝ }
+    requires { ⌜ length (now columns) ≡ 4096 ⌝ }
+    ensures { λ _. ⌜ Eliminated edges side code (now (wiring .entry)) edges (now (columns .entry)) (now (columns .exit)) ⌝ }
+{
+    let basis = code.basis;
     let mut residues = [0u16; 16];
-    unit_residues(basis, k, d, &mut residues[..]);
-    unit_columns(n * d, columns);
-    eliminate(&residues[..], d, n, wiring, columns);
+    unit_residues(&basis, code.k, code.d, &mut residues[..]);
+    let used = used_digits(&residues[..], code.d);
+    let mut m: usize = 0;
+    while m < edges {
+        let digit = m % code.d;
+        if (used >> digit) % 2 == 1 {
+            let base = m / code.d * code.d;
+            let check = Check { side, base, digit };
+            put_check(check, edges, &residues[..], code.d, wiring, columns);
+        }
+        m += 1;
+    }
 }
 
 // What the basis leaves of each word with a single 1, that at edge i as entry i.
@@ -47,26 +66,6 @@ fn unit_residues(basis: &[u16; 11], k: usize, d: usize, residues: &mut [u16])
     while i < d {
         residues[i] = inner_code::residue(basis, k, 1u16 << (d - 1 - i));
         i += 1;
-    }
-}
-
-// All checks in order. Where no residue has the check's digit, no row can fail it.
-fn eliminate(residues: &[u16], d: usize, n: usize, wiring: &[u8], columns: &mut [u64])
-    requires { ⌜ Wired d n (now wiring) ⌝ }
-    requires { ⌜ n * d ≤ 512 ⌝ }
-    requires { ⌜ length (now residues) ≡ 16 ⌝ }
-    requires { ⌜ length (now columns) ≡ 4096 ⌝ }
-    requires { ⌜ Eliminated d n (now wiring) (now residues) 0 (now columns) ⌝ }
-    ensures { λ _. ⌜ Eliminated d n (now (wiring .entry)) (now (residues .entry)) (2 * (n * d)) (now (columns .exit)) ⌝ }
-{
-    let used = used_digits(residues, d);
-    let checks = 2 * (n * d);
-    let mut m: usize = 0;
-    while m < checks {
-        if (used >> (m % d)) % 2 == 1 {
-            put_check(m, residues, d, n, wiring, columns);
-        }
-        m += 1;
     }
 }
 
@@ -85,55 +84,26 @@ fn used_digits(residues: &[u16], d: usize) -> u16
     used
 }
 
-// Check m done: its pivot, the lowest row that fails it, is put on every row that fails, and so is 0 from then on.
-fn put_check(m: usize, residues: &[u16], d: usize, n: usize, wiring: &[u8], columns: &mut [u64])
-    requires { ⌜ m < 2 * (n * d) ⌝ }
-    requires { ⌜ Wired d n (now wiring) ⌝ }
-    requires { ⌜ n * d ≤ 512 ⌝ }
+// A check done: its pivot, the lowest row that fails it, is put on every row that fails, and so is 0 from then on.
+fn put_check(
+    check: Check,
+    edges: usize,
+    residues: &[u16],
+    d: usize,
+    wiring: &[u8],
+    columns: &mut [u64],
+)
+    requires { ⌜ Within d (now wiring) check ⌝ }
+    requires { ⌜ edges ≤ 512 ⌝ }
     requires { ⌜ length (now residues) ≡ 16 ⌝ }
     requires { ⌜ length (now columns) ≡ 4096 ⌝ }
-    requires { ⌜ Eliminated d n (now wiring) (now residues) m (now columns) ⌝ }
-    ensures { λ _. ⌜ Eliminated d n (now (wiring .entry)) (now (residues .entry)) (m + 1) (now (columns .exit)) ⌝ }
+    ensures { λ _. ⌜ CheckMade edges d check (now (wiring .entry)) (now (residues .entry)) (now (columns .entry)) (now (columns .exit)) ⌝ }
 {
-    let edges = n * d;
     let mut hits = [0u64; 8];
-    find_hits(
-        check_at(m, d, n),
-        residues,
-        d,
-        wiring,
-        columns,
-        &mut hits[..],
-    );
+    find_hits(check, residues, d, wiring, columns, &mut hits[..]);
     let pivot = lowest(edges, &hits[..]);
     if pivot < edges {
         spread(edges, pivot, &hits[..], columns);
-    }
-}
-
-// Check m: the digits of the left vertices in turn, and then those of the right ones.
-fn check_at(m: usize, d: usize, n: usize) -> Check
-    requires { ⌜ 1 ≤ d ⌝ }
-    requires { ⌜ n * d ≤ 512 ⌝ }
-    ensures { λ r. ⌜ r ≡ checkAt d n m ⌝ }
-{
-    let edges = n * d;
-    if m < edges {
-        let base = m / d * d;
-        let digit = m % d;
-        return Check {
-            side: SideName::Left,
-            base,
-            digit,
-        };
-    }
-    let i = m - edges;
-    let base = i / d * d;
-    let digit = i % d;
-    Check {
-        side: SideName::Right,
-        base,
-        digit,
     }
 }
 

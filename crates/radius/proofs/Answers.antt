@@ -1,28 +1,24 @@
 -- The services' answers, outcome by outcome, and what they say.
 -- The notions, of specs/Answer.antt:
---   spreadAnswer plan              1 to 10, or the spread R
---   marginAnswer plan F            1 to 10, 17, 18, or the sweeps named for F flips
+--   spreadAnswer plan              1 to 10 and 23, or the spread R
+--   marginAnswer plan F            1 to 10, 23, 17, 18, or the sweeps named for F flips
 --   marginOf plan F                the sweeps named, 0 where F is not covered
 -- and here
 --   Covered plan F q               the plan is accepted, F flips are covered, and q sweeps are named for them
--- Names: the service first (spread, margin), then the outcome. margin-means leads from the answer back to what it says;
--- pair-bound-plan is what the spread says.
-use Prim.Native.Nat.{ℕ, _*_, _≤_, _<_}
-use mathlib.Core.Bool.{Bool}
+-- Names: the service first (spread, margin), then the outcome. margin-means leads from the answer back to what it says.
+use Prim.Native.Nat.{ℕ, _≤_, _<_}
 use mathlib.Core.List.{List, [], _∷_}
 use mathlib.Core.Logic.{_≢_}
 use mathlib.Core.Path.{_≡_, refl, sym, _∙_}
 use lib.Dec.{ltb, eqb}
 use borrow.Author.Tests.{lt-ltb, le-ltb, ltb-false, eq-eqb, ne-eqb, eqb-false}
-use Rattle.bits.specs.Sum.{gap}
 use Rattle.inner_code.specs.Reply.{done, refused, refuseIf, andThen}
 use Rattle.inner_code.proofs.Replies.{refuse-taken, refuse-passed, refuse-done, andThen-passed, andThen-refused, andThen-done}
-use Rattle.wiring.specs.Plan.{Plan, edgeCount, left, right, sideOf}
-use Rattle.wiring.specs.Wiring.{planCheck, edgesBetween}
-use Rattle.wiring.proofs.Plans.{plan-done, plan-joined}
-use Rattle.radius.specs.Spread.{spread, size, edgesInside}
+use Rattle.wiring.specs.Plan.{Plan, edgeCount, sideOf}
+use Rattle.wiring.specs.Wiring.{planCheck}
+use Rattle.wiring.proofs.Plans.{plan-done}
+use Rattle.radius.specs.Spread.{spread}
 use Rattle.radius.specs.Answer.{marginOf, spreadAnswer, marginAnswer}
-use Rattle.radius.proofs.Graph.{pair-bound-joined}
 
 pub record Covered (plan : Plan) (F q : ℕ) : Type 0 where
   pub accepted : planCheck plan ≡ done []
@@ -75,15 +71,3 @@ module _ (plan : Plan) where
         let (covered, answer) = refuse-done _ 18 0 _ (q ∷ []) end in
         let named : q ≡ marginOf plan F = cc answer in
         record { accepted = plan-done plan accepted; within = ltb-false _ F inside; named = named; some = rw named (eqb-false _ 0 covered) }
-
--- ---- what the spread says
-
--- with s left vertices in S, t right vertices in T and e edges between them: the square of n·e - d·s·t is at most n·R·s·t
-pub pair-bound-plan : (plan : Plan) → planCheck plan ≡ done [] → (S T : ℕ → Bool)
-    → let n : ℕ = sideOf plan right .n in
-    let d : ℕ = sideOf plan left .d in
-    let s : ℕ = size (sideOf plan left .n) S in
-    let t : ℕ = size n T in
-    let e : ℕ = edgesInside (sideOf plan left .n) n (edgesBetween (sideOf plan)) S T in
-    gap (n * e) (d * (s * t)) * gap (n * e) (d * (s * t)) ≤ n * (spread (sideOf plan) * (s * t))
-pair-bound-plan plan accepted = pair-bound-joined (plan-joined plan accepted)

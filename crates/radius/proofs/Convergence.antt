@@ -6,7 +6,7 @@
 --   Joined N sides                    both sides have all N bits (wiring Permutation)
 --   vertexOf N side e                 the vertex of a side that has bit e (wiring Edges)
 -- and here
---   measuresBy N sides D              the measures of two sides whose inner codes have the distances D
+--   measuresOn N sides D              the measures of two sides whose inner codes have the distances D
 --   wrongAt side wrong v              how many bits of vertex v are wrong
 --   someWrong side wrong v            some bit of vertex v is wrong
 --   leaves i v                        sweep i + 1 leaves a wrong bit at vertex v of the side that it goes over
@@ -37,8 +37,8 @@ use Rattle.radius.proofs.PairBound.{slackBy, flag-part, size-demand}
 use Rattle.radius.proofs.MarginChain.{firstBound, sweepsFrom, chain-reaches, covered-slack, named-is, named-small}
 use Rattle.radius.proofs.Graph.{step-joined}
 
-abbrev pub measuresBy : ℕ → (SideName → Side) → (SideName → ℕ) → Measures
-measuresBy N sides D = record { edges = N; n = sides right .n; d = sides left .d; distance = D; spread = spread sides }
+abbrev pub measuresOn : ℕ → (SideName → Side) → (SideName → ℕ) → Measures
+measuresOn N sides D = record { edges = N; n = sides right .n; d = sides left .d; distance = D; spread = spread sides }
 
 unfoldable pub wrongAt : Side → (ℕ → Bool) → ℕ → ℕ
 unfolding sum flag
@@ -96,7 +96,7 @@ module _ {N : ℕ} {sides : SideName → Side} (g : Joined N sides) where
       (mend : (i v : ℕ) → v < sides (turn i) .n → 2 * wrongAt (sides (turn i)) (wrong i) v < D (turn i)
       → (j : ℕ) → j < sides (turn i) .d → wrong (suc i) (sides (turn i) .bit (v * sides (turn i) .d + j)) ≡ false) where
     abbrev m : Measures
-    m = measuresBy N sides D
+    m = measuresOn N sides D
 
     leaves : ℕ → ℕ → Bool
     leaves i = someWrong (sides (turn i)) (wrong (suc i))

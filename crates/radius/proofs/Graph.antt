@@ -1,7 +1,7 @@
 -- The spread of an accepted wiring bounds how unevenly edges fall between two sets of vertices. The sides may differ.
 -- The notions, of specs/Spread.antt, wiring's Permutation and Edges:
 --   edgesBetween sides u v           the number of edges between left vertex u and right vertex v (wiring specs Wiring)
---   meeting, unevenness, spread      the paper's meeting number G, a row sum of |n·G - d·d|, and the largest of these, R
+--   meeting, unevenness, spread      the paper's meeting number G, a row sum of |nr·G - dl·dl|, and the largest of these, R
 --   size n S, edgesInside ..         how many vertices are in S; how many edges run between S and T
 --   Joined N sides                   both sides have all N bits, the left one in their order
 --   vertexOf N side e                the vertex of a side that has bit e
@@ -9,19 +9,24 @@
 -- Names: the subject first (spread, inside), then the fact.
 --   spread-bounds, spread-attained, spread-even     the spread is the largest unevenness
 --   inside-right, inside-left                       the edges between two sets, counted at their right or left ends
--- The theorems are pair-bound-joined, the pair bound of document 01, and its step from a set of one side to a set of the other, step-joined.
+-- The theorems are pair-bound-joined, the pair bound of documents 01 and 02, its step from a set of one side to a set of the other,
+-- step-joined, and the pair bound of every accepted plan, pair-bound-plan.
 use Prim.Native.Nat.{ℕ, _+_, _*_, _≤_, _<_}
 use mathlib.Core.Bool.{Bool, true}
+use mathlib.Core.List.{[]}
 use mathlib.Core.Path.{_≡_, sym, ap, _∙_}
-use native.Mathlib.Nat.{mul-comm}
+use native.Mathlib.Nat.{mul-assoc, mul-comm}
 use Rattle.bits.specs.Sum.{sum, gap, flag}
 use Rattle.bits.proofs.Sums.{sum-ext, sum-scale}
 use Rattle.bits.proofs.Searches.{largest-bounds, largest-attained}
-use Rattle.wiring.specs.Plan.{Side, left, right}
-use Rattle.wiring.specs.Wiring.{edgesBetween}
+use Rattle.inner_code.specs.Reply.{done}
+use Rattle.inner_code.specs.Sheet.{degree}
+use Rattle.wiring.specs.Plan.{Plan, Side, left, right, sideOf}
+use Rattle.wiring.specs.Wiring.{edgesBetween, planCheck}
 use Rattle.wiring.specs.declared.side.SideName.{SideName}
 use Rattle.wiring.proofs.Permutation.{Joined, entry-lt}
 use Rattle.wiring.proofs.Edges.{vertexOf, vertex-of-left, edges-into, edges-from, edges-row}
+use Rattle.wiring.proofs.Plans.{plan-joined}
 use Rattle.decoder.specs.Sweep.{other}
 use Rattle.radius.specs.Spread.{meeting, unevenness, spread, size, edgesInside}
 use Rattle.radius.proofs.PairBound.{slackBy, edgesInto, inside-into, pair-bound, size-demand, step-left, step-right}
@@ -60,7 +65,7 @@ module _ {N : ℕ} {sides : SideName → Side} (g : Joined N sides) where
   abbrev dr : ℕ
   dr = sides right .d
 
-  -- with s, t, e the sizes of S and T and the edges between them: the square of n·e - d·s·t is at most n·R·s·t
+  -- with s, t, e the sizes of S and T and the edges between them: the square of nr·e - dl·s·t is at most nr·R·s·t
   pub pair-bound-joined : (S T : ℕ → Bool)
       → let s : ℕ = size nl S in
       let t : ℕ = size nr T in
@@ -99,3 +104,16 @@ module _ {N : ℕ} {sides : SideName → Side} (g : Joined N sides) where
   step-joined SideName.Right S T D b few wrong =
       step-left nl nr dl (spread sides) (edgesBetween sides) (edges-row g) (spread-even sides) T S D b few
       (rw (inside-left T S) (size-demand nl D T _ wrong))
+
+-- ---- an accepted plan
+
+-- with s of the nl left vertices in S, t of the nr right ones in T and e edges between them: the square of nr·e - dl·s·t is at most
+-- nr·R·s·t
+pub pair-bound-plan : (plan : Plan) → planCheck plan ≡ done [] → (S T : ℕ → Bool)
+    → let R : ℕ = spread (sideOf plan) in
+    let dl : ℕ = degree (plan .leftSheet) in
+    let s : ℕ = size (plan .nl) S in
+    let t : ℕ = size (plan .nr) T in
+    let e : ℕ = edgesInside (plan .nl) (plan .nr) (edgesBetween (sideOf plan)) S T in
+    gap (plan .nr * e) (dl * s * t) * gap (plan .nr * e) (dl * s * t) ≤ plan .nr * R * s * t
+pair-bound-plan plan accepted S T = simp mul-assoc (pair-bound-joined (plan-joined plan accepted) S T)

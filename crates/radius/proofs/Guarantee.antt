@@ -27,7 +27,7 @@ use Rattle.inner_code.specs.Reply.{Reply, done, refused}
 use Rattle.inner_code.proofs.SheetChecks.{Sound}
 use Rattle.inner_code.proofs.InnerDistance.{distance-pos}
 use Rattle.inner_code.proofs.NearestWord.{nearest-near}
-use Rattle.wiring.specs.Plan.{Plan, edgeCount, sideOf}
+use Rattle.wiring.specs.Plan.{Plan, edgeCount, sheetOf, sideOf}
 use Rattle.wiring.specs.Wiring.{planCheck}
 use Rattle.wiring.specs.Block.{blockBytes, blockCheck, Block, Codeword}
 use Rattle.wiring.specs.declared.side.SideName.{SideName}
@@ -45,8 +45,9 @@ use Rattle.radius.proofs.Answers.{Covered, margin-means}
 
 -- ---- the received block, swept
 
-sheet-nears : (plan : Plan) → Sound (plan .sheet) → (name : SideName) → Nears (sideOf plan name) (distanceOf (sideOf plan name))
-sheet-nears plan s name = record { mends = sheet-mends plan s name; near = nearest-near _ _ _ (s .degree-high) (s .rows-lt) }
+sheet-nears : (plan : Plan) → ((name : SideName) → Sound (sheetOf plan name)) → (name : SideName)
+    → Nears (sideOf plan name) (distanceOf (sideOf plan name))
+sheet-nears plan s name = record { mends = sheet-mends plan s name; near = nearest-near _ _ _ (s name .degree-high) (s name .rows-lt) }
 
 -- every codeword within F flips is what the named sweeps make of the received block
 pub swept-restores : (plan : Plan) (received : List ℕ) (F q : ℕ) → Covered plan F q → Block (edgeCount plan) received
@@ -69,7 +70,7 @@ module _ (plan : Plan) (received : List ℕ) (H q : ℕ) (c : List ℕ) (code : 
             absurd (true≢false (sym (code .satisfied-all) ∙ rw swept at not-yet))
       ]
 
-  settles-as : Sound (plan .sheet) → q ≤ H → sweptBlock plan (settlesAt plan received H) received ≡ c
+  settles-as : ((name : SideName) → Sound (sheetOf plan name)) → q ≤ H → sweptBlock plan (settlesAt plan received H) received ≡ c
   settles-as s enough = sym (settles-stays plan received s H (le-trans settles-by enough) q settles-by) ∙ swept
 
 -- ---- the tests that a call has passed which no row before 15 stops

@@ -2,13 +2,13 @@
 -- have no gaps.
 -- The notions, of specs/Margin.antt:
 --   Measures                 the numbers of a plan that the margin rests on
---   slack m to b             D·n - 2·d·b, the paper's A for a step to a side
---   stepCovered m to b       the step from b is covered: A is above 0 and its square above 4·n·R
+--   slack m to b             D·nr - 2·dl·b, the paper's A for a step to a side with that side's D
+--   stepCovered m to b       the step from b is covered: A is above 0 and its square above 4·nr·R
 --   nextBound m to b         the next b
 --   chainSweeps m to t b     the place of the first zero in the chain that begins with b and steps to a side, in at most t terms; 0 for none
 --   sweepsNamed m F          the sweeps named for F flips; 0 where F is not covered
 -- and here
---   firstBound m F           the first b: 2F/D, rounded down
+--   firstBound m F           the first b: 2F/D with the left D, rounded down
 --   sweepsFrom m to b        chainSweeps with b + 1 terms, which are always enough
 -- Names: the subject first (covered, next, chain, named), then the fact.
 --   covered-slack, slack-covered, covered-mono       when a step is covered
@@ -16,17 +16,16 @@
 --   chain-zero, chain-step, chain-next               the chain step by step
 --   chain-mono                                       its length
 --   chain-reaches                                    numbers under its bounds come to 0 with it
---   chain-either                                     one distance on both sides
 --   named-is, named-zero, named-small                which F are covered, by which chain
 --   named-monotone, named-le                         the covered F have no gaps; how many sweeps are named at most
 use Prim.Native.Nat.{ℕ, zero, suc, _+_, _-_, _*_, _/_, _≤_, _<_, zero-le}
-use mathlib.Core.Bool.{Bool, true, false, cond, _&&_}
+use mathlib.Core.Bool.{Bool, true, false, cond}
 use mathlib.Core.Logic.{_≢_, inl, inr}
-use mathlib.Core.Path.{_≡_, refl, ap, ap₂, _∙_}
+use mathlib.Core.Path.{_≡_, refl, ap, _∙_}
 use native.Mathlib.Nat.{add-suc, add-zero, div-lt-iff-lt-mul, div-zero, eq-zero-or-pos, le-refl, mul-le-mul, mul-le-mul-left}
 use native.Mathlib.Nat.{mul-le-mul-right, mul-lt-mul-of-pos-right, mul-pos, not-suc-le-zero, suc-add, zero-div}
 use native.Mathlib.Omega.{arith}
-use lib.Dec.{ltb, leb}
+use lib.Dec.{leb}
 use lib.Ieee.Nearest.{div-mono}
 use borrow.Author.Tests.{ltb-true, lt-ltb, leb-true, le-leb}
 use Rattle.bits.proofs.Tests.{and-both}
@@ -186,21 +185,6 @@ module _ (m : Measures) where
       let (covered, ends, more) = chain-next (at i) (suc b) (omega arith) (omega arith) in
       let rest : sweepsFrom m (at (suc i)) (nextBound m (at i) (suc b)) ≡ suc k = rw (next i) (omega arith) in
       rw (add-suc, ← suc-add) (chain-reaches at next w falls k (suc i) _ (falls i (suc b) l covered) rest)
-
-  -- where both sides have one distance, the side of the next step does not matter
-  pub chain-either : ((s t : SideName) → m .distance s ≡ m .distance t) → (s t : SideName) (b : ℕ) → sweepsFrom m s b ≡ sweepsFrom m t b
-  unfolding slack chainSweeps
-  chain-either same s t b = go (suc b) b s t
-    where
-      slack-either : (s t : SideName) (b : ℕ) → slack m s b ≡ slack m t b
-      slack-either s t b = ap (λ (D : ℕ). D * m .n - 2 * m .d * b) (same s t)
-
-      go : (k b : ℕ) (s t : SideName) → chainSweeps m s k b ≡ chainSweeps m t k b
-      go zero b s t = refl
-      go (suc k) zero s t = refl
-      go (suc k) (suc b) s t =
-          ap₂ (λ (A rest : ℕ). cond (ltb 0 A && ltb (4 * m .n * m .spread) (A * A)) (oneMore rest) 0) (slack-either s t (suc b))
-          (ap (λ (A : ℕ). chainSweeps m (other s) k (4 * m .n * m .spread * suc b / (A * A))) (slack-either s t (suc b)) ∙ go k _ (other s) (other t))
 
   -- ---- the sweeps named for F flips
 

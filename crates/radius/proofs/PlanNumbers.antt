@@ -1,7 +1,9 @@
--- A plan's numbers: what a checked plan gives the measures, and how their values make the services' answers.
+-- A plan's numbers: what a checked plan gives the measures, how their values make the services' answers, and what a caller learns.
 --   PlanAccepted ..           what a caller learns from a check that accepts (wiring Plans)
 --   spreadAnswer, numbersAnswer  what the services answer (specs Answer)
--- Laws are named by their subject, then by the fact: `-refused` and `-answered` are the outcomes of a service.
+--   numbersOf plan, inOrder p    a plan's nine numbers, and such numbers in the order in which they are answered (specs Answer)
+-- Laws are named by their subject, then by the fact: `-refused` and `-answered` are the outcomes of a service, `-known` and
+-- `-turned-back` lead from its answer back to the plan.
 use Prim.Native.Nat.{ℕ, _≤_, min}
 use mathlib.Core.List.{List, [], _∷_}
 use mathlib.Core.Path.{_≡_, sym, ap, _∙_}
@@ -10,19 +12,24 @@ use lib.ListN.{length, getD, take}
 use Rattle.bits.specs.Window.{at}
 use Rattle.inner_code.specs.Reply.{Reply, done, refused}
 use Rattle.inner_code.specs.Code.{distance}
-use Rattle.inner_code.specs.Sheet.{degree, rowCount, rowOf}
+use Rattle.inner_code.specs.Sheet.{rowOf}
 use Rattle.inner_code.specs.Reduction.{Lists, fewestOnes}
-use Rattle.inner_code.specs.declared.sheet.CheckedSheet.{CheckedSheet}
 use Rattle.inner_code.specs.declared.refusal.Refusal.{Refusal}
 use Rattle.inner_code.proofs.Replies.{andThen-passed, andThen-refused, andThen-done, andThen-back}
 use Rattle.inner_code.proofs.Listings.{front-length, front-word}
 use Rattle.inner_code.proofs.InnerDistance.{fewest-distance}
-use Rattle.wiring.specs.Plan.{Plan, left, sideOf}
+use Rattle.wiring.specs.Plan.{Plan, left, right, sheetOf, sideOf}
 use Rattle.wiring.specs.Wiring.{planCheck}
+use Rattle.wiring.specs.Checking.{codeIn}
+use Rattle.wiring.specs.declared.plan.CheckedPlan.{CheckedPlan}
+use Rattle.wiring.specs.declared.side.SideCode.{SideCode}
+use Rattle.wiring.specs.declared.side.SideName.{SideName}
 use Rattle.wiring.proofs.Plans.{PlanAccepted, plan-done}
 use Rattle.radius.specs.Spread.{spread}
-use Rattle.radius.specs.Answer.{distanceOf, spreadAnswer, numbersAnswer, numbersReply}
+use Rattle.radius.specs.Answer.{distanceOf, spreadAnswer, inOrder, numbersOf, numbersAnswer, numbersReply}
 use Rattle.radius.specs.declared.numbers.Numbers.{Numbers}
+use Rattle.radius.specs.declared.numbers.PlanNumbers.{PlanNumbers}
+use Rattle.radius.proofs.Answers.{spread-done}
 
 -- the fewest ones of the listed codewords are the code's distance
 pub listed-distance : (row : ℕ → ℕ) (k : ℕ) {before words : List ℕ} {count : ℕ} → Lists row k before count words → 2048 ≤ length before
@@ -36,52 +43,51 @@ module _ (plan : Plan) where
   unfolding numbersAnswer
   numbers-refused a b e = andThen-refused _ _ a b e
 
-  module _ (r : CheckedSheet) (d k : ℕ) (p : PlanAccepted plan r d k) where
-    distance-is : (D : ℕ) → D ≡ distance (rowOf (plan .sheet)) (min k 11) → D ≡ distanceOf (sideOf plan left)
-    distance-is D e =
-        e ∙ ap (λ (m : ℕ). distance (rowOf (plan .sheet)) (min m 11)) (p .k-is)
-        ∙ ap (distance (rowOf (plan .sheet))) (min-eq-left (p .sheet-sound .count-high))
+  module _ (r : CheckedPlan) (p : PlanAccepted plan r) where
+    distance-is : (name : SideName) (D : ℕ) → D ≡ distance (rowOf (sheetOf plan name)) (min (codeIn r name .k) 11)
+        → D ≡ distanceOf (sideOf plan name)
+    distance-is name D e =
+        e ∙ ap (λ (code : SideCode). distance (rowOf (sheetOf plan name)) (min (code .k) 11)) (p .code-is name)
+        ∙ ap (distance (rowOf (sheetOf plan name))) (min-eq-left (p .sheet-sound name .count-high))
 
     pub spread-answered : (R : ℕ) → R ≡ spread (sideOf plan) → done (R ∷ []) ≡ spreadAnswer plan
-    unfolding spreadAnswer
-    spread-answered R e = rw e (sym (andThen-passed _ _ [] (p .plan-done)))
+    spread-answered R e = rw e (sym (spread-done plan (p .plan-done)))
 
-    pub numbers-answered : (D R : ℕ) → D ≡ distance (rowOf (plan .sheet)) (min k 11) → R ≡ spread (sideOf plan)
-        → done (d ∷ k ∷ D ∷ R ∷ []) ≡ numbersAnswer plan
+    pub numbers-answered : (Dl Dr R : ℕ) → Dl ≡ distance (rowOf (plan .leftSheet)) (min (r .left .k) 11)
+        → Dr ≡ distance (rowOf (plan .rightSheet)) (min (r .right .k) 11) → R ≡ spread (sideOf plan)
+        → done (r .left .n ∷ r .right .n ∷ r .left .d ∷ r .right .d ∷ r .left .k ∷ r .right .k ∷ Dl ∷ Dr ∷ R ∷ []) ≡ numbersAnswer plan
     unfolding numbersAnswer
-    numbers-answered D R e f = rw (p .d-is, p .k-is, distance-is D e, f) (sym (andThen-passed _ _ [] (p .plan-done)))
+    numbers-answered Dl Dr R e f g =
+        rw (p .code-is left, p .code-is right, distance-is left Dl e, distance-is right Dr f, g) (sym (andThen-passed _ _ [] (p .plan-done)))
 
 -- ---- what a caller learns from the numbers
-
-pub record NumbersKnown (plan : Plan) (d D R : ℕ) : Type 0 where
-  pub accepted : planCheck plan ≡ done []
-  pub d-is : d ≡ degree (plan .sheet)
-  pub distance-is : D ≡ distanceOf (sideOf plan left)
-  pub spread-is : R ≡ spread (sideOf plan)
 
 value : ℕ → Reply → ℕ
 value i (done values) = getD values i 0
 value i (refused number place) = 0
 
-pub numbers-known : (plan : Plan) (r : Numbers) (d k D R : ℕ) → numbersReply r ≡ numbersAnswer plan → r ≡ Numbers.Plan d k D R
-    → NumbersKnown plan d D R
-unfolding numbersAnswer value
-numbers-known plan r d k D R e q =
+-- the answer tells each of the nine
+order-tells : (p q : PlanNumbers) → done (inOrder p) ≡ done (inOrder q) → p ≡ q
+unfolding value
+order-tells p q e i =
     record {
-      accepted = plan-done plan (t .0 .1);
-      d-is = ap (value 0) whole;
-      distance-is = ap (value 2) whole;
-      spread-is = ap (value 3) whole;
+      nl = value 0 (e i);
+      nr = value 1 (e i);
+      dl = value 2 (e i);
+      dr = value 3 (e i);
+      kl = value 4 (e i);
+      kr = value 5 (e i);
+      «left_distance» = value 6 (e i);
+      «right_distance» = value 7 (e i);
+      spread = value 8 (e i);
     }
-  where
-    numbers : Reply
-    numbers = done (degree (plan .sheet) ∷ rowCount (plan .sheet) ∷ distanceOf (sideOf plan left) ∷ spread (sideOf plan) ∷ [])
 
-    t : ((passed : List ℕ) × (planCheck plan ≡ done passed)) × (numbers ≡ done (d ∷ k ∷ D ∷ R ∷ []))
-    t = andThen-done (planCheck plan) _ _ (sym e ∙ ap numbersReply q)
-
-    whole : done (d ∷ k ∷ D ∷ R ∷ []) ≡ numbers
-    whole = sym (t .1)
+pub numbers-known : (plan : Plan) (r : Numbers) (p : PlanNumbers) → numbersReply r ≡ numbersAnswer plan → r ≡ Numbers.Plan p
+    → (planCheck plan ≡ done []) × (p ≡ numbersOf plan)
+unfolding numbersAnswer
+numbers-known plan r p e q =
+    let ((values, passed), told) = andThen-done (planCheck plan) _ _ (sym e ∙ ap numbersReply q) in
+    (plan-done plan passed, sym (order-tells _ p told))
 
 pub numbers-turned-back : (plan : Plan) (r : Numbers) (f : Refusal) → numbersReply r ≡ numbersAnswer plan → r ≡ Numbers.Refused f
     → planCheck plan ≡ refused (f .number) (f .place)

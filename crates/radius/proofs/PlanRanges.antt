@@ -1,15 +1,17 @@
 -- How large the numbers of an accepted plan are, and so what the margin's program, which takes numbers in a range only, names for them.
 -- The notions, of specs/Ranges.antt, specs/Spread.antt and specs/Answer.antt:
---   InRange n d D R, planRange n d D R   the numbers are in the range that has every plan's; the test of it
---   namedInRange n d D R F               the sweeps named for F flips; 0 where F is not covered or the numbers are out of range
---   meeting, unevenness, spread          the paper's meeting number G, a row sum of |n·G - d·d|, and the largest of these, R
+--   InRange p, planRange p               nine numbers are in the range that has every plan's; the test of it
+--   namedInRange p F                     the sweeps named for F flips; 0 where F is not covered or the numbers are out of range
+--   measuresBy p, numbersOf plan         the measures by nine numbers, and the nine numbers of a plan
+--   meeting, unevenness, spread          the paper's meeting number G, a row sum of |nr·G - dl·dl|, and the largest of these, R
 --   distanceOf, marginOf                 D of a side, and the sweeps that a plan names for F flips
--- Names: the subject first (range, named, meeting, unevenness, spread, distance, plan), then the fact.
---   range-holds, range-back                      the test and the range
+-- Names: the subject first (range, named, meeting, unevenness, spread, distance, measures, plan), then the fact.
+--   range-holds, range-back, range-out           the test and the range
 --   named-chain, named-none                      the sweeps named in the range, and where none are
 --   meeting-row, unevenness-le, spread-le        how large the spread can be
 --   distance-most                                D is at most d
---   plan-within, named-plan                      the numbers of an accepted plan are in the range, so that none is left out
+--   distance-plan, measures-plan                 the numbers of a plan give its measures
+--   plan-within, named-plan                      those of an accepted plan are in the range, so that no F is left out
 use Prim.Native.Nat.{ℕ, zero, suc, _+_, _*_, _/_, _≤_, _<_}
 use mathlib.Core.Bool.{Bool, true, false, cond, false≢true}
 use mathlib.Core.List.{List, []}
@@ -28,62 +30,83 @@ use Rattle.inner_code.specs.Sheet.{degree, rowCount, rowOf}
 use Rattle.inner_code.proofs.Combinations.{codeword-last-row, codeword-more, codeword-zero}
 use Rattle.inner_code.proofs.InnerDistance.{distance-le, distance-pos}
 use Rattle.inner_code.proofs.SheetChecks.{Sound}
-use Rattle.wiring.specs.Plan.{Plan, Side, left, right, sideOf}
+use Rattle.wiring.specs.Plan.{Plan, Side, left, right, sheetOf, sideOf}
 use Rattle.wiring.specs.Wiring.{edgesBetween, planCheck}
 use Rattle.wiring.specs.declared.side.SideName.{SideName}
-use Rattle.wiring.proofs.Permutation.{Joined, wired-joined}
+use Rattle.wiring.proofs.Permutation.{Joined, wired-even, wired-joined}
 use Rattle.wiring.proofs.Plans.{plan-sound}
 use Rattle.wiring.proofs.Edges.{edges-column, edges-row}
-use Rattle.radius.specs.Answer.{distanceOf, marginOf}
-use Rattle.radius.specs.Margin.{sweepsNamed}
-use Rattle.radius.specs.Ranges.{equalSides, InRange, planRange, namedInRange}
+use Rattle.radius.specs.Answer.{distanceOf, marginOf, measuresOf, numbersOf}
+use Rattle.radius.specs.Margin.{Measures, sweepsNamed}
+use Rattle.radius.specs.Ranges.{distanceTo, measuresBy, InRange, planRange, namedInRange}
 use Rattle.radius.specs.Spread.{meeting, unevenness, spread}
+use Rattle.radius.specs.declared.numbers.PlanNumbers.{PlanNumbers}
 use Rattle.radius.proofs.Graph.{spread-attained}
 use Rattle.radius.proofs.MarginChain.{sweepsFrom, named-is, named-small}
 
 -- ---- the range
 
-module _ (n d D R : ℕ) where
-  pub range-holds : planRange n d D R ≡ true → InRange n d D R
+module _ (p : PlanNumbers) where
+  pub range-holds : planRange p ≡ true → InRange p
   unfolding planRange
   range-holds e =
-      let (n-test, d-rest) = and-both _ _ e in
-      let (d-test, D-rest) = and-both _ _ d-rest in
-      let (D-test, high-rest) = and-both _ _ D-rest in
-      let (high-test, R-test) = and-both _ _ high-rest in
+      let (nl-test, nr-rest) = and-both _ _ e in
+      let (nr-test, dl-rest) = and-both _ _ nr-rest in
+      let (dl-test, left-rest) = and-both _ _ dl-rest in
+      let (left-some, left-most) = and-both _ _ left-rest in
+      let (left-test, right-rest) = and-both _ _ left-most in
+      let (right-some, right-most) = and-both _ _ right-rest in
+      let (right-test, spread-test) = and-both _ _ right-most in
       record {
-        n-high = leb-true _ _ n-test;
-        d-high = leb-true _ _ d-test;
-        D-low = leb-true _ _ D-test;
-        D-high = leb-true _ _ high-test;
-        R-high = leb-true _ _ R-test;
+        nl-high = leb-true _ _ nl-test;
+        nr-high = leb-true _ _ nr-test;
+        dl-high = leb-true _ _ dl-test;
+        distance-low = λ to. elim to [ SideName.Left ↦ leb-true _ _ left-some | SideName.Right ↦ leb-true _ _ right-some ];
+        distance-high = λ to. elim to [ SideName.Left ↦ leb-true _ _ left-test | SideName.Right ↦ leb-true _ _ right-test ];
+        spread-high = leb-true _ _ spread-test;
       }
 
-  pub range-back : InRange n d D R → planRange n d D R ≡ true
+  pub range-back : InRange p → planRange p ≡ true
   unfolding planRange
   range-back r =
-      rw (le-leb _ _ (r .n-high), le-leb _ _ (r .d-high), le-leb _ _ (r .D-low), le-leb _ _ (r .D-high), le-leb _ _ (r .R-high))
+      rw (
+        le-leb _ _ (r .nl-high),
+        le-leb _ _ (r .nr-high),
+        le-leb _ _ (r .dl-high),
+        le-leb _ _ (r .distance-low left),
+        le-leb _ _ (r .distance-high left),
+        le-leb _ _ (r .distance-low right),
+        le-leb _ _ (r .distance-high right),
+        le-leb _ _ (r .spread-high),
+      )
+
+  pub range-out : (InRange p → ⊥) → planRange p ≡ false
+  range-out out = go (planRange p) refl
+    where
+      go : (t : Bool) → planRange p ≡ t → planRange p ≡ false
+      go true e = absurd (out (range-holds e))
+      go false e = e
 
   module _ (F : ℕ) where
-    named-inside : InRange n d D R → namedInRange n d D R F ≡ sweepsNamed (equalSides n d D R) F
+    named-inside : InRange p → namedInRange p F ≡ sweepsNamed (measuresBy p) F
     unfolding namedInRange
     named-inside r = rw (range-back r)
 
-    pub named-chain : InRange n d D R → F ≤ n * d → namedInRange n d D R F ≡ sweepsFrom (equalSides n d D R) right (2 * F / D)
-    named-chain r l = named-inside r ∙ named-is (equalSides n d D R) F l
+    pub named-chain : InRange p → F ≤ p .nl * p .dl → namedInRange p F ≡ sweepsFrom (measuresBy p) right (2 * F / p .«left_distance»)
+    named-chain r l = named-inside r ∙ named-is (measuresBy p) F l
 
-    named-where : (t : Bool) → (t ≡ true → F ≤ n * d → ⊥) → cond t (sweepsNamed (equalSides n d D R) F) 0 ≡ 0
+    named-where : (t : Bool) → (t ≡ true → F ≤ p .nl * p .dl → ⊥) → cond t (sweepsNamed (measuresBy p) F) 0 ≡ 0
     named-where false never = refl
     named-where true never =
-        elim (eq-zero-or-pos (sweepsNamed (equalSides n d D R) F)) [
+        elim (eq-zero-or-pos (sweepsNamed (measuresBy p) F)) [
           | inl none ↦ none
-          | inr some ↦ absurd (never refl (named-small (equalSides n d D R) F (λ none. omega arith)))
+          | inr some ↦ absurd (never refl (named-small (measuresBy p) F (λ none. omega arith)))
         ]
 
     -- no sweeps are named out of the range, nor for F above N
-    pub named-none : (InRange n d D R → F ≤ n * d → ⊥) → namedInRange n d D R F ≡ 0
+    pub named-none : (planRange p ≡ true → F ≤ p .nl * p .dl → ⊥) → namedInRange p F ≡ 0
     unfolding namedInRange
-    named-none never = named-where (planRange n d D R) (λ e. never (range-holds e))
+    named-none never = named-where (planRange p) never
 
 -- ---- the spread of an accepted wiring
 
@@ -92,7 +115,7 @@ unfolding gap
 gap-most a b = omega arith
 
 module _ {N : ℕ} {sides : SideName → Side} (g : Joined N sides) where
-  -- each of the d edges of u ends at a right vertex, which has d edges of its own
+  -- each of the dl edges of u ends at a right vertex, which has dr edges of its own
   meeting-row : (u : ℕ) → u < sides left .n → sum (sides left .n) (λ w. meeting sides u w) ≡ sides left .d * sides right .d
   unfolding meeting
   meeting-row u l =
@@ -132,17 +155,29 @@ distance-most sheet s =
 
 -- ---- the numbers of an accepted plan
 
+distance-plan : (plan : Plan) (to : SideName) → distanceTo (numbersOf plan) to ≡ distanceOf (sideOf plan to)
+distance-plan plan SideName.Left = refl
+distance-plan plan SideName.Right = refl
+
+pub measures-plan : (plan : Plan) → measuresBy (numbersOf plan) ≡ measuresOf plan
+measures-plan plan i =
+    let m : Measures = measuresOf plan in
+    record { edges = m .edges; n = m .n; d = m .d; distance = λ to. distance-plan plan to i; spread = m .spread }
+
 module _ (plan : Plan) (accepted : planCheck plan ≡ done []) where
-  pub plan-within : InRange (plan .n) (degree (plan .sheet)) (distanceOf (sideOf plan left)) (spread (sideOf plan))
+  pub plan-within : InRange (numbersOf plan)
   plan-within =
       let (s, w) = plan-sound plan accepted in
+      let l = w .left-fits in
+      let even = ap (λ (m : ℕ). degree (plan .leftSheet) * m) (wired-even w) in
       record {
-        n-high = w .n-high;
-        d-high = w .d-high;
-        D-low = distance-pos _ _;
-        D-high = le-trans (distance-most (plan .sheet) s) (s .degree-high);
-        R-high = omega (arith, spread-le (wired-joined plan w) (w .n-low), mul-le-mul (w .n-high) (mul-le-mul (w .d-high) (w .d-high)));
+        nl-high = l .n-high;
+        nr-high = w .right-fits .n-high;
+        dl-high = l .d-high;
+        distance-low = λ to. rw (distance-plan plan to) (distance-pos _ _);
+        distance-high = λ to. rw (distance-plan plan to) (le-trans (distance-most (sheetOf plan to) (s to)) (s to .degree-high));
+        spread-high = omega (arith, spread-le (wired-joined plan w) (l .n-low), even, mul-le-mul (l .n-high) (mul-le-mul (l .d-high) (l .d-high)));
       }
 
-  pub named-plan : (F : ℕ) → namedInRange (plan .n) (degree (plan .sheet)) (distanceOf (sideOf plan left)) (spread (sideOf plan)) F ≡ marginOf plan F
-  named-plan F = named-inside _ _ _ _ F plan-within
+  pub named-plan : (F : ℕ) → namedInRange (numbersOf plan) F ≡ marginOf plan F
+  named-plan F = named-inside _ F plan-within ∙ ap (λ (m : Measures). sweepsNamed m F) (measures-plan plan)

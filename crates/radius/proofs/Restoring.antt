@@ -33,7 +33,7 @@ use Rattle.decoder.specs.Report.{differsAt}
 use Rattle.decoder.proofs.Runs.{differs-flag, differs-agree, differs-none, flips-differ}
 use Rattle.decoder.proofs.Sweeping.{Mends, sweep-word, after-block, after-bytes}
 use Rattle.radius.specs.Margin.{sweepsNamed}
-use Rattle.radius.proofs.Convergence.{measuresBy, wrongAt, converges}
+use Rattle.radius.proofs.Convergence.{measuresOn, wrongAt, converges}
 
 -- ---- two blocks, bit by bit
 
@@ -64,10 +64,10 @@ module _ {N : ℕ} {sides : SideName → Side} (g : Joined N sides) (D : SideNam
       differs-agree after c _ (vertex-bits side after c v (sweep-word (g .whole name) block pass (nears name .mends) v l ∙ near) j h)
 
   pub after-restores : 0 < D left → Block N c → (received : List ℕ) → Block N received → (F : ℕ) → flips N c received ≤ F
-      → let q : ℕ = sweepsNamed (measuresBy N sides D) F in q ≢ 0 → afterSweeps sides q received ≡ c
+      → let q : ℕ = sweepsNamed (measuresOn N sides D) F in q ≢ 0 → afterSweeps sides q received ≡ c
   unfolding afterSweeps
   after-restores distance-pos whole received block F few some =
-      let q : ℕ = sweepsNamed (measuresBy N sides D) F in
+      let q : ℕ = sweepsNamed (measuresOn N sides D) F in
       let after : ℕ → List ℕ = λ i. afterSweeps sides i received in
       let checked : (i : ℕ) → blockCheck N (after i) ≡ done [] = λ i. after-block sides (g .whole) i received (block .checked) in
       block-ext N (after q) c (record { bytes = after-bytes sides q received (block .bytes); checked = checked q }) whole

@@ -3,14 +3,15 @@
 --   Noted                          the lists of the left vertex of each entry and of the right vertex of each edge (wiring specs Ends)
 --   Ends                           what the walk needs to know of those lists
 --   arrivals, walked               how many of some entries, and of some walks of two edges, end at a vertex
---   Fresh, Countable, Counted, Walked, Summable  the counts before, during and after a walk
+--   Fresh, Walkable, Countable, Counted, Summable  the counts before, during and after a walk
 --   unevenBy, walkedUneven, largestWalked       the sum over the counts, after the walk of u, and the largest of these
 -- Laws are named by their subject, then by the fact: `-none` and `-one-more` are the start of a loop and one turn of it, `-le` and
--- `-low` are bounds. The theorem is walked-spread: what the walks give is the spread of specs/Spread.antt.
+-- `-low` are bounds, `-walkable`, `-countable` and `-summable` lead to what the next step needs to know. The theorem is walked-spread: what
+-- the walks give is the spread of specs/Spread.antt.
 use Prim.Native.Nat.{ℕ, zero, suc, _+_, _*_, _-_, _≤_, _<_, max, zero-le}
 use mathlib.Core.List.{List}
 use mathlib.Core.Path.{_≡_, refl, sym, ap, ap₂, _∙_}
-use native.Mathlib.Nat.{mul-le-mul-left, mul-le-mul-right, le-refl, le-step}
+use native.Mathlib.Nat.{mul-le-mul, mul-le-mul-left, mul-le-mul-right, le-refl, le-step}
 use native.Mathlib.Decide.{ℕ-discrete}
 use native.Mathlib.Numerals.{add-one}
 use native.Mathlib.Omega.{arith}
@@ -25,14 +26,18 @@ use Rattle.wiring.specs.Plan.{Plan, edgeCount, edgeOf, right, sideBit, sideOf}
 use Rattle.wiring.specs.Wiring.{edgesBetween}
 use Rattle.wiring.specs.Checking.{WiredPlan}
 use Rattle.wiring.specs.Ends.{Noted}
-use Rattle.wiring.proofs.Permutation.{wired-joined}
+use Rattle.wiring.proofs.Permutation.{entry-lt, wired-even, wired-joined}
 use Rattle.wiring.proofs.Edges.{vertexOf, vertex-of-lt, edges-from}
 use Rattle.wiring.proofs.EdgeEnds.{at-set-same, at-set-other, noted-right, noted-ends}
 use Rattle.radius.specs.Spread.{meeting, unevenness, spread}
-use Rattle.radius.specs.Walk.{Ends, arrivals, walked, Countable, Counted, Fresh, Walked, Summable, unevenBy, walkedUneven, largestWalked}
+use Rattle.radius.specs.Walk.{Ends, arrivals, walked, Fresh, Countable, Walkable, Counted, Summable}
+use Rattle.radius.specs.Walk.{unevenBy, walkedUneven, largestWalked}
 use lib.Arith.{digits-lt}
 
 -- ---- the counts
+
+pub degrees-le : (d e : ℕ) → d ≤ 16 → e ≤ 16 → d * e ≤ 256
+degrees-le d e few few' = omega (arith, mul-le-mul few few')
 
 arrivals-none : (left : ℕ → ℕ) (from w : ℕ) → arrivals left from 0 w ≡ 0
 unfolding arrivals
@@ -99,46 +104,6 @@ fresh-one-more w counts room r =
       ];
     }
 
--- ---- the walk
-
-pub square-le : (d : ℕ) → d ≤ 16 → d * d ≤ 256
-square-le d narrow = omega (arith, mul-le-mul-left d narrow)
-
-module _ (lefts rights : List ℕ) (n d : ℕ) where
-  pub walk-none : (base : ℕ) (counts : List ℕ) → Fresh n counts → Walked lefts rights n d base 0 counts
-  walk-none base counts r = record { count-is = λ w l. r .count-none w l ∙ sym (walked-none (at lefts) (at rights) d base w) }
-
-  pub walk-one-more : (base m : ℕ) (before counts : List ℕ) → n ≤ length before → Walked lefts rights n d base m before
-      → Counted (arrivals (at lefts) (at rights (base + m) * d) d) before counts → Walked lefts rights n d base (m + 1) counts
-  walk-one-more base m before counts room r s =
-      record { count-is = λ w l. omega (arith, r .count-is w l, s .count-is w (omega arith), walked-one-more (at lefts) (at rights) d base m w) }
-
-  module _ (ends : Ends d n lefts rights) where
-    -- the next right vertex met has its d entries in the list, and their counts have room
-    pub walk-countable : (u m : ℕ) (counts : List ℕ) → u < n → m < d → n ≤ length counts → Walked lefts rights n d (u * d) m counts
-        → Countable lefts (at rights (u * d + m) * d) d counts
-    walk-countable u m counts l k room r =
-        let v : ℕ = at rights (u * d + m) in
-        let v-lt : v < n = ends .right-lt _ (digits-lt l k) in
-        let left-lt : (i : ℕ) → i < d → at lefts (v * d + i) < n = λ i h. ends .left-lt _ (digits-lt v-lt h) in
-        record {
-          d-high = ends .d-high;
-          inside = omega (arith, ends .lefts-sized, mul-le-mul-right d v-lt);
-          left-lt = λ i h. omega (arith, left-lt i h);
-          count-low = λ i h.
-              let few = walked-le (at lefts) (at rights) d (u * d) m (at lefts (v * d + i)) in
-              omega (arith, r .count-is _ (left-lt i h), few, mul-le-mul-right d k, square-le d (ends .d-high));
-        }
-
-    pub walked-summable : (u : ℕ) (counts : List ℕ) → n ≤ length counts → Walked lefts rights n d (u * d) d counts → Summable n d counts
-    walked-summable u counts room r =
-        record {
-          d-high = ends .d-high;
-          n-high = ends .n-high;
-          sized = room;
-          count-low = λ w l. omega (arith, r .count-is w l, walked-le (at lefts) (at rights) d (u * d) d w, square-le d (ends .d-high));
-        }
-
 -- ---- the sum over the counts
 
 pub uneven-none : (count : ℕ → ℕ) (n d : ℕ) → unevenBy count n d 0 ≡ 0
@@ -164,18 +129,87 @@ pub uneven-over : (count : ℕ → ℕ) (n d m sum : ℕ) → sum ≡ unevenBy c
 unfolding gap
 uneven-over count n d m sum e h = omega (arith, uneven-one-more count n d m)
 
-module _ {n d : ℕ} {counts : List ℕ} (s : Summable n d counts) where
-  pub product-le : (w : ℕ) → w < n → n * at counts w ≤ 524288
-  product-le w l = omega (arith, mul-le-mul-left n (s .count-low w l), s .n-high)
+module _ {nl nr : ℕ} {counts : List ℕ} (s : Summable nl nr counts) where
+  pub met-le : (w : ℕ) → w < nl → nr * at counts w ≤ 524288
+  met-le w l = omega (arith, mul-le-mul-left nr (s .count-low w l), s .nr-high)
 
-  uneven-each : (w : ℕ) → w < n → gap (n * at counts w) (d * d) ≤ 524288
+  uneven-each : (d : ℕ) → d ≤ 16 → (w : ℕ) → w < nl → gap (nr * at counts w) (d * d) ≤ 524288
   unfolding gap
-  uneven-each w l = omega (arith, product-le w l, square-le d (s .d-high))
+  uneven-each d few w l = omega (arith, met-le w l, degrees-le d d few few)
 
-  pub uneven-le : (m : ℕ) → m ≤ n → unevenBy (at counts) n d m ≤ m * 524288
+  pub uneven-le : (d : ℕ) → d ≤ 16 → (m : ℕ) → m ≤ nl → unevenBy (at counts) nr d m ≤ m * 524288
   unfolding unevenBy
-  uneven-le m h =
-      omega (arith, sum-const m 524288, sum-mono m (λ w. gap (n * at counts w) (d * d)) (λ w. 524288) (λ w l. uneven-each w (omega arith)))
+  uneven-le d few m h =
+      omega (arith, sum-const m 524288, sum-mono m (λ w. gap (nr * at counts w) (d * d)) (λ w. 524288) (λ w l. uneven-each d few w (omega arith)))
+
+-- ---- the walk
+
+module _ (lefts rights : List ℕ) (base dr : ℕ) where
+  pub walk-none : (counts : List ℕ) → Counted (walked (at lefts) (at rights) dr base 0) counts counts
+  walk-none counts = record { count-is = λ w l. omega (arith, walked-none (at lefts) (at rights) dr base w) }
+
+  pub walk-one-more : (m : ℕ) (start before counts : List ℕ) → length before ≡ length start
+      → Counted (walked (at lefts) (at rights) dr base m) start before
+      → Counted (arrivals (at lefts) (at rights (base + m) * dr) dr) before counts
+      → Counted (walked (at lefts) (at rights) dr base (m + 1)) start counts
+  walk-one-more m start before counts sized r s =
+      record { count-is = λ w l. omega (arith, r .count-is w l, s .count-is w (omega arith), walked-one-more (at lefts) (at rights) dr base m w) }
+
+  -- the next right vertex met has its entries in the list, and their counts have room
+  pub walk-countable : (dl m : ℕ) (start counts : List ℕ) → Walkable lefts rights base dl dr start → m < dl → length counts ≡ length start
+      → Counted (walked (at lefts) (at rights) dr base m) start counts
+      → Countable lefts (at rights (base + m) * dr) dr counts
+  walk-countable dl m start counts fit l sized r =
+      record {
+        d-high = fit .dr-high;
+        inside = fit .entries-inside m l;
+        left-lt = λ i h. omega (arith, fit .left-lt m i l h);
+        count-low = λ i h.
+            let w : ℕ = at lefts (at rights (base + m) * dr + i) in
+            omega (
+              arith,
+              r .count-is w (fit .left-lt m i l h),
+              fit .count-none m i l h,
+              walked-le (at lefts) (at rights) dr base m w,
+              mul-le-mul-right dr l,
+              degrees-le dl dr (fit .dl-high) (fit .dr-high),
+            );
+      }
+
+module _ {nl nr dl dr : ℕ} {lefts rights : List ℕ} (ends : Ends nl nr dl dr lefts rights) (u : ℕ) (l : u < nl) (counts : List ℕ)
+    (fresh : Fresh nl counts) where
+  pub ends-walkable : Walkable lefts rights (u * dl) dl dr counts
+  ends-walkable =
+      let right-lt : (j : ℕ) → j < dl → at rights (u * dl + j) < nr = λ j h. ends .right-lt _ (digits-lt l h) in
+      let left-lt : (j i : ℕ) → j < dl → i < dr → at lefts (at rights (u * dl + j) * dr + i) < nl =
+      λ j i h k. ends .left-lt _ (digits-lt (right-lt j h) k) in
+      record {
+        dl-high = ends .dl-high;
+        dr-high = ends .dr-high;
+        inside = omega (arith, ends .rights-sized, mul-le-mul-right dl l);
+        entries-inside = λ j h. omega (arith, ends .lefts-sized, mul-le-mul-right dr (right-lt j h));
+        left-lt = λ j i h k. omega (arith, left-lt j i h k, fresh .sized);
+        count-none = λ j i h k. fresh .count-none _ (left-lt j i h k);
+      }
+
+  module _ (after : List ℕ) (r : Counted (walked (at lefts) (at rights) dr (u * dl) dl) counts after) where
+    -- the counts that the walk of u leaves
+    walked-count : (w : ℕ) → w < nl → at after w ≡ walked (at lefts) (at rights) dr (u * dl) dl w
+    walked-count w h = omega (arith, r .count-is w (omega (arith, fresh .sized)), fresh .count-none w h)
+
+    pub walked-summable : nl ≤ length after → Summable nl nr after
+    walked-summable room =
+        record {
+          nl-high = ends .nl-high;
+          nr-high = ends .nr-high;
+          sized = room;
+          count-low = λ w h.
+              omega (arith, walked-count w h, walked-le (at lefts) (at rights) dr (u * dl) dl w, degrees-le dl dr (ends .dl-high) (ends .dr-high));
+        }
+
+    pub walked-uneven : unevenBy (at after) nr dl nl ≡ walkedUneven (at lefts) (at rights) nl nr dl dr u
+    unfolding walkedUneven
+    walked-uneven = uneven-ext (at after) _ nr dl nl walked-count
 
 -- ---- the largest sum
 
@@ -184,61 +218,61 @@ unfolding largest
 largest-ext zero f g same = refl
 largest-ext (suc m) f g same = ap₂ max (largest-ext m f g (λ u l. same u (le-step l))) (same m (le-refl (suc m)))
 
-module _ (left right : ℕ → ℕ) (n d : ℕ) where
-  pub largest-none : largestWalked left right n d 0 ≡ 0
+module _ (left right : ℕ → ℕ) (nl nr dl dr : ℕ) where
+  pub largest-none : largestWalked left right nl nr dl dr 0 ≡ 0
   unfolding largestWalked largest
   largest-none = refl
 
-  largest-one-more : (u : ℕ) → largestWalked left right n d (u + 1) ≡ max (largestWalked left right n d u) (walkedUneven left right n d u)
+  largest-one-more : (u : ℕ) → largestWalked left right nl nr dl dr (u + 1) ≡ max (largestWalked left right nl nr dl dr u) (walkedUneven left right nl nr dl dr u)
   unfolding largestWalked largest
   largest-one-more u = rw add-one
 
-  pub largest-raised : (u top sum : ℕ) → top ≡ largestWalked left right n d u → sum ≡ walkedUneven left right n d u → top < sum
-      → sum ≡ largestWalked left right n d (u + 1)
+  pub largest-raised : (u top sum : ℕ) → top ≡ largestWalked left right nl nr dl dr u → sum ≡ walkedUneven left right nl nr dl dr u → top < sum
+      → sum ≡ largestWalked left right nl nr dl dr (u + 1)
   largest-raised u top sum e f h = omega (arith, largest-one-more u)
 
-  pub largest-kept : (u top sum : ℕ) → top ≡ largestWalked left right n d u → sum ≡ walkedUneven left right n d u → sum ≤ top
-      → top ≡ largestWalked left right n d (u + 1)
+  pub largest-kept : (u top sum : ℕ) → top ≡ largestWalked left right nl nr dl dr u → sum ≡ walkedUneven left right nl nr dl dr u → sum ≤ top
+      → top ≡ largestWalked left right nl nr dl dr (u + 1)
   largest-kept u top sum e f h = omega (arith, largest-one-more u)
-
--- the counts that the walk of u leaves have its sum
-pub walked-uneven : (lefts rights : List ℕ) (n d u : ℕ) (counts : List ℕ) → Walked lefts rights n d (u * d) d counts
-    → unevenBy (at counts) n d n ≡ walkedUneven (at lefts) (at rights) n d u
-unfolding walkedUneven
-walked-uneven lefts rights n d u counts r = uneven-ext (at counts) _ n d n (r .count-is)
 
 -- ---- the spread
 
 module _ (plan : Plan) (w : WiredPlan plan) {lefts rights : List ℕ}
-    (noted : Noted (edgeOf (plan .wiring)) (degree (plan .sheet)) (edgeCount plan) lefts rights) where
-  abbrev d : ℕ
-  d = degree (plan .sheet)
+    (noted : Noted (edgeOf (plan .wiring)) (degree (plan .leftSheet)) (degree (plan .rightSheet)) (edgeCount plan) lefts rights) where
+  abbrev dl : ℕ
+  dl = degree (plan .leftSheet)
 
-  pub noted-walk : edgeCount plan ≤ length lefts → edgeCount plan ≤ length rights → Ends d (plan .n) lefts rights
+  abbrev dr : ℕ
+  dr = degree (plan .rightSheet)
+
+  pub noted-walk : edgeCount plan ≤ length lefts → edgeCount plan ≤ length rights → Ends (plan .nl) (plan .nr) dl dr lefts rights
   noted-walk room room-right =
+      let even = wired-even w in
       record {
-        d-high = w .d-high;
-        n-high = w .n-high;
-        lefts-sized = room;
+        nl-high = w .left-fits .n-high;
+        nr-high = w .right-fits .n-high;
+        dl-high = w .left-fits .d-high;
+        dr-high = w .right-fits .d-high;
+        lefts-sized = rw (← even) room;
         rights-sized = room-right;
-        left-lt = λ i l. noted-ends w noted i l .0;
+        left-lt = λ i l. noted-ends w noted i (rw even l) .0;
         right-lt = λ e l. noted-ends w noted e l .1;
       }
 
-  -- the walk goes by edge u·d + j to the right vertex of that edge, and from there to w as often as edges run between them
-  walked-meeting : (u : ℕ) → u < plan .n → (x : ℕ) → walked (at lefts) (at rights) d (u * d) d x ≡ meeting (sideOf plan) u x
+  -- the walk goes by edge u·dl + j to the right vertex of that edge, and from there to w as often as edges run between them
+  walked-meeting : (u : ℕ) → u < plan .nl → (x : ℕ) → walked (at lefts) (at rights) dr (u * dl) dl x ≡ meeting (sideOf plan) u x
   unfolding walked arrivals meeting edgesBetween sideBit
   walked-meeting u l x =
       let g = wired-joined plan w in
       let right-of : (e : ℕ) → e < edgeCount plan → at rights e ≡ vertexOf (edgeCount plan) (sideOf plan right) e =
       noted-right (g .whole right) noted in
-      sum-ext d _ (λ j. edgesBetween (sideOf plan) x (vertexOf (edgeCount plan) (sideOf plan right) (u * d + j)))
-      (λ j h. rw (right-of (u * d + j) (digits-lt l h))
-      (sum-ext d _ _ (λ i k. ap (λ (y : ℕ). flag (eqb y x))
-      (noted .left-is _ (digits-lt (vertex-of-lt (g .whole right) _ (digits-lt l h)) k)))))
+      sum-ext dl _ (λ j. edgesBetween (sideOf plan) x (vertexOf (edgeCount plan) (sideOf plan right) (u * dl + j)))
+      (λ j h. rw (right-of (u * dl + j) (digits-lt l h))
+      (sum-ext dr _ _ (λ i k. ap (λ (y : ℕ). flag (eqb y x))
+      (noted .left-is _ (entry-lt (g .whole right) _ _ (vertex-of-lt (g .whole right) _ (digits-lt l h)) k)))))
       ∙ sym (edges-from g (edgesBetween (sideOf plan) x) u l)
 
-  pub walked-spread : (r : ℕ) → r ≡ largestWalked (at lefts) (at rights) (plan .n) d (plan .n) → r ≡ spread (sideOf plan)
+  pub walked-spread : (r : ℕ) → r ≡ largestWalked (at lefts) (at rights) (plan .nl) (plan .nr) dl dr (plan .nl) → r ≡ spread (sideOf plan)
   unfolding largestWalked walkedUneven unevenBy spread unevenness
   walked-spread r e =
-      e ∙ largest-ext (plan .n) _ _ (λ u l. uneven-ext _ (meeting (sideOf plan) u) (plan .n) d (plan .n) (λ x k. walked-meeting u l x))
+      e ∙ largest-ext (plan .nl) _ _ (λ u l. uneven-ext _ (meeting (sideOf plan) u) (plan .nr) dl (plan .nl) (λ x k. walked-meeting u l x))

@@ -1,12 +1,12 @@
 -- The margin's numbers alone: how many flipped bits F a plan covers, and the sweeps named for them.
---   Measures                 the numbers of a plan that the margin rests on: N, n of the right side, d of the left side, the inner distance D of each side, and the spread R
---   slack m to b             the paper's A for a step to a side: D·n - 2·d·b (0 where that is below 0)
---   stepCovered m to b       A is above 0 and its square above 4·n·R
---   nextBound m to b         the next b: 4·n·R·b divided by the square of A, rounded down
+--   Measures                 the numbers of a plan that the margin rests on: N, n of the right side (nr), d of the left side (dl), the inner distance D of each side, and the spread R
+--   slack m to b             the paper's A for a step to a side: D·nr - 2·dl·b with that side's D (0 where that is below 0)
+--   stepCovered m to b       A is above 0 and its square above 4·nr·R
+--   nextBound m to b         the next b: 4·nr·R·b divided by the square of A, rounded down
 --   oneMore q                one sweep more, where the rest is covered
 --   chainSweeps m to t b     the place of the first zero in the chain that begins with b and steps to a side next, counted from 1;
 --                            0 where a step on the way is not covered. t bounds the chain's length; b + 1 is always enough.
---   sweepsNamed m F          the sweeps named for F flips, 0 where F is not covered: the first b is 2F/D, rounded down, and the first step goes right
+--   sweepsNamed m F          the sweeps named for F flips, 0 where F is not covered: the first b is 2F/D with the left D, rounded down, and the first step goes right
 --   beyond m                 the first F, from 0 up, that is not covered; N + 1 never is
 use Prim.Native.Nat.{ℕ, zero, suc, _+_, _-_, _*_, _/_}
 use mathlib.Core.Bool.{Bool, cond, _&&_}

@@ -1,31 +1,45 @@
 -- The margin's numbers where they are those of a plan: none of this is needed to believe a contract of a service.
---   equalSides n d D R       the measures of a plan with equal sides
---   InRange n d D R          n up to 2,048, d and D up to 16, D not 0, R up to 1,048,576: every accepted plan is in range
---   planRange n d D R        the test of it
---   namedInRange n d D R F   the sweeps named for F flips; 0 where F is not covered or the numbers are no plan's
---   beyondInRange n d D R    the first F that is not covered; 0 where the numbers are no plan's
+--   distanceTo p to          of a plan's nine numbers, the inner distance D of the side that is named
+--   measuresBy p             the measures that they give; dr, kl and kr do not enter
+--   InRange p                nl and nr up to 2,048, dl up to 16, both D from 1 to 16, R up to 1,048,576: every accepted plan is in range
+--   planRange p              the test of it
+--   namedInRange p F         the sweeps named for F flips; 0 where F is not covered or the numbers are no plan's
+--   beyondInRange p          the first F that is not covered; 0 where the numbers are no plan's
 use Prim.Native.Nat.{ℕ, _*_, _≤_}
 use mathlib.Core.Bool.{Bool, cond, _&&_}
 use lib.Dec.{leb}
+use Rattle.wiring.specs.declared.side.SideName.{SideName}
 use Rattle.radius.specs.Margin.{Measures, sweepsNamed, beyond}
+use Rattle.radius.specs.declared.numbers.PlanNumbers.{PlanNumbers}
 
-abbrev pub equalSides : ℕ → ℕ → ℕ → ℕ → Measures
-equalSides vertices degree D R = record { edges = vertices * degree; n = vertices; d = degree; distance = λ name. D; spread = R }
+abbrev pub distanceTo : PlanNumbers → SideName → ℕ
+distanceTo p SideName.Left = p .«left_distance»
+distanceTo p SideName.Right = p .«right_distance»
 
-pub record InRange (n d D R : ℕ) : Type 0 where
-  pub n-high : n ≤ 2048
-  pub d-high : d ≤ 16
-  pub D-low : 1 ≤ D
-  pub D-high : D ≤ 16
-  pub R-high : R ≤ 1048576
+abbrev pub measuresBy : PlanNumbers → Measures
+measuresBy p = record { edges = p .nl * p .dl; n = p .nr; d = p .dl; distance = distanceTo p; spread = p .spread }
 
-unfoldable pub planRange : ℕ → ℕ → ℕ → ℕ → Bool
-planRange n d D R = leb n 2048 && (leb d 16 && (leb 1 D && (leb D 16 && leb R 1048576)))
+pub record InRange (p : PlanNumbers) : Type 0 where
+  pub nl-high : p .nl ≤ 2048
+  pub nr-high : p .nr ≤ 2048
+  pub dl-high : p .dl ≤ 16
+  pub distance-low : (to : SideName) → 1 ≤ distanceTo p to
+  pub distance-high : (to : SideName) → distanceTo p to ≤ 16
+  pub spread-high : p .spread ≤ 1048576
 
-unfoldable pub namedInRange : ℕ → ℕ → ℕ → ℕ → ℕ → ℕ
+unfoldable pub planRange : PlanNumbers → Bool
+planRange p =
+    leb (p .nl) 2048
+    && (leb (p .nr) 2048
+    && (leb (p .dl) 16
+    && (leb 1 (p .«left_distance»)
+    && (leb (p .«left_distance») 16
+    && (leb 1 (p .«right_distance») && (leb (p .«right_distance») 16 && leb (p .spread) 1048576))))))
+
+unfoldable pub namedInRange : PlanNumbers → ℕ → ℕ
 unfolding planRange sweepsNamed
-namedInRange n d D R F = cond (planRange n d D R) (sweepsNamed (equalSides n d D R) F) 0
+namedInRange p F = cond (planRange p) (sweepsNamed (measuresBy p) F) 0
 
-unfoldable pub beyondInRange : ℕ → ℕ → ℕ → ℕ → ℕ
+unfoldable pub beyondInRange : PlanNumbers → ℕ
 unfolding planRange beyond
-beyondInRange n d D R = cond (planRange n d D R) (beyond (equalSides n d D R)) 0
+beyondInRange p = cond (planRange p) (beyond (measuresBy p)) 0

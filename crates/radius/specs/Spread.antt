@@ -1,6 +1,6 @@
 -- How evenly a wiring spreads the edges of its left vertices.
 --   meeting sides u w         the paper's meeting number G of two left vertices
---   unevenness sides u        the sum over all left w, u included, of |n·G - d·d|, n of the right side and d of the left
+--   unevenness sides u        the sum over all left w, u included, of |nr·G - dl·dl|: n of the right side, d of the left
 --   spread sides              the paper's spread R: the largest unevenness
 --   size n S                  how many vertices below n are in the set S
 --   edgesInside nl nr B S T   how many edges run between a set S of the nl left and a set T of the nr right vertices, with B u v of them between u and v

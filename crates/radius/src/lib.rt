@@ -7,6 +7,7 @@ mod sweeps;
 pub use margins::Margin;
 pub use margins::margin_sweeps;
 pub use numbers::Numbers;
+pub use numbers::PlanNumbers;
 pub use numbers::Spread;
 pub use numbers::plan_numbers;
 pub use numbers::plan_spread;

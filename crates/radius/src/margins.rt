@@ -14,27 +14,28 @@ pub enum Margin {
     Refused(Refusal),
 }
 
-// The sweeps within which so many flipped bits are mended, whichever they are. Refusals 1 to 10, 17 for more flips than the block has
-// bits, 18 for flips that are not covered.
-pub fn margin_sweeps(sheet: &[u8], n: usize, wiring: &[u8], flips: u64) -> Margin
-    ensures { λ r. ⌜ marginReply r ≡ marginAnswer (planOf (now (sheet .entry)) n (now (wiring .entry))) flips ⌝ }
+// The sweeps within which so many flipped bits are mended, whichever they are. Refusals 1 to 10 and 23, 17 for more flips than the block
+// has bits, 18 for flips that are not covered.
+pub fn margin_sweeps(
+    left: &[u8],
+    right: &[u8],
+    nl: usize,
+    nr: usize,
+    wiring: &[u8],
+    flips: u64,
+) -> Margin
+    ensures { λ r. ⌜ marginReply r ≡ marginAnswer (planOf (now (left .entry)) (now (right .entry)) nl nr (now (wiring .entry))) flips ⌝ }
 {
-    match plan_numbers(sheet, n, wiring) {
+    match plan_numbers(left, right, nl, nr, wiring) {
         Numbers::Refused(r) => Margin::Refused(r),
-        Numbers::Plan {
-            d,
-            k: _,
-            distance,
-            spread,
-        } => {
-            let vertices = n as u64;
-            if vertices * d < flips {
+        Numbers::Plan(plan) => {
+            if plan.nl * plan.dl < flips {
                 return Margin::Refused(Refusal {
                     number: refusal::FLIPS_TOO_MANY,
                     place: 0,
                 });
             }
-            let sweeps = sweeps_named(vertices, d, distance, spread, flips);
+            let sweeps = sweeps_named(plan, flips);
             if sweeps == 0 {
                 return Margin::Refused(Refusal {
                     number: refusal::FLIPS_NOT_COVERED,

@@ -1,8 +1,8 @@
-// A plan's numbers: the sheet's d and k, its inner distance D, and the spread R of the wiring.
+// A plan's numbers: of each side n, d, k and the inner distance D, and the spread R of the wiring.
 use crate::spread::measured_spread;
 use inner_code::MAX_CODEWORDS;
 use inner_code::Refusal;
-use inner_code::Sheet;
+use wiring::Checked;
 use wiring::check_plan;
 ghost use mathlib.Core.Path.{_≡_};
 ghost use Prim.Native.Nat.{min};
@@ -17,43 +17,62 @@ pub enum Spread {
     Refused(Refusal),
 }
 
+// A plan's numbers, in the order in which the program `margin` writes them: the sides' vertex counts n, degrees d, row counts k and inner
+// distances, left before right, and the spread of the wiring.
+pub struct PlanNumbers {
+    pub nl: u64,
+    pub nr: u64,
+    pub dl: u64,
+    pub dr: u64,
+    pub kl: u64,
+    pub kr: u64,
+    pub left_distance: u64,
+    pub right_distance: u64,
+    pub spread: u64,
+}
+
 // An accepted plan's numbers, or the refusal.
 pub enum Numbers {
-    Plan {
-        d: u64,
-        k: u64,
-        distance: u64,
-        spread: u64,
-    },
+    Plan(PlanNumbers),
     Refused(Refusal),
 }
 
-// Checks a plan and answers its d and k, the inner distance of its sheet and the spread of its wiring. Refusals 1 to 10.
-pub fn plan_numbers(sheet: &[u8], n: usize, wiring: &[u8]) -> Numbers
-    ensures { λ r. ⌜ numbersReply r ≡ numbersAnswer (planOf (now (sheet .entry)) n (now (wiring .entry))) ⌝ }
+// Checks a plan and answers the n, d and k of its sides, the inner distances of its sheets and the spread of its wiring. Refusals 1 to 10
+// and 23.
+pub fn plan_numbers(left: &[u8], right: &[u8], nl: usize, nr: usize, wiring: &[u8]) -> Numbers
+    ensures { λ r. ⌜ numbersReply r ≡ numbersAnswer (planOf (now (left .entry)) (now (right .entry)) nl nr (now (wiring .entry))) ⌝ }
 {
-    let checked = check_plan(sheet, n, wiring);
-    let values = checked.sheet;
-    match values {
-        Sheet::Refused(r) => Numbers::Refused(r),
-        Sheet::Accepted { d, k } => Numbers::Plan {
-            d: d as u64,
-            k: k as u64,
-            distance: measured_distance(sheet, k),
-            spread: measured_spread(sheet, n, wiring),
-        },
+    let plan = check_plan(left, right, nl, nr, wiring);
+    let checked = plan.checked;
+    match checked {
+        Checked::Refused(r) => Numbers::Refused(r),
+        Checked::Passed => {
+            let left_code = plan.left;
+            let right_code = plan.right;
+            Numbers::Plan(PlanNumbers {
+                nl: left_code.n as u64,
+                nr: right_code.n as u64,
+                dl: left_code.d as u64,
+                dr: right_code.d as u64,
+                kl: left_code.k as u64,
+                kr: right_code.k as u64,
+                left_distance: measured_distance(left, left_code.k),
+                right_distance: measured_distance(right, right_code.k),
+                spread: measured_spread(left, right, nl, nr, wiring),
+            })
+        }
     }
 }
 
-// Checks a plan and answers the spread of its wiring: the smaller, the more evenly its left vertices meet. Refusals 1 to 10.
-pub fn plan_spread(sheet: &[u8], n: usize, wiring: &[u8]) -> Spread
-    ensures { λ r. ⌜ spreadReply r ≡ spreadAnswer (planOf (now (sheet .entry)) n (now (wiring .entry))) ⌝ }
+// Checks a plan and answers the spread of its wiring: the smaller, the more evenly its left vertices meet. Refusals 1 to 10 and 23.
+pub fn plan_spread(left: &[u8], right: &[u8], nl: usize, nr: usize, wiring: &[u8]) -> Spread
+    ensures { λ r. ⌜ spreadReply r ≡ spreadAnswer (planOf (now (left .entry)) (now (right .entry)) nl nr (now (wiring .entry))) ⌝ }
 {
-    let checked = check_plan(sheet, n, wiring);
-    let values = checked.sheet;
-    match values {
-        Sheet::Refused(r) => Spread::Refused(r),
-        Sheet::Accepted { d: _, k: _ } => Spread::Value(measured_spread(sheet, n, wiring)),
+    let plan = check_plan(left, right, nl, nr, wiring);
+    let checked = plan.checked;
+    match checked {
+        Checked::Refused(r) => Spread::Refused(r),
+        Checked::Passed => Spread::Value(measured_spread(left, right, nl, nr, wiring)),
     }
 }
 

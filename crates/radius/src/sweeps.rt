@@ -1,9 +1,11 @@
 // The margin's numbers alone.
+use crate::numbers::PlanNumbers;
+use wiring::SideName;
 ghost use mathlib.Core.Path.{_≡_};
 ghost use Prim.Native.Nat.{suc, _*_, _/_, _≤_};
 ghost use Rattle.wiring.specs.Plan.{right};
 ghost use Rattle.radius.specs.Margin.{chainSweeps};
-ghost use Rattle.radius.specs.Ranges.{equalSides, InRange, beyondInRange, namedInRange};
+ghost use Rattle.radius.specs.Ranges.{distanceTo, measuresBy, planRange, InRange, beyondInRange, namedInRange};
 
 // The most vertices that a plan has on each side.
 const MOST_VERTICES: u64 = 2048;
@@ -11,48 +13,66 @@ const MOST_VERTICES: u64 = 2048;
 // The most bits of a vertex, and so the largest inner distance.
 const MOST_BITS: u64 = 16;
 
-// No plan's spread is above 2·n·d·d.
+// No plan's spread is above 2·nl·dl·dl.
 const MOST_SPREAD: u64 = 2 * MOST_VERTICES * MOST_BITS * MOST_BITS;
 
-// The sweeps named for `flips` flipped bits on a plan of n vertices a side, d bits each, with inner distance `distance` and spread
-// `spread`; 0 where so many flips are not covered, and for numbers that no plan has (n above 2,048, d or distance above 16, distance
-// 0, spread above 1,048,576).
-pub fn sweeps_named(n: u64, d: u64, distance: u64, spread: u64, flips: u64) -> u64
-    ensures { λ r. ⌜ r ≡ namedInRange n d distance spread flips ⌝ }
+// The sweeps named for `flips` flipped bits on a plan of these numbers; 0 where so many flips are not covered, and for numbers that no
+// plan has (nl or nr above 2,048, dl above 16, a distance of 0 or above 16, spread above 1,048,576). dr, kl and kr do not matter.
+pub fn sweeps_named(plan: PlanNumbers, flips: u64) -> u64
+    ensures { λ r. ⌜ r ≡ namedInRange plan flips ⌝ }
 {
-    if MOST_VERTICES < n {
+    if !in_range(plan) {
         return 0;
     }
-    if MOST_BITS < d {
+    if plan.nl * plan.dl < flips {
         return 0;
     }
-    if distance < 1 {
-        return 0;
-    }
-    if MOST_BITS < distance {
-        return 0;
-    }
-    if MOST_SPREAD < spread {
-        return 0;
-    }
-    if n * d < flips {
-        return 0;
-    }
-    chain(n, d, distance, spread, first_bound(distance, flips))
+    chain(plan, first_bound(plan.left_distance, flips))
 }
 
-// The first number of flips, from 0 up, that is not covered on such a plan; 0 for numbers that no plan has.
-pub fn first_uncovered(n: u64, d: u64, distance: u64, spread: u64) -> u64
-    ensures { λ r. ⌜ r ≡ beyondInRange n d distance spread ⌝ }
+// The first number of flips, from 0 up, that is not covered on a plan of these numbers; 0 for numbers that no plan has.
+pub fn first_uncovered(plan: PlanNumbers) -> u64
+    ensures { λ r. ⌜ r ≡ beyondInRange plan ⌝ }
 {
     let mut flips: u64 = 0;
-    while 0 < sweeps_named(n, d, distance, spread, flips) {
+    while 0 < sweeps_named(plan, flips) {
         flips += 1;
     }
     flips
 }
 
-// The first b of the chain: 2F/D, rounded down.
+// Whether the numbers that the margin rests on are in the range that has those of every plan.
+fn in_range(plan: PlanNumbers) -> bool
+    ensures { λ r. ⌜ r ≡ planRange plan ⌝ }
+{
+    if MOST_VERTICES < plan.nl {
+        return false;
+    }
+    if MOST_VERTICES < plan.nr {
+        return false;
+    }
+    if MOST_BITS < plan.dl {
+        return false;
+    }
+    if plan.left_distance < 1 {
+        return false;
+    }
+    if MOST_BITS < plan.left_distance {
+        return false;
+    }
+    if plan.right_distance < 1 {
+        return false;
+    }
+    if MOST_BITS < plan.right_distance {
+        return false;
+    }
+    if MOST_SPREAD < plan.spread {
+        return false;
+    }
+    true
+}
+
+// The first b of the chain: 2F/D, rounded down, with the D of the left side.
 fn first_bound(distance: u64, flips: u64) -> u64
     requires { ⌜ (1 ≤ distance) × (flips ≤ 32768) ⌝ }
     ensures { λ r. ⌜ r ≡ 2 * flips / distance ⌝ }
@@ -60,19 +80,20 @@ fn first_bound(distance: u64, flips: u64) -> u64
     2 * flips / distance
 }
 
-// The place of the first zero of the chain that begins with `first`, counted from 1; 0 where a step on the way is not covered. A
-// covered step leads to a smaller b, so the chain ends.
-fn chain(n: u64, d: u64, distance: u64, spread: u64, first: u64) -> u64
-    requires { ⌜ InRange n d distance spread ⌝ }
+// The place of the first zero of the chain that begins with `first` and steps right first, counted from 1; 0 where a step on the way is
+// not covered. A covered step leads to a smaller b, so the chain ends.
+fn chain(plan: PlanNumbers, first: u64) -> u64
+    requires { ⌜ InRange plan ⌝ }
     requires { ⌜ first ≤ 65536 ⌝ }
-    ensures { λ r. ⌜ r ≡ chainSweeps (equalSides n d distance spread) right (suc first) first ⌝ }
+    ensures { λ r. ⌜ r ≡ chainSweeps (measuresBy plan) right (suc first) first ⌝ }
 {
-    let whole = distance * n;
-    let limit = 4 * n * spread;
+    let limit = 4 * plan.nr * plan.spread;
+    let mut to = SideName::Right;
     let mut b = first;
     let mut place: u64 = 1;
     while 0 < b {
-        let taken = 2 * d * b;
+        let whole = distance_to(plan, to) * plan.nr;
+        let taken = 2 * plan.dl * b;
         if whole <= taken {
             return 0;
         }
@@ -83,6 +104,17 @@ fn chain(n: u64, d: u64, distance: u64, spread: u64, first: u64) -> u64
         }
         b = limit * b / square;
         place += 1;
+        to = decoder::other_side(to);
     }
     place
+}
+
+// The inner distance of the side that a step goes to.
+fn distance_to(plan: PlanNumbers, to: SideName) -> u64
+    ensures { λ r. ⌜ r ≡ distanceTo plan to ⌝ }
+{
+    match to {
+        SideName::Left => plan.left_distance,
+        SideName::Right => plan.right_distance,
+    }
 }

@@ -1,4 +1,4 @@
-// The square plan with the house code, and a codeword of it.
+// The square plan with the house code on both sides, and a codeword of it.
 use decoder::Decoded;
 ghost use mathlib.Core.Path.{_≡_};
 ghost use Rattle.wiring.specs.Square.{squareWiring, squarePlan};
@@ -12,7 +12,7 @@ pub fn decode(received: &[u8], output: &mut [u8], limit: usize) -> Decoded
 {
     let sheet = inner_code::HouseCode::sheet();
     let wiring = square_wiring();
-    let decoding = decoder::decode(&sheet, 8, &wiring, received, output, limit);
+    let decoding = decoder::decode(&sheet, &sheet, 8, 8, &wiring, received, output, limit);
     decoding.outcome
 }
 

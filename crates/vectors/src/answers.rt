@@ -21,57 +21,77 @@ pub fn answer(service: u8) {
         output::end_line();
         return;
     }
-    let n = input::number();
+    read_plan(service, &sheet_space[..sheet]);
+    output::end_line();
+}
+
+// The parts of a plan behind its left sheet.
+fn read_plan(service: u8, left: &[u8]) {
+    let mut right_space = [0u8; 70000];
+    let right = input::bytes(&mut right_space);
+    let nl = input::number();
+    let nr = input::number();
     let mut wiring_space = [0u8; 70000];
     let wiring = input::bytes(&mut wiring_space);
     on_plan(
         service,
-        &sheet_space[..sheet],
-        n as usize,
+        left,
+        &right_space[..right],
+        nl as usize,
+        nr as usize,
         &wiring_space[..wiring],
     );
-    output::end_line();
 }
 
-// The services that take a sheet, n and a wiring.
-fn on_plan(service: u8, sheet: &[u8], n: usize, wiring: &[u8]) {
+// The services that take a plan.
+fn on_plan(service: u8, left: &[u8], right: &[u8], nl: usize, nr: usize, wiring: &[u8]) {
     if service == 2 {
         let v = input::number();
         output::text(b"piece ");
-        output::bytes(wiring::piece_of(sheet, n, wiring, v as usize));
+        output::bytes(wiring::piece_of(left, right, nl, nr, wiring, v as usize));
         return;
     }
     if service == 6 {
-        spread(sheet, n, wiring);
+        spread(left, right, nl, nr, wiring);
         return;
     }
     if service == 7 {
         let flips = input::number();
-        margin(sheet, n, wiring, flips);
+        margin(left, right, nl, nr, wiring, flips);
         return;
     }
     let mut block_space = [0u8; 70000];
     let block = input::bytes(&mut block_space);
-    on_block(service, sheet, n, wiring, &block_space[..block]);
+    on_block(service, left, right, nl, nr, wiring, &block_space[..block]);
 }
 
 // The services that take a block or a message beside the plan.
-fn on_block(service: u8, sheet: &[u8], n: usize, wiring: &[u8], block: &[u8]) {
+fn on_block(
+    service: u8,
+    left: &[u8],
+    right: &[u8],
+    nl: usize,
+    nr: usize,
+    wiring: &[u8],
+    block: &[u8],
+) {
     if service == 3 {
-        locate(sheet, n, wiring, block);
+        locate(left, right, nl, nr, wiring, block);
         return;
     }
     let mut space = [0u8; 70000];
     let second = input::bytes(&mut space);
     if service == 5 {
-        report(sheet, n, wiring, block, &space[..second]);
+        report(left, right, nl, nr, wiring, block, &space[..second]);
         return;
     }
     if service == 4 {
         let limit = input::number();
         decode(
-            sheet,
-            n,
+            left,
+            right,
+            nl,
+            nr,
             wiring,
             block,
             &mut space[..second],
@@ -80,10 +100,10 @@ fn on_block(service: u8, sheet: &[u8], n: usize, wiring: &[u8], block: &[u8]) {
         return;
     }
     if service == 8 {
-        encode(sheet, n, wiring, block, &mut space[..second]);
+        encode(left, right, nl, nr, wiring, block, &mut space[..second]);
         return;
     }
-    read(sheet, n, wiring, block, &mut space[..second]);
+    read(left, right, nl, nr, wiring, block, &mut space[..second]);
 }
 
 fn nearest(sheet: &[u8], word: u64) {
@@ -103,8 +123,8 @@ fn nearest(sheet: &[u8], word: u64) {
     }
 }
 
-fn locate(sheet: &[u8], n: usize, wiring: &[u8], block: &[u8]) {
-    match wiring::locate(sheet, n, wiring, block) {
+fn locate(left: &[u8], right: &[u8], nl: usize, nr: usize, wiring: &[u8], block: &[u8]) {
+    match wiring::locate(left, right, nl, nr, wiring, block) {
         Located::Nowhere => {
             output::text(b"ok none");
         }
@@ -121,21 +141,40 @@ fn locate(sheet: &[u8], n: usize, wiring: &[u8], block: &[u8]) {
     }
 }
 
-fn report(sheet: &[u8], n: usize, wiring: &[u8], received: &[u8], settled: &[u8]) {
+fn report(
+    left: &[u8],
+    right: &[u8],
+    nl: usize,
+    nr: usize,
+    wiring: &[u8],
+    received: &[u8],
+    settled: &[u8],
+) {
     let mut space = [0u8; 70000];
     let list = input::bytes(&mut space);
-    report_into(sheet, n, wiring, received, settled, &mut space[..list]);
+    report_into(
+        left,
+        right,
+        nl,
+        nr,
+        wiring,
+        received,
+        settled,
+        &mut space[..list],
+    );
 }
 
 fn report_into(
-    sheet: &[u8],
-    n: usize,
+    left: &[u8],
+    right: &[u8],
+    nl: usize,
+    nr: usize,
     wiring: &[u8],
     received: &[u8],
     settled: &[u8],
     list: &mut [u8],
 ) {
-    match decoder::report_runs(sheet, n, wiring, received, settled, list) {
+    match decoder::report_runs(left, right, nl, nr, wiring, received, settled, list) {
         Reported::Pairs(pairs) => {
             output::text(b"ok ");
             output::number(pairs as u64);
@@ -148,8 +187,8 @@ fn report_into(
     output::bytes(list);
 }
 
-fn spread(sheet: &[u8], n: usize, wiring: &[u8]) {
-    match radius::plan_spread(sheet, n, wiring) {
+fn spread(left: &[u8], right: &[u8], nl: usize, nr: usize, wiring: &[u8]) {
+    match radius::plan_spread(left, right, nl, nr, wiring) {
         Spread::Value(value) => {
             output::text(b"ok ");
             output::number(value);
@@ -160,8 +199,8 @@ fn spread(sheet: &[u8], n: usize, wiring: &[u8]) {
     }
 }
 
-fn margin(sheet: &[u8], n: usize, wiring: &[u8], flips: u64) {
-    match radius::margin_sweeps(sheet, n, wiring, flips) {
+fn margin(left: &[u8], right: &[u8], nl: usize, nr: usize, wiring: &[u8], flips: u64) {
+    match radius::margin_sweeps(left, right, nl, nr, wiring, flips) {
         Margin::Sweeps(sweeps) => {
             output::text(b"ok ");
             output::number(sweeps);
@@ -172,8 +211,17 @@ fn margin(sheet: &[u8], n: usize, wiring: &[u8], flips: u64) {
     }
 }
 
-fn decode(sheet: &[u8], n: usize, wiring: &[u8], received: &[u8], output: &mut [u8], limit: usize) {
-    let decoding = decoder::decode(sheet, n, wiring, received, output, limit);
+fn decode(
+    left: &[u8],
+    right: &[u8],
+    nl: usize,
+    nr: usize,
+    wiring: &[u8],
+    received: &[u8],
+    output: &mut [u8],
+    limit: usize,
+) {
+    let decoding = decoder::decode(left, right, nl, nr, wiring, received, output, limit);
     let outcome = decoding.outcome;
     let sums = decoding.sums;
     match outcome {
@@ -191,8 +239,16 @@ fn decode(sheet: &[u8], n: usize, wiring: &[u8], received: &[u8], output: &mut [
     output::sums(&sums);
 }
 
-fn encode(sheet: &[u8], n: usize, wiring: &[u8], message: &[u8], output: &mut [u8]) {
-    match messages::encode(sheet, n, wiring, message, output) {
+fn encode(
+    left: &[u8],
+    right: &[u8],
+    nl: usize,
+    nr: usize,
+    wiring: &[u8],
+    message: &[u8],
+    output: &mut [u8],
+) {
+    match messages::encode(left, right, nl, nr, wiring, message, output) {
         Encoded::Done => {
             output::text(b"ok");
         }
@@ -204,8 +260,16 @@ fn encode(sheet: &[u8], n: usize, wiring: &[u8], message: &[u8], output: &mut [u
     output::bytes(output);
 }
 
-fn read(sheet: &[u8], n: usize, wiring: &[u8], block: &[u8], output: &mut [u8]) {
-    match messages::read_block(sheet, n, wiring, block, output) {
+fn read(
+    left: &[u8],
+    right: &[u8],
+    nl: usize,
+    nr: usize,
+    wiring: &[u8],
+    block: &[u8],
+    output: &mut [u8],
+) {
+    match messages::read_block(left, right, nl, nr, wiring, block, output) {
         Taken::Done => {
             output::text(b"ok");
         }

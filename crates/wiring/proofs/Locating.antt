@@ -1,10 +1,11 @@
 -- The locator as the code runs it: a vertex is tested by what a stored basis leaves of its word.
---   satisfiedBy basis k side wiring d block v    the code's test of vertex v (specs Access)
---   unsatisfiedBy basis k side wiring d n block  the first vertex of a side that fails it, n where all pass (specs Access)
---   locatedBy basis k d n wiring block           no value, or the side and the first vertex that fails it (specs Access)
---   satisfied, located                           the same by the definition of a codeword (specs Block)
---   locateAnswer plan block                      what the service answers (specs Answer)
---   withEchelon row k l                          the list l with the echelon form of k rows at its front (inner_code specs Reduction)
+--   satisfiedBy code side wiring block v    the code's test of vertex v (specs Access)
+--   unsatisfiedBy code side wiring m block  the first of m vertices of a side that fails it, m where all pass (specs Access)
+--   locatedBy codes wiring block            no value, or the side and the first vertex that fails it (specs Access)
+--   codeOf, codeIn, bothCodes               a side as the code holds it (specs Checking, Access)
+--   satisfied, located                      the same by the definition of a codeword (specs Block)
+--   locateAnswer plan block                 what the service answers (specs Answer)
+--   withEchelon row k l                     the list l with the echelon form of k rows at its front (inner_code specs Reduction)
 -- Laws are named by their subject, then by the fact: `codeword-` is about one word, `satisfied-` about one vertex, `by-` about the first
 -- vertex of a side as a loop finds it, `located-` about both sides, `answer-` about the service. At the end of a name, `-residue` and `-by`
 -- say that the code's test is the definition's.
@@ -22,60 +23,66 @@ use Rattle.bits.proofs.Searches.{first-zero, first-one-more, first-at, first-al
 use Rattle.inner_code.specs.Reply.{Reply, done, refused, andThen}
 use Rattle.inner_code.specs.Code.{isCodeword}
 use Rattle.inner_code.specs.Reduction.{reducedBy, withEchelon}
-use Rattle.inner_code.specs.Sheet.{degree, rowCount, rowOf}
-use Rattle.inner_code.specs.declared.sheet.CheckedSheet.{CheckedSheet}
+use Rattle.inner_code.specs.Sheet.{rowCount, rowOf}
 use Rattle.inner_code.proofs.Replies.{andThen-passed, andThen-refused}
 use Rattle.inner_code.proofs.EchelonForm.{codeword-test, reducedBy-stored}
-use Rattle.wiring.specs.Plan.{Plan, left, right, sideOf}
+use Rattle.wiring.specs.Plan.{Plan, left, right, sheetOf, countOf, sideOf}
 use Rattle.wiring.specs.Wiring.{planCheck}
 use Rattle.wiring.specs.Block.{blockCheck, satisfied, firstUnsatisfied, located}
-use Rattle.wiring.specs.Access.{readWord, satisfiedBy, unsatisfiedBy, locatedBy}
+use Rattle.wiring.specs.Access.{readWord, bothCodes, satisfiedBy, unsatisfiedBy, locatedBy}
 use Rattle.wiring.specs.Answer.{locateAnswer, sideNumber}
-use Rattle.wiring.specs.Checking.{WiredPlan}
+use Rattle.wiring.specs.Checking.{WiredPlan, codeOf}
+use Rattle.wiring.specs.declared.plan.CheckedPlan.{CheckedPlan}
+use Rattle.wiring.specs.declared.side.SideCode.{SideCode}
 use Rattle.wiring.specs.declared.side.SideName.{SideName}
+use Rattle.wiring.proofs.Permutation.{side-fits}
 use Rattle.wiring.proofs.VertexAccess.{read-inside}
-use Rattle.wiring.proofs.Plans.{PlanAccepted}
+use Rattle.wiring.proofs.Plans.{PlanAccepted, accepted-edges}
 
 -- ---- one side, vertex by vertex: `word` is what the code reads, `left` what the basis leaves of it
 
-module _ (basis : List ℕ) (k : ℕ) (side : SideName) (wiring : List ℕ) (d : ℕ) (block : List ℕ) where
-  tested : (v word left : ℕ) → word ≡ readWord side wiring d block v → left ≡ reducedBy (at basis) (min k 11) word
-      → satisfiedBy basis k side wiring d block v ≡ eqb left 0
+module _ (code : SideCode) (side : SideName) (wiring block : List ℕ) where
+  abbrev rest : ℕ → ℕ
+  rest word = reducedBy (at (code .basis)) (min (code .k) 11) word
+
+  tested : (v word left : ℕ) → word ≡ readWord side wiring (code .d) block v → left ≡ rest word
+      → satisfiedBy code side wiring block v ≡ eqb left 0
   unfolding satisfiedBy
-  tested v word left w l = ap (λ (x : ℕ). eqb x 0) (sym (l ∙ ap (reducedBy (at basis) (min k 11)) w))
+  tested v word left w l = ap (λ (x : ℕ). eqb x 0) (sym (l ∙ ap rest w))
 
-  pub by-none : unsatisfiedBy basis k side wiring d 0 block ≡ 0
+  pub by-none : unsatisfiedBy code side wiring 0 block ≡ 0
   unfolding unsatisfiedBy
-  by-none = first-zero (λ v. satisfiedBy basis k side wiring d block v)
+  by-none = first-zero (λ v. satisfiedBy code side wiring block v)
 
-  pub by-one-more : (v word left : ℕ) → unsatisfiedBy basis k side wiring d v block ≡ v → word ≡ readWord side wiring d block v
-      → left ≡ reducedBy (at basis) (min k 11) word → left ≡ 0 → unsatisfiedBy basis k side wiring d (v + 1) block ≡ v + 1
+  pub by-one-more : (v word left : ℕ) → unsatisfiedBy code side wiring v block ≡ v → word ≡ readWord side wiring (code .d) block v
+      → left ≡ rest word → left ≡ 0 → unsatisfiedBy code side wiring (v + 1) block ≡ v + 1
   unfolding unsatisfiedBy
   by-one-more v word left e w l none =
-      first-one-more v (λ u. satisfiedBy basis k side wiring d block u) e (tested v word left w l ∙ eq-eqb left 0 none)
+      first-one-more v (λ u. satisfiedBy code side wiring block u) e (tested v word left w l ∙ eq-eqb left 0 none)
 
-  pub by-found : (n v word left : ℕ) → v < n → unsatisfiedBy basis k side wiring d v block ≡ v → word ≡ readWord side wiring d block v
-      → left ≡ reducedBy (at basis) (min k 11) word → (left ≡ 0 → ⊥) → unsatisfiedBy basis k side wiring d n block ≡ v
+  pub by-found : (n v word left : ℕ) → v < n → unsatisfiedBy code side wiring v block ≡ v → word ≡ readWord side wiring (code .d) block v
+      → left ≡ rest word → (left ≡ 0 → ⊥) → unsatisfiedBy code side wiring n block ≡ v
   unfolding unsatisfiedBy
   by-found n v word left h e w l some =
-      let test : ℕ → Bool = λ u. satisfiedBy basis k side wiring d block u in
+      let test : ℕ → Bool = λ u. satisfiedBy code side wiring block u in
       first-at n test v h (first-all-each v test e) (tested v word left w l ∙ ne-eqb left 0 some)
 
 -- ---- both sides
 
-module _ (basis : List ℕ) (k d n : ℕ) (wiring block : List ℕ) where
-  abbrev found : SideName → ℕ
-  found side = unsatisfiedBy basis k side wiring d n block
+module _ (codes : SideName → SideCode) (wiring block : List ℕ) where
+  abbrev pub foundBy : SideName → ℕ
+  foundBy side = unsatisfiedBy (codes side) side wiring (codes side .n) block
 
-  pub located-found : (side : SideName) (v : ℕ) → (side ≡ right → found left ≡ n) → found side ≡ v → v < n
-      → locatedBy basis k d n wiring block ≡ sideNumber side ∷ v ∷ []
+  pub located-found : (side : SideName) (v : ℕ) → (side ≡ right → foundBy left ≡ codes left .n) → foundBy side ≡ v → v < codes side .n
+      → locatedBy codes wiring block ≡ sideNumber side ∷ v ∷ []
   unfolding locatedBy
-  located-found SideName.Left v before e l = rw (e, lt-ltb v n l)
-  located-found SideName.Right v before e l = rw (before refl, le-ltb n n (omega arith), e, lt-ltb v n l)
+  located-found SideName.Left v before e l = rw (e, lt-ltb v _ l)
+  located-found SideName.Right v before e l = rw (before refl, le-ltb (codes left .n) (codes left .n) (omega arith), e, lt-ltb v _ l)
 
-  pub located-nowhere : found left ≡ n → found right ≡ n → locatedBy basis k d n wiring block ≡ []
+  pub located-nowhere : foundBy left ≡ codes left .n → foundBy right ≡ codes right .n → locatedBy codes wiring block ≡ []
   unfolding locatedBy
-  located-nowhere l r = rw (l, r, le-ltb n n (omega arith))
+  located-nowhere l r =
+      rw (l, r, le-ltb (codes left .n) (codes left .n) (omega arith), le-ltb (codes right .n) (codes right .n) (omega arith))
 
 -- ---- the code's test is the definition's
 
@@ -86,24 +93,34 @@ codeword-residue row k basis stored few w =
     ∙ ap (λ (x : ℕ). eqb x 0)
     (sym (ap₂ (λ (l : List ℕ) (m : ℕ). reducedBy (at l) m w) stored (min-eq-left few) ∙ reducedBy-stored row k (replicate 11 0) w few))
 
-module _ (plan : Plan) (basis block : List ℕ) (stored : basis ≡ withEchelon (rowOf (plan .sheet)) (rowCount (plan .sheet)) (replicate 11 0))
-    (few : rowCount (plan .sheet) ≤ 11) (w : WiredPlan plan) where
-  satisfied-by : (name : SideName) (v : ℕ) → v < plan .n
-      → satisfiedBy basis (rowCount (plan .sheet)) name (plan .wiring) (degree (plan .sheet)) block v ≡ satisfied (sideOf plan name) block v
+module _ (plan : Plan) (block : List ℕ) (few : (name : SideName) → rowCount (sheetOf plan name) ≤ 11) (w : WiredPlan plan) where
+  satisfied-by : (name : SideName) (v : ℕ) → v < countOf plan name
+      → satisfiedBy (codeOf plan name) name (plan .wiring) block v ≡ satisfied (sideOf plan name) block v
   unfolding satisfiedBy satisfied
   satisfied-by name v l =
-      ap (λ (x : ℕ). eqb (reducedBy (at basis) (min (rowCount (plan .sheet)) 11) x) 0) (read-inside plan w name block v l)
-      ∙ sym (codeword-residue (rowOf (plan .sheet)) (rowCount (plan .sheet)) basis stored few _)
+      let code = codeOf plan name in
+      ap (λ (x : ℕ). eqb (reducedBy (at (code .basis)) (min (code .k) 11) x) 0) (read-inside (sheetOf plan name) (side-fits plan w name) name block v l)
+      ∙ sym (codeword-residue (rowOf (sheetOf plan name)) (code .k) (code .basis) refl (few name) _)
 
   unsatisfied-by : (name : SideName)
-      → unsatisfiedBy basis (rowCount (plan .sheet)) name (plan .wiring) (degree (plan .sheet)) (plan .n) block
-      ≡ firstUnsatisfied (sideOf plan name) block
+      → unsatisfiedBy (codeOf plan name) name (plan .wiring) (countOf plan name) block ≡ firstUnsatisfied (sideOf plan name) block
   unfolding unsatisfiedBy firstUnsatisfied
-  unsatisfied-by name = first-ext (plan .n) _ _ (satisfied-by name)
+  unsatisfied-by name = first-ext (countOf plan name) _ _ (satisfied-by name)
 
-  pub located-by : locatedBy basis (rowCount (plan .sheet)) (degree (plan .sheet)) (plan .n) (plan .wiring) block ≡ located (sideOf plan) block
+  pub located-by : locatedBy (codeOf plan) (plan .wiring) block ≡ located (sideOf plan) block
   unfolding locatedBy located
   located-by = rw (unsatisfied-by left, unsatisfied-by right)
+
+-- the search by the sides that a check has told is the definition's
+pub located-told : (plan : Plan) (r : CheckedPlan) (block : List ℕ) → PlanAccepted plan r
+    → locatedBy (bothCodes (r .left) (r .right)) (plan .wiring) block ≡ located (sideOf plan) block
+unfolding locatedBy
+located-told plan r block p =
+    ap₂ (λ (l r : SideCode). locatedBy (bothCodes l r) (plan .wiring) block) (p .code-is left) (p .code-is right)
+    ∙ by-name ∙ located-by plan block (λ name. p .sheet-sound name .count-high) (p .plan-wired)
+  where
+    by-name : locatedBy (bothCodes (codeOf plan left) (codeOf plan right)) (plan .wiring) block ≡ locatedBy (codeOf plan) (plan .wiring) block
+    by-name = refl
 
 -- ---- the service's answer
 
@@ -112,21 +129,16 @@ module _ (plan : Plan) (block : List ℕ) where
   unfolding locateAnswer
   answer-plan-refused a b e = andThen-refused _ _ a b e
 
-  module _ (r : CheckedSheet) (d k : ℕ) (p : PlanAccepted plan r d k) where
-    past-plan : locateAnswer plan block ≡ andThen (blockCheck (plan .n * d) block) (done (located (sideOf plan) block))
+  module _ (r : CheckedPlan) (p : PlanAccepted plan r) where
+    past-plan : locateAnswer plan block ≡ andThen (blockCheck (r .left .n * r .left .d) block) (done (located (sideOf plan) block))
     unfolding locateAnswer
     past-plan =
         andThen-passed _ _ [] (p .plan-done)
-        ∙ ap (λ (x : ℕ). andThen (blockCheck (plan .n * x) block) (done (located (sideOf plan) block))) (sym (p .d-is))
+        ∙ ap (λ (N : ℕ). andThen (blockCheck N block) (done (located (sideOf plan) block))) (sym (accepted-edges p))
 
-    pub answer-block-refused : (a b : ℕ) → blockCheck (plan .n * d) block ≡ refused a b → locateAnswer plan block ≡ refused a b
+    pub answer-block-refused : (a b : ℕ) → blockCheck (r .left .n * r .left .d) block ≡ refused a b → locateAnswer plan block ≡ refused a b
     answer-block-refused a b e = past-plan ∙ andThen-refused _ _ a b e
 
-    pub answer-located : blockCheck (plan .n * d) block ≡ done [] → (reply : Reply)
-        → reply ≡ done (locatedBy (r .basis) k d (plan .n) (plan .wiring) block) → reply ≡ locateAnswer plan block
-    answer-located e reply found =
-        found
-        ∙ ap done
-        (ap₂ (λ (x y : ℕ). locatedBy (r .basis) x y (plan .n) (plan .wiring) block) (p .k-is) (p .d-is)
-        ∙ located-by plan (r .basis) block (p .basis-is) (p .sheet-sound .count-high) (p .plan-wired))
-        ∙ sym (past-plan ∙ andThen-passed _ _ [] e)
+    pub answer-located : blockCheck (r .left .n * r .left .d) block ≡ done [] → (reply : Reply)
+        → reply ≡ done (locatedBy (bothCodes (r .left) (r .right)) (plan .wiring) block) → reply ≡ locateAnswer plan block
+    answer-located e reply found = found ∙ ap done (located-told plan r block p) ∙ sym (past-plan ∙ andThen-passed _ _ [] e)

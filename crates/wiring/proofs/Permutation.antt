@@ -2,19 +2,22 @@
 --   edgeOf wiring i         entry i: the edge that stands there (specs Plan)
 --   entryCheck N edge i     entry i alone: its edge at or above N (9), else seen earlier (10) (specs Wiring)
 --   entriesCheck N edge m   the refusal of the first faulty entry below m (specs Wiring)
---   wiringCheck d n wiring  the wiring's place in the table, 7 to 10 (specs Wiring)
---   Wired d n wiring        what an accepted wiring is (specs Checking)
+--   countFaulty n           a number of vertices that no side has (specs Wiring)
+--   wiringCheck dl dr nl nr wiring  the wiring's place in the table: 7, 23, 8, 9, 10 (specs Wiring)
+--   Fitted d n wiring       a side that fits a wiring (specs Checking)
+--   Permuted N wiring       the entries of a wiring are the edges below N, each once (specs Checking)
+--   Wired dl dr nl nr wiring  what an accepted wiring is (specs Checking)
 --   Entries N edge m        the entries below m name edges below N, no edge twice
 --   Whole N side            the entries of a side are the bits 0 .. N - 1, each once
 --   Joined N sides          both sides have all N bits, the left one in their order
 --   placeOf N side e        the entry of a side at which bit e stands
 -- Laws are named by their subject, then by the fact: `entry-` is about the test of one entry, `entries-` about that of all
--- entries below m, `edges-` about the number of edges, `wiring-` about the outcome of the whole check, `wired` about a wiring that
--- passes it, `place-` and `bit-` about a bit and its entry, `side-` about the bits of either side. At the end of a name, `-lt` and `-le`
+-- entries below m, `edges-` about the number of edges, `count-` about a number of vertices, `wiring-` about the outcome of the whole check,
+-- `wired` about a wiring that passes it, `fitted-` about a side of it, `place-` and `bit-` about a bit and its entry, `side-` about either side. At the end of a name, `-lt` and `-le`
 -- are bounds, `-once` says that no two entries have one bit, `-passed` leads from a check to the facts and `-back` from the facts to the
 -- check, `-tests` writes a check out.
 use Prim.Native.Nat.{ℕ, zero, suc, _+_, _*_, _≤_, _<_}
-use mathlib.Core.Bool.{not, _||_, or-true}
+use mathlib.Core.Bool.{true, false, not, _||_, or-true}
 use mathlib.Core.List.{List, []}
 use mathlib.Core.Logic.{⊎-elim}
 use mathlib.Core.Path.{_≡_, refl, sym, ap, _∙_}
@@ -31,9 +34,10 @@ use Rattle.bits.proofs.Tests.{or-neither}
 use Rattle.inner_code.specs.Reply.{done, refused, refuseIf}
 use Rattle.bits.specs.Search.{someBelow, firstFailing}
 use Rattle.inner_code.proofs.Replies.{refuse-taken, refuse-passed, refuse-done, andThen-passed, andThen-refused, andThen-done}
-use Rattle.wiring.specs.Plan.{Plan, Side, edgeCount, edgeOf, left, sideBit, sideOf}
-use Rattle.wiring.specs.Wiring.{entryCheck, entriesCheck, wiringCheck}
-use Rattle.wiring.specs.Checking.{Wired, WiredPlan}
+use Rattle.inner_code.specs.Sheet.{degree}
+use Rattle.wiring.specs.Plan.{Plan, Side, edgeCount, edgeOf, left, sheetOf, countOf, sideBit, sideOf}
+use Rattle.wiring.specs.Wiring.{countFaulty, entryCheck, entriesCheck, wiringCheck}
+use Rattle.wiring.specs.Checking.{Fitted, Permuted, Wired, WiredPlan}
 use Rattle.wiring.specs.declared.side.SideName.{SideName}
 use lib.Arith.{digits-lt}
 use Rattle.bits.proofs.Searches.{none-below, none-below-each, first-at}
@@ -109,53 +113,118 @@ entries-one-more N edge i e f = rw add-one (andThen-passed _ _ [] e ∙ f)
 pub edges-le : (n d : ℕ) → n ≤ 2048 → d ≤ 16 → n * d ≤ 32768
 edges-le n d few narrow = omega (arith, mul-le-mul-right d few, mul-le-mul-left 2048 narrow)
 
-wiring-tests : (d n : ℕ) (wiring : List ℕ) → wiringCheck d n wiring
-    ≡ refuseIf (ltb n 1 || ltb 2048 n) 7 0 (refuseIf (not (eqb (length wiring) (2 * (n * d)))) 8 0 (entriesCheck (n * d) (edgeOf wiring) (n * d)))
+wiring-tests : (dl dr nl nr : ℕ) (wiring : List ℕ) → wiringCheck dl dr nl nr wiring
+    ≡ refuseIf (countFaulty nl || countFaulty nr) 7 0
+    (refuseIf (not (eqb (nl * dl) (nr * dr))) 23 0
+    (refuseIf (not (eqb (length wiring) (2 * (nl * dl)))) 8 0 (entriesCheck (nl * dl) (edgeOf wiring) (nl * dl))))
 unfolding wiringCheck
-wiring-tests d n wiring = refl
+wiring-tests dl dr nl nr wiring = refl
+
+pub count-low : (n : ℕ) → n < 1 → true ≡ countFaulty n
+unfolding countFaulty
+count-low n few = rw (lt-ltb n 1 few)
+
+-- a count that is not too low is faulty where it is too high
+pub count-high : (n : ℕ) → 1 ≤ n → ltb 2048 n ≡ countFaulty n
+unfolding countFaulty
+count-high n low = rw (le-ltb n 1 low)
+
+pub count-range : (n : ℕ) → countFaulty n ≡ false → (1 ≤ n) × (n ≤ 2048)
+unfolding countFaulty
+count-range n e = let (low, high) = or-neither (ltb n 1) (ltb 2048 n) e in (ltb-false n 1 low, ltb-false 2048 n high)
+
+count-back : (n : ℕ) → 1 ≤ n → n ≤ 2048 → countFaulty n ≡ false
+unfolding countFaulty
+count-back n low high = rw (le-ltb n 1 low) (le-ltb 2048 n high)
 
 -- the outcome of each test in turn
-module _ (d n : ℕ) (wiring : List ℕ) where
-  pub wiring-few : n < 1 → wiringCheck d n wiring ≡ refused 7 0
-  wiring-few few = wiring-tests d n wiring ∙ refuse-taken _ 7 0 _ (rw (lt-ltb n 1 few))
+module _ (dl dr nl nr : ℕ) (wiring : List ℕ) where
+  pub wiring-left-count : countFaulty nl ≡ true → wiringCheck dl dr nl nr wiring ≡ refused 7 0
+  wiring-left-count e = wiring-tests dl dr nl nr wiring ∙ refuse-taken _ 7 0 _ (rw e)
 
-  pub wiring-many : 2048 < n → wiringCheck d n wiring ≡ refused 7 0
-  wiring-many many = wiring-tests d n wiring ∙ refuse-taken _ 7 0 _ (rw (lt-ltb 2048 n many) (or-true (ltb n 1)))
+  pub wiring-right-count : countFaulty nr ≡ true → wiringCheck dl dr nl nr wiring ≡ refused 7 0
+  wiring-right-count e = wiring-tests dl dr nl nr wiring ∙ refuse-taken _ 7 0 _ (rw e (or-true (countFaulty nl)))
 
-  module _ (low : 1 ≤ n) (high : n ≤ 2048) where
-    past-count : wiringCheck d n wiring
-        ≡ refuseIf (not (eqb (length wiring) (2 * (n * d)))) 8 0 (entriesCheck (n * d) (edgeOf wiring) (n * d))
-    past-count = wiring-tests d n wiring ∙ refuse-passed _ 7 0 _ (rw (le-ltb n 1 low) (le-ltb 2048 n high))
+  module _ (counted-left : countFaulty nl ≡ false) (counted-right : countFaulty nr ≡ false) where
+    past-counts : wiringCheck dl dr nl nr wiring
+        ≡ refuseIf (not (eqb (nl * dl) (nr * dr))) 23 0
+        (refuseIf (not (eqb (length wiring) (2 * (nl * dl)))) 8 0 (entriesCheck (nl * dl) (edgeOf wiring) (nl * dl)))
+    past-counts = wiring-tests dl dr nl nr wiring ∙ refuse-passed _ 7 0 _ (rw (counted-left, counted-right))
 
-    pub wiring-unsized : (length wiring ≡ 2 * (n * d) → ⊥) → wiringCheck d n wiring ≡ refused 8 0
-    wiring-unsized other = past-count ∙ refuse-taken _ 8 0 _ (ap not (ne-eqb _ _ other))
+    pub wiring-differing : (nl * dl ≡ nr * dr → ⊥) → wiringCheck dl dr nl nr wiring ≡ refused 23 0
+    wiring-differing other = past-counts ∙ refuse-taken _ 23 0 _ (ap not (ne-eqb _ _ other))
 
-    pub wiring-entries : length wiring ≡ 2 * (n * d) → wiringCheck d n wiring ≡ entriesCheck (n * d) (edgeOf wiring) (n * d)
-    wiring-entries fits = past-count ∙ refuse-passed _ 8 0 _ (ap not (eq-eqb _ _ fits))
+    module _ (even : nl * dl ≡ nr * dr) where
+      past-edges : wiringCheck dl dr nl nr wiring
+          ≡ refuseIf (not (eqb (length wiring) (2 * (nl * dl)))) 8 0 (entriesCheck (nl * dl) (edgeOf wiring) (nl * dl))
+      past-edges = past-counts ∙ refuse-passed _ 23 0 _ (ap not (eq-eqb _ _ even))
 
-pub wired : {values : List ℕ} (d n : ℕ) (wiring : List ℕ) → 1 ≤ d → d ≤ 16 → wiringCheck d n wiring ≡ done values → Wired d n wiring
-wired {values} d n wiring low high e =
-    let (counted, rest) = refuse-done _ 7 0 _ values (sym (wiring-tests d n wiring) ∙ e) in
-    let (fits, entries) = refuse-done _ 8 0 _ values rest in
-    let r = entries-passed (n * d) (edgeOf wiring) (n * d) entries in
+      pub wiring-unsized : (length wiring ≡ 2 * (nl * dl) → ⊥) → wiringCheck dl dr nl nr wiring ≡ refused 8 0
+      wiring-unsized other = past-edges ∙ refuse-taken _ 8 0 _ (ap not (ne-eqb _ _ other))
+
+      pub wiring-entries : length wiring ≡ 2 * (nl * dl) → wiringCheck dl dr nl nr wiring ≡ entriesCheck (nl * dl) (edgeOf wiring) (nl * dl)
+      wiring-entries fits = past-edges ∙ refuse-passed _ 8 0 _ (ap not (eq-eqb _ _ fits))
+
+-- a degree of a sound sheet
+abbrev pub Degree : ℕ → Type 0
+Degree d = (1 ≤ d) × (d ≤ 16)
+
+pub wired : {values : List ℕ} (dl dr nl nr : ℕ) (wiring : List ℕ) → Degree dl → Degree dr → wiringCheck dl dr nl nr wiring ≡ done values
+    → Wired dl dr nl nr wiring
+wired {values} dl dr nl nr wiring left-degree right-degree e =
+    let (counted, rest) = refuse-done _ 7 0 _ values (sym (wiring-tests dl dr nl nr wiring) ∙ e) in
+    let (left-count, right-count) = or-neither (countFaulty nl) (countFaulty nr) counted in
+    let (same, last) = refuse-done _ 23 0 _ values rest in
+    let (fits, entries) = refuse-done _ 8 0 _ values last in
+    let even : nl * dl ≡ nr * dr = eqb-true _ _ (not-false _ same) in
+    let sized : length wiring ≡ 2 * (nl * dl) = eqb-true _ _ (not-false _ fits) in
+    let r = entries-passed (nl * dl) (edgeOf wiring) (nl * dl) entries in
     record {
-      d-low = low;
-      d-high = high;
-      n-low = ltb-false n 1 (or-neither (ltb n 1) _ counted .0);
-      n-high = ltb-false 2048 n (or-neither (ltb n 1) _ counted .1);
-      sized = eqb-true _ _ (not-false _ fits);
-      edge-lt = r .entry-lt;
-      edge-once = r .entry-once;
+      left-fits = record {
+        d-low = left-degree .0;
+        d-high = left-degree .1;
+        n-low = count-range nl left-count .0;
+        n-high = count-range nl left-count .1;
+        sized = sized;
+      };
+      right-fits = record {
+        d-low = right-degree .0;
+        d-high = right-degree .1;
+        n-low = count-range nr right-count .0;
+        n-high = count-range nr right-count .1;
+        sized = sized ∙ ap (λ (m : ℕ). 2 * m) even;
+      };
+      permuted = record { edge-lt = r .entry-lt; edge-once = r .entry-once };
     }
 
-pub wired-back : (d n : ℕ) (wiring : List ℕ) → Wired d n wiring → wiringCheck d n wiring ≡ done []
-wired-back d n wiring w =
-    wiring-entries d n wiring (w .n-low) (w .n-high) (w .sized)
-    ∙ entries-back (n * d) (edgeOf wiring) (n * d) (record { entry-lt = w .edge-lt; entry-once = w .edge-once })
+-- both sides have as many entries
+pub wired-even : {dl dr nl nr : ℕ} {wiring : List ℕ} → Wired dl dr nl nr wiring → nl * dl ≡ nr * dr
+wired-even w = omega (arith, w .left-fits .sized, w .right-fits .sized)
+
+pub wired-back : (dl dr nl nr : ℕ) (wiring : List ℕ) → Wired dl dr nl nr wiring → wiringCheck dl dr nl nr wiring ≡ done []
+wired-back dl dr nl nr wiring w =
+    let l = w .left-fits in
+    let r = w .right-fits in
+    wiring-entries dl dr nl nr wiring (count-back nl (l .n-low) (l .n-high)) (count-back nr (r .n-low) (r .n-high)) (wired-even w) (l .sized)
+    ∙ entries-back (nl * dl) (edgeOf wiring) (nl * dl) (record { entry-lt = w .permuted .edge-lt; entry-once = w .permuted .edge-once })
 
 -- the wiring holds all entries of a vertex
-pub wired-fits : {d n : ℕ} {wiring : List ℕ} → Wired d n wiring → (v : ℕ) → v < n → 2 * (v * d + d) ≤ length wiring
-wired-fits {d} w v l = omega (arith, w .sized, mul-le-mul-right d l)
+pub fitted-vertex : {d n : ℕ} {wiring : List ℕ} → Fitted d n wiring → (v : ℕ) → v < n → 2 * (v * d + d) ≤ length wiring
+fitted-vertex {d} f v l = omega (arith, f .sized, mul-le-mul-right d l)
+
+pub fitted-edges : {d n : ℕ} {wiring : List ℕ} → Fitted d n wiring → n * d ≤ 32768
+fitted-edges f = edges-le _ _ (f .n-high) (f .d-high)
+
+-- ---- the sides of an accepted plan
+
+pub side-fits : (plan : Plan) → WiredPlan plan → (name : SideName) → Fitted (degree (sheetOf plan name)) (countOf plan name) (plan .wiring)
+side-fits plan w SideName.Left = w .left-fits
+side-fits plan w SideName.Right = w .right-fits
+
+-- the entries of either side are the edges of the plan
+pub side-edges : (plan : Plan) → WiredPlan plan → (name : SideName) → countOf plan name * degree (sheetOf plan name) ≡ edgeCount plan
+side-edges plan w SideName.Left = refl
+side-edges plan w SideName.Right = sym (wired-even w)
 
 -- ---- sides whose entries are all bits
 
@@ -198,23 +267,28 @@ module _ {N : ℕ} {side : Side} (w : Whole N side) where
   pub entry-lt : (v j : ℕ) → v < side .n → j < side .d → v * side .d + j < N
   entry-lt v j l k = rw (← w .entries) (digits-lt l k)
 
--- ---- the sides of an accepted wiring
+-- ---- the bits of the sides of an accepted wiring
 
-pub side-lt : {d n : ℕ} {wiring : List ℕ} → Wired d n wiring → (name : SideName) (i : ℕ) → i < n * d → sideBit name wiring i < n * d
+pub side-lt : {N : ℕ} {wiring : List ℕ} → Permuted N wiring → (name : SideName) (i : ℕ) → i < N → sideBit name wiring i < N
 unfolding sideBit
-side-lt w SideName.Left i l = l
-side-lt w SideName.Right i l = w .edge-lt i l
+side-lt p SideName.Left i l = l
+side-lt p SideName.Right i l = p .edge-lt i l
 
-pub side-once : {d n : ℕ} {wiring : List ℕ} → Wired d n wiring → (name : SideName) (i j : ℕ) → i < n * d → j < n * d
+pub side-once : {N : ℕ} {wiring : List ℕ} → Permuted N wiring → (name : SideName) (i j : ℕ) → i < N → j < N
     → sideBit name wiring i ≡ sideBit name wiring j → i ≡ j
 unfolding sideBit
-side-once w SideName.Left i j k l q = q
-side-once w SideName.Right i j k l q = w .edge-once i j k l q
+side-once p SideName.Left i j k l q = q
+side-once p SideName.Right i j k l q = p .edge-once i j k l q
 
 pub wired-joined : (plan : Plan) → WiredPlan plan → Joined (edgeCount plan) (sideOf plan)
 unfolding sideBit
 wired-joined plan w =
     record {
-      whole = λ name. record { degree-pos = w .d-low; entries = refl; bit-lt = side-lt w name; bit-once = side-once w name };
+      whole = λ name. record {
+        degree-pos = side-fits plan w name .d-low;
+        entries = side-edges plan w name;
+        bit-lt = side-lt (w .permuted) name;
+        bit-once = side-once (w .permuted) name;
+      };
       in-order = λ i. refl;
     }

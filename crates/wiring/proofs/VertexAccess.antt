@@ -5,7 +5,8 @@
 --   readWord side wiring d block v       the word that vertex v of a side reads; 0 where it is not inside (specs Access)
 --   writtenWord side wiring d v w block  the block with w put at the entries of vertex v; unchanged where it is not inside (specs Access)
 --   vertexWord, withWord                 the same with no tests (specs Block)
---   WiredPlan plan                       the plan's wiring is accepted (specs Checking)
+--   Fitted d n wiring                    a side of an accepted plan: its ranges, and as many entries as the wiring has (specs Checking)
+--   sideBy sheet n wiring name           the side of these parts (specs Plan)
 -- Laws are named by their subject, then by the fact: `inside-` and `outside-` are about the tests, `read-` and `write-` about the
 -- two ways of access, `word-from-` about a word of which some digits are read. At the end of a name, `-inside` is a vertex of an
 -- accepted plan, `-outside` one that the tests turn away, `-one-more` one more digit, `-last` the end of a loop over all digits.
@@ -24,12 +25,12 @@ use Rattle.bits.specs.Bit.{word, bitAt}
 use Rattle.bits.proofs.Words.{word-lt, word-one-more}
 use Rattle.bits.proofs.Bytes.{bitAt-lt}
 use Rattle.inner_code.specs.Sheet.{degree}
-use Rattle.wiring.specs.Plan.{Plan, edgeOf, left, right, sideBit, sideOf}
+use Rattle.wiring.specs.Plan.{edgeOf, left, right, sideBit, sideBy}
 use Rattle.wiring.specs.Block.{vertexWord, scattered, withWord}
 use Rattle.wiring.specs.Access.{inside, wordFrom, readWord, writtenWord}
-use Rattle.wiring.specs.Checking.{WiredPlan}
+use Rattle.wiring.specs.Checking.{Fitted}
 use Rattle.wiring.specs.declared.side.SideName.{SideName}
-use Rattle.wiring.proofs.Permutation.{wired-fits}
+use Rattle.wiring.proofs.Permutation.{fitted-vertex}
 
 -- ---- the tests
 
@@ -104,17 +105,17 @@ module _ (side : SideName) (wiring : List ℕ) (d : ℕ) where
   write-last v w block j so-far e s last =
       s ∙ ap (λ (m : ℕ). scattered (sideBit side wiring) d (v * d) w m block) last ∙ sym (write-all v w block e)
 
--- ---- an accepted plan
+-- ---- a side that fits
 
-module _ (plan : Plan) (w : WiredPlan plan) (name : SideName) where
-  inside-plan : (v : ℕ) → v < plan .n → inside (degree (plan .sheet)) (plan .wiring) v ≡ true
-  inside-plan v l = inside-all _ (plan .wiring) v (w .d-high) (omega (arith, w .n-high)) (wired-fits w v l)
+module _ (sheet : List ℕ) {n : ℕ} {wiring : List ℕ} (f : Fitted (degree sheet) n wiring) (name : SideName) where
+  inside-fitted : (v : ℕ) → v < n → inside (degree sheet) wiring v ≡ true
+  inside-fitted v l = inside-all _ wiring v (f .d-high) (omega (arith, f .n-high)) (fitted-vertex f v l)
 
-  pub read-inside : (block : List ℕ) (v : ℕ) → v < plan .n
-      → readWord name (plan .wiring) (degree (plan .sheet)) block v ≡ vertexWord (sideOf plan name) block v
+  pub read-inside : (block : List ℕ) (v : ℕ) → v < n
+      → readWord name wiring (degree sheet) block v ≡ vertexWord (sideBy sheet n wiring name) block v
   unfolding vertexWord wordFrom
-  read-inside block v l = read-all name (plan .wiring) _ block v (inside-plan v l)
+  read-inside block v l = read-all name wiring _ block v (inside-fitted v l)
 
-  pub write-inside : (v x : ℕ) (block : List ℕ) → v < plan .n
-      → writtenWord name (plan .wiring) (degree (plan .sheet)) v x block ≡ withWord (sideOf plan name) v x block
-  write-inside v x block l = write-all name (plan .wiring) _ v x block (inside-plan v l)
+  pub write-inside : (v x : ℕ) (block : List ℕ) → v < n
+      → writtenWord name wiring (degree sheet) v x block ≡ withWord (sideBy sheet n wiring name) v x block
+  write-inside v x block l = write-all name wiring _ v x block (inside-fitted v l)

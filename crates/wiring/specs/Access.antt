@@ -4,9 +4,10 @@
 --   wordFrom bit block base d             the word of d digits at the entries from `base` on
 --   readWord side wiring d block v        the word that vertex v of a side reads; 0 where it is not inside
 --   writtenWord side wiring d v w block   the block with w put at the entries of vertex v; unchanged where it is not inside
---   satisfiedBy basis k side wiring d block v    the code's test of vertex v: the first k rows of the basis leave nothing of its word
---   unsatisfiedBy basis k side wiring d n block  the first vertex of a side that fails it, n where all pass
---   locatedBy basis k d n wiring block    no value, or the side (0 left, 1 right) and the first vertex that fails it
+--   bothCodes left right name             the sides as the code holds them, by name
+--   satisfiedBy code side wiring block v  the code's test of vertex v: the first k rows of the basis leave nothing of its word
+--   unsatisfiedBy code side wiring m block  the first of m vertices of a side that fails it, m where all pass
+--   locatedBy codes wiring block          no value, or the side (0 left, 1 right) and the first vertex that fails it
 --   noneSeen                              one bit for each edge, none set
 --   seenAfter edge i seen                 the bits with those set whose edges stand among entries 0 .. i - 1
 use Prim.Native.Nat.{ℕ, zero, suc, _+_, _*_, min}
@@ -20,6 +21,7 @@ use Rattle.bits.specs.Search.{firstFailing}
 use Rattle.inner_code.specs.Reduction.{reducedBy}
 use Rattle.wiring.specs.Plan.{left, right, sideBit}
 use Rattle.wiring.specs.Block.{scattered}
+use Rattle.wiring.specs.declared.side.SideCode.{SideCode}
 use Rattle.wiring.specs.declared.side.SideName.{SideName}
 
 unfoldable pub inside : ℕ → List ℕ → ℕ → Bool
@@ -37,19 +39,24 @@ unfoldable pub writtenWord : SideName → List ℕ → ℕ → ℕ → ℕ → L
 unfolding inside scattered sideBit
 writtenWord side wiring d v w block = cond (inside d wiring v) (scattered (sideBit side wiring) d (v * d) w d block) block
 
-unfoldable pub satisfiedBy : List ℕ → ℕ → SideName → List ℕ → ℕ → List ℕ → ℕ → Bool
+abbrev pub bothCodes : SideCode → SideCode → SideName → SideCode
+bothCodes l r SideName.Left = l
+bothCodes l r SideName.Right = r
+
+unfoldable pub satisfiedBy : SideCode → SideName → List ℕ → List ℕ → ℕ → Bool
 unfolding at reducedBy readWord
-satisfiedBy basis k side wiring d block v = eqb (reducedBy (at basis) (min k 11) (readWord side wiring d block v)) 0
+satisfiedBy code side wiring block v = eqb (reducedBy (at (code .basis)) (min (code .k) 11) (readWord side wiring (code .d) block v)) 0
 
-unfoldable pub unsatisfiedBy : List ℕ → ℕ → SideName → List ℕ → ℕ → ℕ → List ℕ → ℕ
+unfoldable pub unsatisfiedBy : SideCode → SideName → List ℕ → ℕ → List ℕ → ℕ
 unfolding firstFailing satisfiedBy
-unsatisfiedBy basis k side wiring d n block = firstFailing n (λ v. satisfiedBy basis k side wiring d block v)
+unsatisfiedBy code side wiring m block = firstFailing m (λ v. satisfiedBy code side wiring block v)
 
-unfoldable pub locatedBy : List ℕ → ℕ → ℕ → ℕ → List ℕ → List ℕ → List ℕ
+unfoldable pub locatedBy : (SideName → SideCode) → List ℕ → List ℕ → List ℕ
 unfolding unsatisfiedBy
-locatedBy basis k d n wiring block =
-    cond (ltb (unsatisfiedBy basis k left wiring d n block) n) (0 ∷ unsatisfiedBy basis k left wiring d n block ∷ [])
-    (cond (ltb (unsatisfiedBy basis k right wiring d n block) n) (1 ∷ unsatisfiedBy basis k right wiring d n block ∷ []) [])
+locatedBy codes wiring block =
+    let found : SideName → ℕ = λ name. unsatisfiedBy (codes name) name wiring (codes name .n) block in
+    cond (ltb (found left) (codes left .n)) (0 ∷ found left ∷ [])
+    (cond (ltb (found right) (codes right .n)) (1 ∷ found right ∷ []) [])
 
 unfoldable pub noneSeen : List ℕ
 noneSeen = replicate 4096 0

@@ -1,29 +1,34 @@
 // The two ends of every edge: its left vertex and its right vertex.
 use crate::access::edge_at;
-use crate::plan::MAX_VERTICES;
-use inner_code::MAX_DEGREE;
+use crate::plan::MAX_EDGES;
 ghost use mathlib.Core.Path.{_≡_};
 ghost use lib.ListN.{length};
 ghost use Rattle.wiring.specs.Ends.{EndsNoted, notedLefts, notedRights};
 
-// For each entry its edge's left vertex, and for each edge its right vertex: those of the n * d entries of an accepted wiring. Nothing is
-// written for a d of 0 or above 16, an n above 2,048, or a slice too short for n * d entries, and nothing more from the first entry on
-// that names no edge; an accepted wiring has none.
-pub fn note_ends(wiring: &[u8], n: usize, d: usize, lefts: &mut [u16], rights: &mut [u16])
-    ensures { λ _. ⌜ EndsNoted d n (now (wiring .entry)) (now (lefts .entry)) (now (rights .entry)) (now (lefts .exit)) (now (rights .exit)) ⌝ }
-    ensures { λ _. ⌜ now (lefts .exit) ≡ notedLefts d n (now (wiring .entry)) (now (lefts .entry)) (length (now (rights .entry))) ⌝ }
-    ensures { λ _. ⌜ now (rights .exit) ≡ notedRights d n (now (wiring .entry)) (length (now (lefts .entry))) (now (rights .entry)) ⌝ }
+// For each entry its edge's left vertex, and for each edge its right vertex: those of the entries of an accepted wiring of so many edges,
+// its left vertices of degree dl and its right ones of degree dr. Nothing is written for a degree of 0, more than 32,768 edges, or a slice
+// too short for them, and nothing more from the first entry on that names no edge; an accepted wiring has none.
+pub fn note_ends(
+    wiring: &[u8],
+    edges: usize,
+    dl: usize,
+    dr: usize,
+    lefts: &mut [u16],
+    rights: &mut [u16],
+)
+    ensures { λ _. ⌜ EndsNoted edges dl dr (now (wiring .entry)) (now (lefts .entry)) (now (rights .entry)) (now (lefts .exit)) (now (rights .exit)) ⌝ }
+    ensures { λ _. ⌜ now (lefts .exit) ≡ notedLefts edges dl dr (now (wiring .entry)) (now (lefts .entry)) (length (now (rights .entry))) ⌝ }
+    ensures { λ _. ⌜ now (rights .exit) ≡ notedRights edges dl dr (now (wiring .entry)) (length (now (lefts .entry))) (now (rights .entry)) ⌝ }
 {
-    if d < 1 {
+    if dl < 1 {
         return;
     }
-    if MAX_DEGREE < d {
+    if dr < 1 {
         return;
     }
-    if MAX_VERTICES < n {
+    if MAX_EDGES < edges {
         return;
     }
-    let edges = n * d;
     if wiring.len() < 2 * edges {
         return;
     }
@@ -39,8 +44,8 @@ pub fn note_ends(wiring: &[u8], n: usize, d: usize, lefts: &mut [u16], rights: &
         if edges <= edge {
             return;
         }
-        lefts[i] = (edge / d) as u16;
-        rights[edge] = (i / d) as u16;
+        lefts[i] = (edge / dl) as u16;
+        rights[edge] = (i / dr) as u16;
         i += 1;
     }
 }

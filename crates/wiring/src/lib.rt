@@ -17,6 +17,8 @@ pub use locator::Located;
 pub use locator::first_unsatisfied;
 pub use locator::locate;
 pub use piece::piece_of;
+pub use plan::CheckedPlan;
 pub use plan::MAX_VERTICES;
 pub use plan::check_plan;
+pub use side::SideCode;
 pub use side::SideName;

@@ -3,12 +3,13 @@ use crate::access::read_word;
 use crate::block::Checked;
 use crate::block::check_block;
 use crate::plan::check_plan;
+use crate::side::SideCode;
 use crate::side::SideName;
+use crate::side::code_of;
 use inner_code::Refusal;
-use inner_code::Sheet;
 ghost use mathlib.Core.Path.{_≡_};
 ghost use Rattle.inner_code.specs.Reply.{done};
-ghost use Rattle.wiring.specs.Access.{locatedBy};
+ghost use Rattle.wiring.specs.Access.{bothCodes, locatedBy};
 ghost use Rattle.wiring.specs.Plan.{planOf};
 ghost use Rattle.wiring.specs.Answer.{locateAnswer, locateReply};
 
@@ -19,42 +20,45 @@ pub enum Located {
     Refused(Refusal),
 }
 
-// The first unsatisfied vertex of a block, the left side before the right, the lowest number first. Refusals 1 to 12.
-pub fn locate(sheet: &[u8], n: usize, wiring: &[u8], block: &[u8]) -> Located
-    ensures { λ r. ⌜ locateReply r ≡ locateAnswer (planOf (now (sheet .entry)) n (now (wiring .entry))) (now (block .entry)) ⌝ }
+// The first unsatisfied vertex of a block, the left side before the right, the lowest number first. Refusals 1 to 12 and
+// 23.
+pub fn locate(
+    left: &[u8],
+    right: &[u8],
+    nl: usize,
+    nr: usize,
+    wiring: &[u8],
+    block: &[u8],
+) -> Located
+    ensures { λ r. ⌜ locateReply r ≡ locateAnswer (planOf (now (left .entry)) (now (right .entry)) nl nr (now (wiring .entry))) (now (block .entry)) ⌝ }
 {
-    let checked = check_plan(sheet, n, wiring);
-    let values = checked.sheet;
-    match values {
-        Sheet::Refused(r) => Located::Refused(r),
-        Sheet::Accepted { d, k } => match check_block(n * d, block) {
+    let plan = check_plan(left, right, nl, nr, wiring);
+    let checked = plan.checked;
+    match checked {
+        Checked::Refused(r) => Located::Refused(r),
+        Checked::Passed => match check_block(plan.left.n * plan.left.d, block) {
             Checked::Refused(r) => Located::Refused(r),
-            Checked::Passed => {
-                let basis = checked.basis;
-                first_unsatisfied(&basis, k, d, n, wiring, block)
-            }
+            Checked::Passed => first_unsatisfied(plan.left, plan.right, wiring, block),
         },
     }
 }
 
-// The first vertex of which the first k rows of the basis leave something, the left side before the right: with the echelon form of a
-// checked plan's rows the first that is unsatisfied. It refuses nothing.
-pub fn first_unsatisfied(
-    basis: &[u16; 11],
-    k: usize,
-    d: usize,
-    n: usize,
-    wiring: &[u8],
-    block: &[u8],
-) -> Located
-    ensures { λ r. ⌜ locateReply r ≡ done (locatedBy (now (basis .entry)) k d n (now (wiring .entry)) (now (block .entry))) ⌝ }
+// The first vertex of which the first k rows of its side's basis leave something, the left side before the right: with the sides of a
+// checked plan the first that is unsatisfied. It refuses nothing.
+pub fn first_unsatisfied(left: SideCode, right: SideCode, wiring: &[u8], block: &[u8]) -> Located
+    ensures { λ r. ⌜ locateReply r ≡ done (locatedBy (bothCodes left right) (now (wiring .entry)) (now (block .entry))) ⌝ }
 {
     let mut side = SideName::Left;
     'search: loop {
+        let code = code_of(side, left, right);
+        let n = code.n;
+        let d = code.d;
+        let k = code.k;
+        let basis = code.basis;
         let mut v = 0;
         while v < n {
             let word = read_word(side, wiring, d, block, v);
-            if inner_code::residue(basis, k, word) != 0 {
+            if inner_code::residue(&basis, k, word) != 0 {
                 break 'search Located::At { side, vertex: v };
             }
             v += 1;

@@ -13,17 +13,17 @@ use Rattle.margin.proofs.write_plan.Statement.{statement}
 use Rattle.margin.proofs.write_plan.Tie as tie
 
 abbrev Inv-loop : tie.InvT-loop
-Inv-loop input n d k distance spread beyond flips₀ flips = flips ≤ beyond
+Inv-loop input plan beyond flips₀ flips = flips ≤ beyond
 
 abbrev μ-loop : tie.MeasureT-loop
-μ-loop input n d k distance spread beyond flips₀ flips = beyond - flips
+μ-loop input plan beyond flips₀ flips = beyond - flips
 
 abbrev start : tie.At-loop Inv-loop μ-loop → tie.Start Inv-loop μ-loop
 start c = c .before .before .before .before
 
 -- the loop's end is the first F that is not covered
 ends : (c : tie.At-loop Inv-loop μ-loop) → c .before .first-uncovered .result ≡ beyond (measuresOf (planPart (now (start c .args .input))))
-ends c = let (n-is, numbers) = start c .pre in last-is _ _ _ _ _ _ n-is numbers _ (c .before .first-uncovered .ensures)
+ends c = last-is _ _ (start c .pre) _ (c .before .first-uncovered .ensures)
 
 write-numbers-requires : tie.Need-write-numbers-requires Inv-loop μ-loop
 write-numbers-requires c κs = search needs
@@ -39,8 +39,7 @@ sweeps-named-requires c κs = search needs
 
 write-line-requires : tie.Need-write-line-requires Inv-loop μ-loop
 write-line-requires c κs =
-    let (n-is, numbers) = start (c .before .before) .pre in
-    let sweeps = line-sweeps _ _ _ _ _ _ n-is numbers _ _ (c .sweeps-named .ensures) in
+    let sweeps = line-sweeps _ _ (start (c .before .before) .pre) _ _ (c .sweeps-named .ensures) in
     (sweeps, rw sweeps (line-covered _ _ (omega (arith, ends (c .before .before)))))
 
 add-flips : tie.Need-add-flips Inv-loop μ-loop

@@ -13,7 +13,7 @@ use Rattle.decoder.proofs.decoding.decode_copy.Statement.{statement}
 use Rattle.decoder.proofs.decoding.decode_copy.Tie as tie
 
 abbrev planIn : tie.Start → Plan
-planIn c = planOf (now (c .args .sheet)) (c .args .n) (now (c .args .wiring))
+planIn c = planOf (now (c .args .left)) (now (c .args .right)) (c .args .nl) (c .args .nr) (now (c .args .wiring))
 
 passed : (c : tie.Start) → Passed (planIn c) (now (c .args .received)) (now (c .args .output)) (c .args .limit)
 passed c = check-means _ _ _ _ (c .pre .1)
@@ -21,13 +21,13 @@ passed c = check-means _ _ _ _ (c .pre .1)
 -- ---- the call, from the first copy on, and that copy, from where the block to settle is lent
 
 abbrev copying : tie.After-copy-front-arg → tie.Start
-copying c = c .before .before .before .before .before
+copying c = c .before .before .before .before .before .before .before .before
 
 abbrev start : tie.After-copy-front → tie.Start
 start c = copying (c .before)
 
-abbrev lent : tie.After-settle-arg → tie.After-copy-front
-lent c = c .before .before .before
+abbrev lent : tie.After-settle-arg2 → tie.After-copy-front
+lent c = c .before .before .before .before
 
 abbrev copied : tie.After-settle → tie.After-copy-front
 copied c = lent (c .before .before)
@@ -55,37 +55,49 @@ settle-requires c κs =
     let part : take (length received - 0) (copy .copy-front .last .1 .0) ≡ received =
     ap (take (length received - 0)) (copy .copy-front .ensures) ∙ written-part received (now (args .output)) _ whole in
     let p = passed (start copy) in
-    (p .limited, (record { plan-done = p .plan-done; finds = start copy .pre .0 }, rw part (p .block-done)))
+    (p .limited, (start copy .pre .0, rw part (p .block-done)))
 
 copy-front-requires-2 : tie.Need-copy-front-requires-2
 copy-front-requires-2 c κs =
-    let room = passed (start (copied (c .before .before .before .before .before))) .room in
+    let room = passed (start (copied (c .before .before .before .before .before .before .before .before .before))) .room in
     search needs
 
 same-length : tie.Need-same-length
 same-length c = search needs
 
-returns : tie.Need-returns
-returns c =
-    let stopped = c .before .before .before .before in
-    let swept = stopped .before .before .before .before in
-    let copy = copied swept in
-    let received = now (start copy .args .received) in
-    let settled = swept .settle in
-    copy-unsettled _ _ _ _ (start copy .pre .1) (settled .last .1 .1 .1 .1 .1 .0) (length received - 0) (copy .copy-front .ensures) (omega arith)
-    (settled .ensures .0) (settled .ensures .1 .0) (settled .kept .1 .1 .1 .1 .1 .0) (stopped .if1 .taken) (c .before .before .copy-front2 .ensures)
-
 same-length-2 : tie.Need-same-length-2
 same-length-2 c = search needs
 
-returns-2 : tie.Need-returns-2
-returns-2 c =
-    let swept = c .before .before .before .before in
+same-length-3 : tie.Need-same-length-3
+same-length-3 c = search needs
+
+returns : tie.Need-returns
+returns c =
+    let stopped = c .before .before .before .before in
+    let swept = stopped .before .before .before .before .before .before .before .before in
     let copy = copied swept in
     let received = now (start copy .args .received) in
     let settled = swept .settle in
-    copy-settled _ _ _ _ (start copy .pre .1) (settled .last .1 .1 .1 .1 .1 .0) (length received - 0) (copy .copy-front .ensures) (omega arith)
-    (settled .ensures .0) (settled .ensures .1 .0) (settled .kept .1 .1 .1 .1 .1 .0) (settled .ensures .1 .1) (c .if1 .left)
+    copy-unsettled _ _ _ _ (start copy .pre .1) (settled .last .1 .1 .1 .1 .1 .1 .1 .1 .0) (length received - 0) (copy .copy-front .ensures) (omega arith)
+    (settled .ensures .0) (settled .ensures .1 .0) (settled .kept .1 .1 .1 .1 .1 .1 .1 .1 .0) (stopped .if1 .taken) (c .before .before .copy-front2 .ensures)
+
+same-length-4 : tie.Need-same-length-4
+same-length-4 c = search needs
+
+same-length-5 : tie.Need-same-length-5
+same-length-5 c = search needs
+
+same-length-6 : tie.Need-same-length-6
+same-length-6 c = search needs
+
+returns-2 : tie.Need-returns-2
+returns-2 c =
+    let swept = c .before .before .before .before .before .before .before .before in
+    let copy = copied swept in
+    let received = now (start copy .args .received) in
+    let settled = swept .settle in
+    copy-settled _ _ _ _ (start copy .pre .1) (settled .last .1 .1 .1 .1 .1 .1 .1 .1 .0) (length received - 0) (copy .copy-front .ensures) (omega arith)
+    (settled .ensures .0) (settled .ensures .1 .0) (settled .kept .1 .1 .1 .1 .1 .1 .1 .1 .0) (settled .ensures .1 .1) (c .if1 .left)
 
 pub decode-copy-spec : {M : Type 1} → statement M
 decode-copy-spec =
@@ -98,6 +110,10 @@ decode-copy-spec =
     settle-requires
     copy-front-requires-2
     same-length
-    returns
     same-length-2
+    same-length-3
+    returns
+    same-length-4
+    same-length-5
+    same-length-6
     returns-2)

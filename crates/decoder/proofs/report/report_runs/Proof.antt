@@ -21,29 +21,28 @@ use Rattle.decoder.proofs.report.report_runs.Tie as tie
 check-plan-requires : tie.Need-check-plan-requires
 check-plan-requires c κs = search needs
 
-enum-known-values : tie.Need-enum-known-values
-enum-known-values c = search needs
+enum-known-checked : tie.Need-enum-known-checked
+enum-known-checked c = search needs
 
-enum-known-values-2 : tie.Need-enum-known-values-2
-enum-known-values-2 c = search needs
+enum-told : tie.Need-enum-told
+enum-told c = search needs
 
 -- ---- the call, and what is known once plan and blocks are checked
 
 abbrev first : tie.After-check-plan → tie.Start
-first c = c .before .before .before .before .before .before
+first c = c .before .before .before .before .before .before .before
 
-abbrev start : tie.After-known-told2 → tie.Start
+abbrev start : tie.After-struct-known → tie.Start
 start c = first (c .before .before .before)
 
 abbrev planIn : tie.Start → Plan
-planIn c = planOf (now (c .args .sheet)) (c .args .n) (now (c .args .wiring))
+planIn c = planOf (now (c .args .left)) (now (c .args .right)) (c .args .nl) (c .args .nr) (now (c .args .wiring))
 
-abbrev degreeIn : tie.After-known-told2 → ℕ
-degreeIn c = c .before .values2 .given .0 .0
+abbrev edgesIn : tie.After-struct-known → ℕ
+edgesIn c = c .before .before .before .check-plan .result .left .n * c .before .before .before .check-plan .result .left .d
 
-plan : (c : tie.After-known-told2)
-    → PlanAccepted (planIn (start c)) (c .before .before .before .check-plan .result) (degreeIn c) (c .before .values2 .given .0 .1 .0)
-plan c = plan-accepted _ _ _ _ (c .before .before .before .check-plan .ensures) (c .before .values2 .given .1)
+plan : (c : tie.After-struct-known) → PlanAccepted (planIn (start c)) (c .before .before .before .check-plan .result)
+plan c = plan-accepted _ _ (c .before .before .before .check-plan .ensures) (c .before .enum-told .given .1)
 
 mul-edges : tie.Need-mul-edges
 mul-edges c = omega (arith, edges-few (plan c))
@@ -54,19 +53,19 @@ check-block-requires c κs = search needs
 enum-known-r : tie.Need-enum-known-r
 enum-known-r c = search needs
 
-enum-told : tie.Need-enum-told
-enum-told c = search needs
+enum-told-2 : tie.Need-enum-told-2
+enum-told-2 c = search needs
 
 -- the plan's check, from behind that of the received block and that of the settled one
-abbrev ready : tie.After-enum-told → tie.After-known-told2
+abbrev ready : tie.After-enum-told2 → tie.After-struct-known
 ready c = c .before .before .before
 
-abbrev both : tie.After-enum-told2 → tie.After-enum-told
+abbrev both : tie.After-enum-told3 → tie.After-enum-told2
 both c = c .before .before .before
 
-passed-received : (c : tie.After-enum-told)
-    → blockCheck (start (ready c) .args .n * degreeIn (ready c)) (now (start (ready c) .args .received)) ≡ done []
-passed-received c = sym (c .before .before .check-block .ensures) ∙ ap checkReply (c .enum-told .given .1)
+passed-received : (c : tie.After-enum-told2)
+    → blockCheck (edgesIn (ready c)) (now (start (ready c) .args .received)) ≡ done []
+passed-received c = sym (c .before .before .check-block .ensures) ∙ ap checkReply (c .enum-told2 .given .1)
 
 check-block-requires-2 : tie.Need-check-block-requires-2
 check-block-requires-2 c κs = search needs
@@ -74,15 +73,15 @@ check-block-requires-2 c κs = search needs
 enum-known-r-2 : tie.Need-enum-known-r-2
 enum-known-r-2 c = search needs
 
-enum-told-2 : tie.Need-enum-told-2
-enum-told-2 c = search needs
+enum-told-3 : tie.Need-enum-told-3
+enum-told-3 c = search needs
 
-passed-settled : (c : tie.After-enum-told2)
-    → blockCheck (start (ready (both c)) .args .n * degreeIn (ready (both c))) (now (start (ready (both c)) .args .settled)) ≡ done []
-passed-settled c = sym (c .before .before .check-block2 .ensures) ∙ ap checkReply (c .enum-told2 .given .1)
+passed-settled : (c : tie.After-enum-told3)
+    → blockCheck (edgesIn (ready (both c))) (now (start (ready (both c)) .args .settled)) ≡ done []
+passed-settled c = sym (c .before .before .check-block2 .ensures) ∙ ap checkReply (c .enum-told3 .given .1)
 
-held : (c : tie.After-enum-told2)
-    → let args = start (ready (both c)) .args in Held (now (args .received)) (now (args .settled)) (args .n * degreeIn (ready (both c)))
+held : (c : tie.After-enum-told3)
+    → let args = start (ready (both c)) .args in Held (now (args .received)) (now (args .settled)) (edgesIn (ready (both c)))
 held c = blocks-held _ _ _ (edges-few (plan (ready (both c)))) (passed-received (both c)) (passed-settled c)
 
 count-runs-requires : tie.Need-count-runs-requires
@@ -92,7 +91,7 @@ mul-if1 : tie.Need-mul-if1
 mul-if1 c =
     let checked = ready (both (c .before)) in
     let args = start checked .args in
-    let few = runCount-le (differsAt (now (args .received)) (now (args .settled))) (args .n * degreeIn checked + 1) in
+    let few = runCount-le (differsAt (now (args .received)) (now (args .settled))) (edgesIn checked + 1) in
     omega (arith, c .count-runs .ensures, few, held (c .before) .few)
 
 returns : tie.Need-returns
@@ -114,7 +113,7 @@ returns-2 c =
     let refusing = first (c .before .before .before) in
     let args = refusing .args in
     outcome-plan (planIn refusing) (now (args .received)) (now (args .settled)) (now (args .list)) _ _
-    (plan-refused _ _ _ (c .before .before .before .check-plan .ensures) (c .before .values .given .1))
+    (plan-refused _ _ (c .before .before .before .check-plan .ensures) _ (c .before .checked .given .1))
 
 returns-3 : tie.Need-returns-3
 returns-3 c =
@@ -147,15 +146,15 @@ report-runs-spec =
     tie.close
     (tie.spec
     check-plan-requires
-    enum-known-values
-    enum-known-values-2
+    enum-known-checked
+    enum-told
     mul-edges
     check-block-requires
     enum-known-r
-    enum-told
+    enum-told-2
     check-block-requires-2
     enum-known-r-2
-    enum-told-2
+    enum-told-3
     count-runs-requires
     mul-if1
     returns

@@ -1,4 +1,4 @@
--- `decoder::settle` meets its contract: each call of `sweep_side` is a sweep of the definition, and its count, which is noted as its sum, tells
+-- `decoder::settle` meets its contract: each call of `sweep_named` is a sweep of the definition, and its count, which is noted as its sum, tells
 -- whether the block before it was settled. The loop is entered unsettled after two sweeps and left at the first count after which the block is
 -- settled, or past the limit.
 use mathlib.Core.List.{List}
@@ -8,7 +8,6 @@ use native.Mathlib.Omega.{arith}
 use borrow.Author.Needs.{needs}
 use denote.Ref.{now}
 use lib.ListN.{length, replicate}
-use Rattle.inner_code.specs.Finding.{Finds}
 use Rattle.wiring.specs.Plan.{Plan, planOf, sideOf}
 use Rattle.decoder.specs.Sweep.{turn}
 use Rattle.decoder.specs.Visiting.{Ready}
@@ -20,19 +19,21 @@ use Rattle.decoder.proofs.settle.settle.Statement.{statement}
 use Rattle.decoder.proofs.settle.settle.Tie as tie
 
 abbrev Inv-loop : tie.InvT-loop
-Inv-loop sheet n wiring finder₀ limit block₀ sums₀ first second side₀ count₀ finder block sums side count =
+Inv-loop left right nl nr wiring left-finder₀ right-finder₀ limit block₀ sums₀ first second side₀ count₀ left-finder right-finder block sums side count =
+    let plan : Plan = planOf left right nl nr wiring in
     (2 ≤ count) × (side ≡ turn count) × (length block ≡ length block₀)
-    × ((received : List ℕ) → Begun (planOf sheet n wiring) received → Swept (planOf sheet n wiring) received limit 2 block₀ sums₀
-    → Swept (planOf sheet n wiring) received limit count block sums)
-    × (Finds sheet finder₀ → Finds sheet finder)
+    × ((received : List ℕ) → Begun plan received → Swept plan received limit 2 block₀ sums₀ → Swept plan received limit count block sums)
+    × (Ready plan left-finder₀ right-finder₀ → Ready plan left-finder right-finder)
+    × (length left-finder ≡ length left-finder₀) × (length right-finder ≡ length right-finder₀)
 
 abbrev μ-loop : tie.MeasureT-loop
-μ-loop sheet n wiring finder₀ limit block₀ sums₀ first second side₀ count₀ finder block sums side count = limit + 1 - count
+μ-loop left right nl nr wiring left-finder₀ right-finder₀ limit block₀ sums₀ first second side₀ count₀ left-finder right-finder block sums side count =
+    limit + 1 - count
 
 -- ---- the call
 
 abbrev planIn : tie.Start Inv-loop μ-loop → Plan
-planIn c = planOf (now (c .args .sheet)) (c .args .n) (now (c .args .wiring))
+planIn c = planOf (now (c .args .left)) (now (c .args .right)) (c .args .nl) (c .args .nr) (now (c .args .wiring))
 
 abbrev receivedIn : tie.Start Inv-loop μ-loop → List ℕ
 receivedIn c = now (c .args .block)
@@ -40,45 +41,42 @@ receivedIn c = now (c .args .block)
 begun : (c : tie.Start Inv-loop μ-loop) → Begun (planIn c) (receivedIn c)
 begun c = record { plan-done = c .pre .1 .0 .plan-done; block-done = c .pre .1 .1 }
 
-ready-with : (c : tie.Start Inv-loop μ-loop) {finder : List ℕ} → Finds (now (c .args .sheet)) finder → Ready (planIn c) finder
-ready-with c found = record { plan-done = c .pre .1 .0 .plan-done; finds = found }
-
 -- ---- the first two sweeps
 
-abbrev lent : tie.After-sweep-side-arg2 Inv-loop μ-loop → tie.Start Inv-loop μ-loop
-lent c = c .before .before .before .before .before
+abbrev lent : tie.After-sweep-named-arg3 Inv-loop μ-loop → tie.Start Inv-loop μ-loop
+lent c = c .before .before .before .before .before .before .before .before .before
 
-abbrev start : tie.After-sweep-side Inv-loop μ-loop → tie.Start Inv-loop μ-loop
+abbrev start : tie.After-sweep-named Inv-loop μ-loop → tie.Start Inv-loop μ-loop
 start c = lent (c .before)
 
-abbrev swept-once : tie.After-sums Inv-loop μ-loop → tie.After-sweep-side Inv-loop μ-loop
-swept-once c = c .before .before .before
+abbrev swept-once : tie.After-sums Inv-loop μ-loop → tie.After-sweep-named Inv-loop μ-loop
+swept-once c = c .before .before .before .before .before .before .before
 
 -- the first sum noted, from where the block is lent again and from the second sweep on
-abbrev lent-again : tie.After-sweep-side-arg4 Inv-loop μ-loop → tie.After-note Inv-loop μ-loop
-lent-again c = c .before .before
+abbrev lent-again : tie.After-sweep-named-arg6 Inv-loop μ-loop → tie.After-note Inv-loop μ-loop
+lent-again c = c .before .before .before
 
-abbrev noted-one : tie.After-sweep-side2 Inv-loop μ-loop → tie.After-note Inv-loop μ-loop
+abbrev noted-one : tie.After-sweep-named2 Inv-loop μ-loop → tie.After-note Inv-loop μ-loop
 noted-one c = lent-again (c .before)
 
-abbrev one : tie.After-sweep-side2 Inv-loop μ-loop → tie.After-sweep-side Inv-loop μ-loop
+abbrev one : tie.After-sweep-named2 Inv-loop μ-loop → tie.After-sweep-named Inv-loop μ-loop
 one c = swept-once (noted-one c .before)
 
-sweep-side-requires : tie.Need-sweep-side-requires Inv-loop μ-loop
-sweep-side-requires c κs = lent c .pre .1 .0
+sweep-named-requires : tie.Need-sweep-named-requires Inv-loop μ-loop
+sweep-named-requires c κs = lent c .pre .1 .0
 
-sweep-side-requires-2 : tie.Need-sweep-side-requires-2 Inv-loop μ-loop
-sweep-side-requires-2 c κs =
+sweep-named-requires-2 : tie.Need-sweep-named-requires-2 Inv-loop μ-loop
+sweep-named-requires-2 c κs =
     let first = swept-once (lent-again c .before) in
-    ready-with (start first) (first .sweep-side .ensures .finds)
+    first .sweep-named .ensures .1
 
-first-pass : (c : tie.After-sweep-side Inv-loop μ-loop) → Pass (planIn (start c)) (receivedIn (start c)) 0 (c .sweep-side .result)
-    (c .sweep-side .last .1 .1 .1 .1 .1 .0)
-first-pass c = pass (begun (start c)) (c .sweep-side .ensures) turn-zero (sym (after-zero (sideOf (planIn (start c))) (receivedIn (start c))))
+first-pass : (c : tie.After-sweep-named Inv-loop μ-loop) → Pass (planIn (start c)) (receivedIn (start c)) 0 (c .sweep-named .result)
+    (c .sweep-named .last .1 .1 .1 .1 .1 .1 .1 .1 .0)
+first-pass c = pass (begun (start c)) (c .sweep-named .ensures .0) turn-zero (sym (after-zero (sideOf (planIn (start c))) (receivedIn (start c))))
 
-second-pass : (c : tie.After-sweep-side2 Inv-loop μ-loop) → Pass (planIn (start (one c))) (receivedIn (start (one c))) 1 (c .sweep-side2 .result)
-    (c .sweep-side2 .last .1 .1 .1 .1 .1 .0)
-second-pass c = pass (begun (start (one c))) (c .sweep-side2 .ensures) turn-one (first-pass (one c) .leaves)
+second-pass : (c : tie.After-sweep-named2 Inv-loop μ-loop) → Pass (planIn (start (one c))) (receivedIn (start (one c))) 1 (c .sweep-named2 .result)
+    (c .sweep-named2 .last .1 .1 .1 .1 .1 .1 .1 .1 .0)
+second-pass c = pass (begun (start (one c))) (c .sweep-named2 .ensures .0) turn-one (first-pass (one c) .leaves)
 
 -- the sums are zeros at first, and the first sweep's is noted
 sums-begun : (c : tie.After-sums Inv-loop μ-loop)
@@ -97,21 +95,33 @@ told-one c =
 same-length : tie.Need-same-length Inv-loop μ-loop
 same-length c = search needs
 
-returns : tie.Need-returns Inv-loop μ-loop
-returns c =
-    let two = c .before .before .before .before in
-    settle-zero (begun (start (one two))) (first-pass (one two)) (second-pass two) (told-one (noted-one two)) (c .if2 .taken) (c .before .if1 .taken)
-
 same-length-2 : tie.Need-same-length-2 Inv-loop μ-loop
 same-length-2 c = search needs
 
+same-length-3 : tie.Need-same-length-3 Inv-loop μ-loop
+same-length-3 c = search needs
+
+returns : tie.Need-returns Inv-loop μ-loop
+returns c =
+    let two = c .before .before .before .before .before .before .before .before in
+    settle-zero (begun (start (one two))) (first-pass (one two)) (second-pass two) (told-one (noted-one two)) (c .if2 .taken) (c .before .if1 .taken)
+
+same-length-4 : tie.Need-same-length-4 Inv-loop μ-loop
+same-length-4 c = search needs
+
+same-length-5 : tie.Need-same-length-5 Inv-loop μ-loop
+same-length-5 c = search needs
+
+same-length-6 : tie.Need-same-length-6 Inv-loop μ-loop
+same-length-6 c = search needs
+
 returns-2 : tie.Need-returns-2 Inv-loop μ-loop
 returns-2 c =
-    let two = c .before .before .before .before in
+    let two = c .before .before .before .before .before .before .before .before in
     settle-one (begun (start (one two))) (first-pass (one two)) (second-pass two) (told-one (noted-one two)) (c .if2 .left) (c .before .if1 .taken)
 
-abbrev swept-twice : tie.After-sums2 Inv-loop μ-loop → tie.After-sweep-side2 Inv-loop μ-loop
-swept-twice c = c .before .before .before .before
+abbrev swept-twice : tie.After-sums2 Inv-loop μ-loop → tie.After-sweep-named2 Inv-loop μ-loop
+swept-twice c = c .before .before .before .before .before .before .before .before
 
 note-requires-2 : tie.Need-note-requires-2 Inv-loop μ-loop
 note-requires-2 c κs =
@@ -122,9 +132,9 @@ note-requires-2 c κs =
 -- ---- the loop
 
 loop-holds : tie.Need-loop-holds Inv-loop μ-loop
-loop-holds c = (search needs, turn-two, refl, λ received b s. s, λ found. found)
+loop-holds c = (search needs, turn-two, refl, λ received b s. s, λ ready. ready, refl, refl)
 
-abbrev two : tie.At-loop Inv-loop μ-loop → tie.After-sweep-side2 Inv-loop μ-loop
+abbrev two : tie.At-loop Inv-loop μ-loop → tie.After-sweep-named2 Inv-loop μ-loop
 two c = swept-twice (c .before .before)
 
 abbrev begin : tie.At-loop Inv-loop μ-loop → tie.Start Inv-loop μ-loop
@@ -139,41 +149,55 @@ swept c =
     (swept-two b (second-pass (two c)) (noted .before .before .if1 .left)
     (told-more b (told-one (noted-one (two c))) (second-pass (two c)) (noted .note2 .ensures)))
 
-ready : (c : tie.At-loop Inv-loop μ-loop) → Ready (planIn (begin c)) (c .loop .finder)
-ready c = ready-with (begin c) (c .loop .inv .4 (two c .sweep-side2 .ensures .finds))
+ready : (c : tie.At-loop Inv-loop μ-loop) → Ready (planIn (begin c)) (c .loop .left-finder) (c .loop .right-finder)
+ready c = c .loop .inv .4 (two c .sweep-named2 .ensures .1)
 
-abbrev head : tie.After-sweep-side3 Inv-loop μ-loop → tie.At-loop Inv-loop μ-loop
-head c = c .before .before .before .before
+abbrev head : tie.After-sweep-named3 Inv-loop μ-loop → tie.At-loop Inv-loop μ-loop
+head c = c .before .before .before .before .before
 
-sweep-side-requires-3 : tie.Need-sweep-side-requires-3 Inv-loop μ-loop
-sweep-side-requires-3 c κs = ready (c .before .before .before)
+sweep-named-requires-3 : tie.Need-sweep-named-requires-3 Inv-loop μ-loop
+sweep-named-requires-3 c κs = ready (c .before .before .before .before)
 
 -- whatever block was received
-later-pass : (c : tie.After-sweep-side3 Inv-loop μ-loop) (received : List ℕ) → Begun (planIn (begin (head c))) received
+later-pass : (c : tie.After-sweep-named3 Inv-loop μ-loop) (received : List ℕ) → Begun (planIn (begin (head c))) received
     → Swept (planIn (begin (head c))) received (begin (head c) .args .limit) (head c .loop .count) (head c .loop .block) (head c .loop .sums)
-    → Pass (planIn (begin (head c))) received (head c .loop .count) (c .sweep-side3 .result) (c .sweep-side3 .last .1 .1 .1 .1 .1 .0)
-later-pass c received b so-far = pass b (c .sweep-side3 .ensures) (head c .loop .inv .1) (so-far .block-is)
+    → Pass (planIn (begin (head c))) received (head c .loop .count) (c .sweep-named3 .result) (c .sweep-named3 .last .1 .1 .1 .1 .1 .1 .1 .1 .0)
+later-pass c received b so-far = pass b (c .sweep-named3 .ensures .0) (head c .loop .inv .1) (so-far .block-is)
 
-same-length-3 : tie.Need-same-length-3 Inv-loop μ-loop
-same-length-3 c = search needs
+same-length-7 : tie.Need-same-length-7 Inv-loop μ-loop
+same-length-7 c =
+    let last = c .before .before .before .before .before .before .before in
+    let before = two (head last) in
+    last .sweep-named3 .kept .1 .1 .1 .1 .1 .1 .0 ∙ head last .loop .inv .5 ∙ before .sweep-named2 .kept .1 .1 .1 .1 .1 .1 .0
+    ∙ one before .sweep-named .kept .1 .1 .1 .1 .1 .1 .0
+
+same-length-8 : tie.Need-same-length-8 Inv-loop μ-loop
+same-length-8 c =
+    let last = c .before .before .before .before .before .before .before in
+    let before = two (head last) in
+    last .sweep-named3 .kept .1 .1 .1 .1 .1 .1 .1 .0 ∙ head last .loop .inv .6 ∙ before .sweep-named2 .kept .1 .1 .1 .1 .1 .1 .1 .0
+    ∙ one before .sweep-named .kept .1 .1 .1 .1 .1 .1 .1 .0
+
+same-length-9 : tie.Need-same-length-9 Inv-loop μ-loop
+same-length-9 c = search needs
 
 returns-3 : tie.Need-returns-3 Inv-loop μ-loop
 returns-3 c =
-    let last = c .before .before .before in
+    let last = c .before .before .before .before .before .before .before in
     let b = begun (begin (head last)) in
     settle-later b (swept (head last)) (later-pass last _ b (swept (head last))) (c .if3 .taken) (omega (arith, head last .loop .inv .0))
-    (last .before .before .before .loop-test .taken)
+    (last .before .before .before .before .loop-test .taken)
 
 note-requires-3 : tie.Need-note-requires-3 Inv-loop μ-loop
 note-requires-3 c κs =
-    let last = c .before .before .before .before in
+    let last = c .before .before .before .before .before .before .before .before in
     let b = begun (begin (head last)) in
     let so-far = swept (head last) in
     (told-sized b (so-far .told), pass-few b (later-pass last _ b so-far))
 
 -- the sweep, from its sum noted on
-abbrev last-sweep : tie.After-note3 Inv-loop μ-loop → tie.After-sweep-side3 Inv-loop μ-loop
-last-sweep c = c .before .before .before .before .before
+abbrev last-sweep : tie.After-note3 Inv-loop μ-loop → tie.After-sweep-named3 Inv-loop μ-loop
+last-sweep c = c .before .before .before .before .before .before .before .before .before
 
 other-side-requires : tie.Need-other-side-requires Inv-loop μ-loop
 other-side-requires c κs = search needs
@@ -181,7 +205,7 @@ other-side-requires c κs = search needs
 add-count : tie.Need-add-count Inv-loop μ-loop
 add-count c =
     let last = last-sweep (c .before) in
-    omega (arith, last .before .before .before .loop-test .taken, begin (head last) .pre .0)
+    omega (arith, last .before .before .before .before .loop-test .taken, begin (head last) .pre .0)
 
 loop-less : tie.Need-loop-less Inv-loop μ-loop
 loop-less c = search needs
@@ -192,18 +216,26 @@ loop-again c =
     let before = head last .loop in (
       omega (arith, before .inv .0),
       c .other-side .ensures ∙ turn-more _ (before .inv .1),
-      last .sweep-side3 .kept .1 .1 .1 .1 .1 .0 ∙ before .inv .2,
+      last .sweep-named3 .kept .1 .1 .1 .1 .1 .1 .1 .1 .0 ∙ before .inv .2,
       λ received b s.
           let so-far = before .inv .3 received b s in
           swept-more b so-far (later-pass last received b so-far) (c .before .before .before .if3 .left) (c .before .note3 .ensures),
-      λ first. last .sweep-side3 .ensures .finds,
+      λ first. last .sweep-named3 .ensures .1,
+      last .sweep-named3 .kept .1 .1 .1 .1 .1 .1 .0 ∙ before .inv .5,
+      last .sweep-named3 .kept .1 .1 .1 .1 .1 .1 .1 .0 ∙ before .inv .6,
     )
 
 add-past : tie.Need-add-past Inv-loop μ-loop
 add-past c = omega (arith, begin (c .before) .pre .0)
 
-same-length-4 : tie.Need-same-length-4 Inv-loop μ-loop
-same-length-4 c = search needs
+same-length-10 : tie.Need-same-length-10 Inv-loop μ-loop
+same-length-10 c = search needs
+
+same-length-11 : tie.Need-same-length-11 Inv-loop μ-loop
+same-length-11 c = search needs
+
+same-length-12 : tie.Need-same-length-12 Inv-loop μ-loop
+same-length-12 c = search needs
 
 returns-4 : tie.Need-returns-4 Inv-loop μ-loop
 returns-4 c = settle-never (begun (begin (c .before))) (swept (c .before)) (c .loop-test .left)
@@ -214,17 +246,23 @@ settle-spec =
     (tie.spec
     Inv-loop
     μ-loop
-    sweep-side-requires
+    sweep-named-requires
     note-requires
-    sweep-side-requires-2
+    sweep-named-requires-2
     same-length
-    returns
     same-length-2
+    same-length-3
+    returns
+    same-length-4
+    same-length-5
+    same-length-6
     returns-2
     note-requires-2
     loop-holds
-    sweep-side-requires-3
-    same-length-3
+    sweep-named-requires-3
+    same-length-7
+    same-length-8
+    same-length-9
     returns-3
     note-requires-3
     other-side-requires
@@ -232,5 +270,7 @@ settle-spec =
     loop-less
     loop-again
     add-past
-    same-length-4
+    same-length-10
+    same-length-11
+    same-length-12
     returns-4)

@@ -1,61 +1,53 @@
--- `margin_input::split_input` meets its contract: its tests are those of the definition, and each byte is below 256, so that
--- nothing wraps.
+-- `margin_input::split_input` meets its contract: each part is the one of the definition.
 use mathlib.Core.Path.{sym}
+use native.Mathlib.Nat.{min-eq-left, min-eq-right}
 use native.Mathlib.Omega.{arith}
 use borrow.Author.Needs.{needs}
-use Rattle.margin.proofs.MarginInputs.{sheet-cut, sheet-whole, parts-cut, parts-whole}
+use Rattle.margin.proofs.MarginInputs.{parts-are}
 use Rattle.margin.proofs.margin_input.split_input.Statement.{statement}
 use Rattle.margin.proofs.margin_input.split_input.Tie as tie
 
+sheet-end-requires : tie.Need-sheet-end-requires
+sheet-end-requires c κs = search needs
+
+sheet-end-requires-2 : tie.Need-sheet-end-requires-2
+sheet-end-requires-2 c κs = search needs
+
+count-behind-requires : tie.Need-count-behind-requires
+count-behind-requires c κs = search needs
+
+count-behind-requires-2 : tie.Need-count-behind-requires-2
+count-behind-requires-2 c κs = search needs
+
+sub-if1 : tie.Need-sub-if1
+sub-if1 c = search needs
+
 returns : tie.Need-returns
-returns c = sym (parts-cut _ _ (sheet-cut _ (omega arith)) (omega arith))
+returns c =
+    let counted = c .before in
+    let first = counted .before in
+    parts-are _ _ _ _ _ _ (first .before .before .sheet-end .ensures .0) (first .before .sheet-end2 .ensures .0) (first .count-behind .ensures)
+    (counted .count-behind2 .ensures) (sym (min-eq-right (omega arith)))
 
-shared-slice-read-sheet : tie.Need-shared-slice-read-sheet
-shared-slice-read-sheet c = search needs
-
-cast-sheet : tie.Need-cast-sheet
-cast-sheet c = omega (arith, c .shared-slice-known2 .given 1)
-
-mul-sheet : tie.Need-mul-sheet
-mul-sheet c = omega (arith, c .shared-slice-known2 .given 1)
-
-add-sheet : tie.Need-add-sheet
-add-sheet c = omega (arith, c .shared-slice-known2 .given 1)
+add-wiring : tie.Need-add-wiring
+add-wiring c = search needs
 
 returns-2 : tie.Need-returns-2
-returns-2 c = sym (parts-cut _ _ (sheet-cut _ (omega arith)) (omega arith))
-
-add-if3 : tie.Need-add-if3
-add-if3 c = search needs
-
-returns-3 : tie.Need-returns-3
-returns-3 c = sym (parts-cut _ _ (sheet-whole _ (omega arith)) (omega arith))
-
-pair-requires : tie.Need-pair-requires
-pair-requires c κs = search needs
-
-cast-t7 : tie.Need-cast-t7
-cast-t7 c = search needs
-
-add-t8 : tie.Need-add-t8
-add-t8 c = search needs
-
-returns-4 : tie.Need-returns-4
-returns-4 c = rw (c .pair .ensures) (sym (parts-whole _ _ (sheet-whole _ (omega arith)) (omega arith)))
+returns-2 c =
+    let counted = c .before in
+    let first = counted .before in
+    parts-are _ _ _ _ _ _ (first .before .before .sheet-end .ensures .0) (first .before .sheet-end2 .ensures .0) (first .count-behind .ensures)
+    (counted .count-behind2 .ensures) (sym (min-eq-left (omega arith)))
 
 pub split-input-spec : {M : Type 1} → statement M
 split-input-spec =
     tie.close
     (tie.spec
+    sheet-end-requires
+    sheet-end-requires-2
+    count-behind-requires
+    count-behind-requires-2
+    sub-if1
     returns
-    shared-slice-read-sheet
-    cast-sheet
-    mul-sheet
-    add-sheet
-    returns-2
-    add-if3
-    returns-3
-    pair-requires
-    cast-t7
-    add-t8
-    returns-4)
+    add-wiring
+    returns-2)

@@ -5,47 +5,45 @@ use mathlib.Core.Path.{refl, sym}
 use native.Mathlib.Omega.{arith}
 use denote.Ref.{now}
 use Rattle.wiring.specs.Plan.{Plan, planOf}
-use Rattle.wiring.proofs.Plans.{PlanAccepted, plan-accepted, plan-refused}
+use Rattle.wiring.proofs.Permutation.{fitted-edges}
+use Rattle.wiring.proofs.Plans.{PlanAccepted, plan-accepted, plan-refused, accepted-edges}
 use Rattle.messages.specs.Columns.{noColumns}
 use Rattle.messages.proofs.Answers.{encode-plan, encode-long}
-use Rattle.messages.proofs.Solving.{plan-wired-by, plan-edges, plan-stored}
+use Rattle.messages.proofs.Solving.{plan-wired-by, plan-stored}
 use Rattle.messages.proofs.encoder.encode.Statement.{statement}
 use Rattle.messages.proofs.encoder.encode.Tie as tie
 
 check-plan-requires : tie.Need-check-plan-requires
 check-plan-requires c κs = search needs
 
-enum-known-values : tie.Need-enum-known-values
-enum-known-values c = search needs
+enum-known-checked : tie.Need-enum-known-checked
+enum-known-checked c = search needs
 
-enum-known-values-2 : tie.Need-enum-known-values-2
-enum-known-values-2 c = search needs
+enum-told : tie.Need-enum-told
+enum-told c = search needs
 
-abbrev called : tie.After-slice-known → tie.Start
-called c = c .before .before .before .before
+abbrev checked : tie.After-enum-told → tie.After-check-plan
+checked c = c .before .before
 
-abbrev planned : tie.After-known-told2 → tie.After-check-plan
-planned c = c .before .before .before
-
-abbrev start : tie.After-known-told2 → tie.Start
-start c = called (planned c .before)
+abbrev start : tie.After-enum-told → tie.Start
+start c = checked c .before .before .before .before .before .before
 
 abbrev planIn : tie.Start → Plan
-planIn c = planOf (now (c .args .sheet)) (c .args .n) (now (c .args .wiring))
+planIn c = planOf (now (c .args .left)) (now (c .args .right)) (c .args .nl) (c .args .nr) (now (c .args .wiring))
 
 -- what an accepted plan says
-plan : (c : tie.After-known-told2)
-    → PlanAccepted (planIn (start c)) (planned c .check-plan .result) (c .before .values2 .given .0 .0)
-    (c .before .values2 .given .0 .1 .0)
-plan c = plan-accepted _ _ _ _ (planned c .check-plan .ensures) (c .before .values2 .given .1)
+plan : (c : tie.After-enum-told) → PlanAccepted (planIn (start c)) (checked c .check-plan .result)
+plan c = plan-accepted _ _ (checked c .check-plan .ensures) (c .enum-told .given .1)
 
-mul-if1 : tie.Need-mul-if1
-mul-if1 c = omega (arith, plan c .plan-wired .sized, plan-edges _ _ _ _ (plan c))
+mul-edges : tie.Need-mul-edges
+mul-edges c =
+    let p = plan (c .before) in
+    omega (arith, accepted-edges p, fitted-edges (p .plan-wired .left-fits))
 
 returns : tie.Need-returns
 returns c =
-    let p = plan (c .before) in
-    let long = encode-long _ _ _ (p .plan-done) (omega (arith, c .if1 .taken, plan-edges _ _ _ _ p)) in
+    let p = plan (c .before .before) in
+    let long = encode-long _ _ _ (p .plan-done) (omega (arith, c .if1 .taken, accepted-edges p)) in
     (sym (long .answer), sym (long .leaves))
 
 slice-aggregate-solve : tie.Need-slice-aggregate-solve
@@ -54,11 +52,8 @@ slice-aggregate-solve c = search needs
 solve-requires : tie.Need-solve-requires
 unfolding noColumns
 solve-requires c κs =
-    let short = c .before .before .before in
-    (plan-wired-by _ _ _ _ (plan (short .before)), (short .if1 .left, refl))
-
-mul-encode-rows : tie.Need-mul-encode-rows
-mul-encode-rows c = search needs
+    let short = c .before in
+    (plan-wired-by _ _ (plan (short .before .before)), (short .if1 .left, refl))
 
 slice-aggregate-encode-rows : tie.Need-slice-aggregate-encode-rows
 slice-aggregate-encode-rows c = search needs
@@ -68,7 +63,7 @@ encode-rows-requires c κs = search needs
 
 returns-2 : tie.Need-returns-2
 returns-2 c =
-    let back = encode-plan _ _ _ _ _ (plan-refused _ _ _ (c .before .before .before .check-plan .ensures) (c .before .values .given .1)) in
+    let back = encode-plan _ _ _ _ _ (plan-refused _ _ (c .before .before .before .check-plan .ensures) _ (c .before .checked .given .1)) in
     (sym (back .answer), sym (back .leaves))
 
 same-length : tie.Need-same-length
@@ -78,8 +73,8 @@ returns-3 : tie.Need-returns-3
 returns-3 c =
     let encoded = c .before .before in
     let solved = encoded .before .before .before .before in
-    let short = solved .before .before .before .before in
-    let stored = plan-stored _ _ _ _ (plan (short .before)) _ (short .if1 .left) (solved .solve .ensures) in
+    let short = solved .before .before in
+    let stored = plan-stored _ _ (plan (short .before .before)) _ (short .if1 .left) (solved .solve .ensures) in
     let rows = encoded .encode-rows .ensures in
     (rows .answer _ stored, rows .leaves _ stored)
 
@@ -88,13 +83,12 @@ encode-spec =
     tie.close
     (tie.spec
     check-plan-requires
-    enum-known-values
-    enum-known-values-2
-    mul-if1
+    enum-known-checked
+    enum-told
+    mul-edges
     returns
     slice-aggregate-solve
     solve-requires
-    mul-encode-rows
     slice-aggregate-encode-rows
     encode-rows-requires
     returns-2

@@ -7,27 +7,17 @@ use borrow.Author.Needs.{needs}
 use native.Mathlib.Omega.{arith}
 use denote.Ref.{now}
 use Rattle.inner_code.specs.Reply.{done}
-use Rattle.inner_code.specs.Sheet.{degree}
-use Rattle.wiring.proofs.Plans.{plan-sound}
-use Rattle.wiring.specs.Plan.{Plan, planOf}
+use Rattle.wiring.specs.Plan.{Plan, planOf, edgeCount}
+use Rattle.wiring.specs.Wiring.{planCheck}
 use Rattle.wiring.proofs.Permutation.{edges-le}
-use Rattle.radius.specs.Answer.{marginOf}
+use Rattle.radius.specs.Answer.{marginOf, numbersOf}
 use Rattle.radius.specs.Ranges.{namedInRange}
+use Rattle.radius.specs.declared.numbers.PlanNumbers.{PlanNumbers}
 use Rattle.radius.proofs.Answers.{margin-plan, margin-over, margin-uncovered, margin-covered}
-use Rattle.radius.proofs.PlanNumbers.{NumbersKnown, numbers-known, numbers-turned-back}
-use Rattle.radius.proofs.PlanRanges.{named-plan}
+use Rattle.radius.proofs.PlanNumbers.{numbers-known, numbers-turned-back}
+use Rattle.radius.proofs.PlanRanges.{named-plan, plan-within}
 use Rattle.radius.proofs.margins.margin_sweeps.Statement.{statement}
 use Rattle.radius.proofs.margins.margin_sweeps.Tie as tie
-
--- an accepted plan has at most 32,768 bits
-few-bits : (plan : Plan) (d D R : ℕ) → NumbersKnown plan d D R → plan .n * d ≤ 32768
-few-bits plan d D R k =
-    let (s, w) = plan-sound plan (k .accepted) in
-    rw (k .d-is) (edges-le (plan .n) (degree (plan .sheet)) (w .n-high) (w .d-high))
-
--- the sweeps named for the plan's numbers are the margin's
-is-margin : (plan : Plan) (d D R F sweeps : ℕ) → NumbersKnown plan d D R → sweeps ≡ namedInRange (plan .n) d D R F → sweeps ≡ marginOf plan F
-is-margin plan d D R F sweeps k e = e ∙ rw (k .d-is, k .distance-is, k .spread-is) (named-plan plan (k .accepted) F)
 
 plan-numbers-requires : tie.Need-plan-numbers-requires
 plan-numbers-requires c κs = search needs
@@ -35,29 +25,45 @@ plan-numbers-requires c κs = search needs
 enum-known-r : tie.Need-enum-known-r
 enum-known-r c = search needs
 
-enum-known-d : tie.Need-enum-known-d
-enum-known-d c = search needs
+enum-known-plan : tie.Need-enum-known-plan
+enum-known-plan c = search needs
 
-abbrev numbered : tie.After-known-told2 → tie.After-plan-numbers
-numbered c = c .before .before .before
+-- ---- past the check: the call, the plan that it is about, and its numbers
 
-abbrev start : tie.After-known-told2 → tie.Start
-start c = numbered c .before .before .before
+abbrev numbered : tie.After-struct-known → tie.After-plan-numbers
+numbered c = c .before .before .before .before
 
-abbrev planIn : tie.Start → Plan
-planIn c = planOf (now (c .args .sheet)) (c .args .n) (now (c .args .wiring))
+abbrev start : tie.After-struct-known → tie.Start
+start c = numbered c .before .before .before .before
 
-known : (c : tie.After-known-told2)
-    → NumbersKnown (planIn (start c)) (c .before .d .given .0 .0) (c .before .d .given .0 .1 .1 .0) (c .before .d .given .0 .1 .1 .1 .0)
-known c = numbers-known _ _ _ _ _ _ (numbered c .plan-numbers .ensures) (c .before .d .given .1)
+abbrev planIn : tie.After-struct-known → Plan
+planIn c =
+    let args = start c .args in
+    planOf (now (args .left)) (now (args .right)) (args .nl) (args .nr) (now (args .wiring))
+
+abbrev numbers : tie.After-struct-known → PlanNumbers
+numbers c = c .before .before .plan .given .0 .0
+
+known : (c : tie.After-struct-known) → (planCheck (planIn c) ≡ done []) × (numbers c ≡ numbersOf (planIn c))
+known c = numbers-known _ _ _ (numbered c .plan-numbers .ensures) (c .before .before .plan .given .1)
+
+bits-are : (c : tie.After-struct-known) → numbers c .nl * numbers c .dl ≡ edgeCount (planIn c)
+bits-are c = ap (λ (p : PlanNumbers). p .nl * p .dl) (known c .1)
+
+bits-most : (c : tie.After-struct-known) → edgeCount (planIn c) ≤ 32768
+bits-most c = let r = plan-within _ (known c .0) in edges-le _ _ (r .nl-high) (r .dl-high)
+
+-- the sweeps named for the plan's numbers are the margin's
+named-is : (c : tie.After-struct-known) (F sweeps : ℕ) → sweeps ≡ namedInRange (numbers c) F → sweeps ≡ marginOf (planIn c) F
+named-is c F sweeps e = e ∙ ap (λ (p : PlanNumbers). namedInRange p F) (known c .1) ∙ named-plan (planIn c) (known c .0) F
 
 mul-if1 : tie.Need-mul-if1
-mul-if1 c = omega (arith, few-bits _ _ _ _ (known c))
+mul-if1 c = omega (arith, bits-are c, bits-most c)
 
 returns : tie.Need-returns
 returns c =
-    let k = known (c .before) in
-    sym (margin-over (planIn (start (c .before))) _ (k .accepted) (rw (← k .d-is) (c .if1 .taken)))
+    let told = c .before in
+    sym (margin-over (planIn told) _ (known told .0) (rw (← bits-are told) (c .if1 .taken)))
 
 sweeps-named-requires : tie.Need-sweeps-named-requires
 sweeps-named-requires c κs = search needs
@@ -65,9 +71,8 @@ sweeps-named-requires c κs = search needs
 returns-2 : tie.Need-returns-2
 returns-2 c =
     let told = c .before .before .before in
-    let k = known told in
-    sym (margin-uncovered (planIn (start told)) _ (k .accepted) (rw (← k .d-is) (c .before .before .if1 .left))
-    (sym (is-margin _ _ _ _ _ _ k (c .before .sweeps-named .ensures)) ∙ c .if2 .taken))
+    sym (margin-uncovered (planIn told) _ (known told .0) (rw (← bits-are told) (c .before .before .if1 .left))
+    (sym (named-is told _ _ (c .before .sweeps-named .ensures)) ∙ c .if2 .taken))
 
 returns-3 : tie.Need-returns-3
 returns-3 c = sym (margin-plan _ _ _ _ (numbers-turned-back _ _ _ (c .before .before .before .plan-numbers .ensures) (c .before .r .given .1)))
@@ -75,10 +80,9 @@ returns-3 c = sym (margin-plan _ _ _ _ (numbers-turned-back _ _ _ (c .before .be
 returns-4 : tie.Need-returns-4
 returns-4 c =
     let told = c .before .before .before in
-    let k = known told in
-    let named = is-margin _ _ _ _ _ _ k (c .before .sweeps-named .ensures) in
+    let named = named-is told _ _ (c .before .sweeps-named .ensures) in
     ap (λ (x : ℕ). done (x ∷ [])) named
-    ∙ sym (margin-covered (planIn (start told)) _ (k .accepted) (rw (← k .d-is) (c .before .before .if1 .left)) (λ z. c .if2 .left (named ∙ z)))
+    ∙ sym (margin-covered (planIn told) _ (known told .0) (rw (← bits-are told) (c .before .before .if1 .left)) (λ z. c .if2 .left (named ∙ z)))
 
 pub margin-sweeps-spec : {M : Type 1} → statement M
 margin-sweeps-spec =
@@ -86,7 +90,7 @@ margin-sweeps-spec =
     (tie.spec
     plan-numbers-requires
     enum-known-r
-    enum-known-d
+    enum-known-plan
     mul-if1
     returns
     sweeps-named-requires

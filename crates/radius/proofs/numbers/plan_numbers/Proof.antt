@@ -1,5 +1,5 @@
--- `radius::plan_numbers` meets its contract: a refusal of the plan's check is handed on, and of an accepted plan the two measures give
--- the distance and the spread.
+-- `radius::plan_numbers` meets its contract: a refusal of the plan's check is handed on, and of an accepted plan the measures give the
+-- distances and the spread.
 use mathlib.Core.Path.{sym}
 use borrow.Author.Needs.{needs}
 use denote.Ref.{now}
@@ -12,45 +12,54 @@ use Rattle.radius.proofs.numbers.plan_numbers.Tie as tie
 check-plan-requires : tie.Need-check-plan-requires
 check-plan-requires c κs = search needs
 
-enum-known-values : tie.Need-enum-known-values
-enum-known-values c = search needs
+enum-known-checked : tie.Need-enum-known-checked
+enum-known-checked c = search needs
 
-enum-known-values-2 : tie.Need-enum-known-values-2
-enum-known-values-2 c = search needs
+enum-told : tie.Need-enum-told
+enum-told c = search needs
 
-abbrev checked : tie.After-known-told2 → tie.After-check-plan
-checked c = c .before .before .before
+abbrev start : tie.After-check-plan → tie.Start
+start c = c .before .before .before .before
 
-abbrev start : tie.After-known-told2 → tie.Start
-start c = checked c .before .before .before
+abbrev planIn : tie.After-check-plan → Plan
+planIn c =
+    let args = start c .args in
+    planOf (now (args .left)) (now (args .right)) (args .nl) (args .nr) (now (args .wiring))
 
-abbrev planIn : tie.Start → Plan
-planIn c = planOf (now (c .args .sheet)) (c .args .n) (now (c .args .wiring))
+abbrev checked : tie.After-enum-told → tie.After-check-plan
+checked c = c .before .before
 
-plan : (c : tie.After-known-told2)
-    → PlanAccepted (planIn (start c)) (checked c .check-plan .result) (c .before .values2 .given .0 .0) (c .before .values2 .given .0 .1 .0)
-plan c = plan-accepted _ _ _ _ (checked c .check-plan .ensures) (c .before .values2 .given .1)
+plan : (c : tie.After-enum-told) → PlanAccepted (planIn (checked c)) (checked c .check-plan .result)
+plan c = plan-accepted _ _ (checked c .check-plan .ensures) (c .enum-told .given .1)
 
 measured-distance-requires : tie.Need-measured-distance-requires
 measured-distance-requires c κs = search needs
 
+measured-distance-requires-2 : tie.Need-measured-distance-requires-2
+measured-distance-requires-2 c κs = search needs
+
 measured-spread-requires : tie.Need-measured-spread-requires
-measured-spread-requires c κs = plan (c .before) .plan-wired
+measured-spread-requires c κs = plan (c .before .before .before .before) .plan-wired
 
 returns : tie.Need-returns
-returns c = sym (numbers-refused _ _ _ (plan-refused _ _ _ (c .before .before .before .check-plan .ensures) (c .before .values .given .1)))
+returns c = sym (numbers-refused _ _ _ (plan-refused _ _ (c .before .before .before .check-plan .ensures) _ (c .before .checked .given .1)))
 
 returns-2 : tie.Need-returns-2
-returns-2 c = numbers-answered _ _ _ _ (plan (c .before .before)) _ _ (c .before .measured-distance .ensures) (c .measured-spread .ensures)
+returns-2 c =
+    let right = c .before in
+    let left = right .before in
+    numbers-answered _ _ (plan (left .before .before .before)) _ _ _ (left .measured-distance .ensures) (right .measured-distance2 .ensures)
+    (c .measured-spread .ensures)
 
 pub plan-numbers-spec : {M : Type 1} → statement M
 plan-numbers-spec =
     tie.close
     (tie.spec
     check-plan-requires
-    enum-known-values
-    enum-known-values-2
+    enum-known-checked
+    enum-told
     measured-distance-requires
+    measured-distance-requires-2
     measured-spread-requires
     returns
     returns-2)

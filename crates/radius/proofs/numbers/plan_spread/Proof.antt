@@ -13,40 +13,41 @@ use Rattle.radius.proofs.numbers.plan_spread.Tie as tie
 check-plan-requires : tie.Need-check-plan-requires
 check-plan-requires c κs = search needs
 
-enum-known-values : tie.Need-enum-known-values
-enum-known-values c = search needs
+enum-known-checked : tie.Need-enum-known-checked
+enum-known-checked c = search needs
 
 enum-told : tie.Need-enum-told
 enum-told c = search needs
 
+abbrev start : tie.After-check-plan → tie.Start
+start c = c .before .before .before .before
+
+abbrev planIn : tie.After-check-plan → Plan
+planIn c =
+    let args = start c .args in
+    planOf (now (args .left)) (now (args .right)) (args .nl) (args .nr) (now (args .wiring))
+
 abbrev checked : tie.After-enum-told → tie.After-check-plan
 checked c = c .before .before
 
-abbrev start : tie.After-enum-told → tie.Start
-start c = checked c .before .before .before
-
-abbrev planIn : tie.Start → Plan
-planIn c = planOf (now (c .args .sheet)) (c .args .n) (now (c .args .wiring))
-
-plan : (c : tie.After-enum-told)
-    → PlanAccepted (planIn (start c)) (checked c .check-plan .result) (c .enum-told .given .0 .0) (c .enum-told .given .0 .1 .0)
-plan c = plan-accepted _ _ _ _ (checked c .check-plan .ensures) (c .enum-told .given .1)
+plan : (c : tie.After-enum-told) → PlanAccepted (planIn (checked c)) (checked c .check-plan .result)
+plan c = plan-accepted _ _ (checked c .check-plan .ensures) (c .enum-told .given .1)
 
 measured-spread-requires : tie.Need-measured-spread-requires
 measured-spread-requires c κs = plan c .plan-wired
 
 returns : tie.Need-returns
-returns c = sym (spread-refused _ _ _ (plan-refused _ _ _ (c .before .before .before .check-plan .ensures) (c .before .values .given .1)))
+returns c = sym (spread-refused _ _ _ (plan-refused _ _ (c .before .before .before .check-plan .ensures) _ (c .before .checked .given .1)))
 
 returns-2 : tie.Need-returns-2
-returns-2 c = spread-answered _ _ _ _ (plan (c .before)) _ (c .measured-spread .ensures)
+returns-2 c = spread-answered _ _ (plan (c .before)) _ (c .measured-spread .ensures)
 
 pub plan-spread-spec : {M : Type 1} → statement M
 plan-spread-spec =
     tie.close
     (tie.spec
     check-plan-requires
-    enum-known-values
+    enum-known-checked
     enum-told
     measured-spread-requires
     returns

@@ -1,41 +1,66 @@
 -- `radius::measured_spread` meets its contract: the vertices that are noted are those of the wiring, and the walks over them count the
 -- meeting numbers.
 use mathlib.Core.Path.{sym, subst}
-use Prim.Native.Nat.{ℕ, _*_, _≤_}
+use Prim.Native.Nat.{ℕ, _≤_}
 use borrow.Author.Needs.{needs}
 use native.Mathlib.Omega.{arith}
 use denote.Ref.{now}
 use lib.ListN.{length, replicate, length-replicate}
 use Rattle.inner_code.specs.Sheet.{degree}
 use Rattle.wiring.specs.Plan.{Plan, planOf, edgeCount, edgeOf}
+use Rattle.wiring.specs.Checking.{WiredPlan}
 use Rattle.wiring.specs.Ends.{Noted}
-use Rattle.wiring.proofs.Permutation.{edges-le}
-use Rattle.wiring.proofs.Plans.{wired-sheet}
+use Rattle.wiring.proofs.EdgeEnds.{Fitting, fitting-true}
+use Rattle.wiring.proofs.Permutation.{fitted-edges}
+use Rattle.wiring.proofs.Plans.{fitted-sheet}
 use Rattle.radius.proofs.Walks.{noted-walk, walked-spread}
 use Rattle.radius.proofs.spread.measured_spread.Statement.{statement}
 use Rattle.radius.proofs.spread.measured_spread.Tie as tie
 
 abbrev planIn : tie.Start → Plan
-planIn c = planOf (now (c .args .sheet)) (c .args .n) (now (c .args .wiring))
+planIn c = planOf (now (c .args .left)) (now (c .args .right)) (c .args .nl) (c .args .nr) (now (c .args .wiring))
 
-abbrev called : tie.After-shared-slice-known3 → tie.Start
-called c = c .before .before .before
+abbrev called : tie.After-shared-slice-known4 → tie.Start
+called c = c .before .before .before .before
 
-shared-slice-read-d : tie.Need-shared-slice-read-d
-shared-slice-read-d c = wired-sheet (planIn (called c)) (called c .pre)
+-- the arrays have room for all edges
+room : (plan : Plan) → WiredPlan plan → edgeCount plan ≤ length (replicate {A = ℕ} 32768 0)
+room plan w = subst (λ (m : ℕ). edgeCount plan ≤ m) (sym (length-replicate {A = ℕ} 32768 0)) (fitted-edges (w .left-fits))
 
-cast-d : tie.Need-cast-d
-cast-d c = omega (arith, c .shared-slice-known3 .given 0)
+fitting : (plan : Plan) → WiredPlan plan
+    → let most : ℕ = length (replicate {A = ℕ} 32768 0) in
+    Fitting (edgeCount plan) (degree (plan .leftSheet)) (degree (plan .rightSheet)) (plan .wiring) most most
+fitting plan w =
+    record {
+      left-low = w .left-fits .d-low;
+      right-low = w .right-fits .d-low;
+      few = fitted-edges (w .left-fits);
+      sized = omega (arith, w .left-fits .sized);
+      room = room plan w;
+      room-right = room plan w;
+    }
+
+shared-slice-read-dl : tie.Need-shared-slice-read-dl
+shared-slice-read-dl c = fitted-sheet _ (called c .pre .left-fits)
+
+cast-dl : tie.Need-cast-dl
+cast-dl c = omega (arith, c .shared-slice-known4 .given 0)
+
+shared-slice-read-dr : tie.Need-shared-slice-read-dr
+shared-slice-read-dr c = fitted-sheet _ (called (c .before) .pre .right-fits)
+
+cast-dr : tie.Need-cast-dr
+cast-dr c = omega (arith, c .shared-slice-known5 .given 0)
+
+mul-note-ends : tie.Need-mul-note-ends
+unfolding degree
+mul-note-ends c = omega (arith, fitted-edges (called (c .before) .pre .left-fits))
 
 slice-aggregate-note-ends : tie.Need-slice-aggregate-note-ends
 slice-aggregate-note-ends c = search needs
 
 slice-aggregate-note-ends-2 : tie.Need-slice-aggregate-note-ends-2
 slice-aggregate-note-ends-2 c = search needs
-
--- the arrays have room for all edges
-room : (n d : ℕ) → n ≤ 2048 → d ≤ 16 → n * d ≤ length (replicate {A = ℕ} 32768 0)
-room n d few narrow = subst (λ (m : ℕ). n * d ≤ m) (sym (length-replicate {A = ℕ} 32768 0)) (edges-le n d few narrow)
 
 note-ends-requires : tie.Need-note-ends-requires
 note-ends-requires c κs = search needs
@@ -46,17 +71,17 @@ slice-aggregate-largest-unevenness c = search needs
 slice-aggregate-largest-unevenness-2 : tie.Need-slice-aggregate-largest-unevenness-2
 slice-aggregate-largest-unevenness-2 c = search needs
 
-abbrev start : tie.After-note-ends → tie.Start
-start c = called (c .before .before .before)
+-- ---- past the notes of all edges
 
-fits : (c : tie.After-note-ends) → edgeCount (planIn (start c)) ≤ length (replicate {A = ℕ} 32768 0)
-fits c = room _ _ (start c .pre .n-high) (start c .pre .d-high)
+abbrev start : tie.After-note-ends → tie.Start
+start c = called (c .before .before .before .before)
 
 noted : (c : tie.After-note-ends)
-    → Noted (edgeOf (now (start c .args .wiring))) (degree (now (start c .args .sheet))) (edgeCount (planIn (start c)))
-    (c .note-ends .last .1 .1 .1 .0) (c .note-ends .last .1 .1 .1 .1 .0)
+    → let plan = planIn (start c) in
+    Noted (edgeOf (plan .wiring)) (degree (plan .leftSheet)) (degree (plan .rightSheet)) (edgeCount plan)
+    (c .note-ends .last .1 .1 .1 .1 .0) (c .note-ends .last .1 .1 .1 .1 .1 .0)
 unfolding degree
-noted c = c .note-ends .ensures .0 .noted (start c .pre) (fits c) (fits c)
+noted c = let w = start c .pre in c .note-ends .ensures .0 .noted (w .permuted) (fitting-true (fitting (planIn (start c)) w))
 
 abbrev ends : tie.After-rights3 → tie.After-note-ends
 ends c = c .before .before .before .before
@@ -65,9 +90,11 @@ largest-unevenness-requires : tie.Need-largest-unevenness-requires
 unfolding degree
 largest-unevenness-requires c κs =
     let after = ends c in
-    noted-walk (planIn (start after)) (start after .pre) (noted after)
-    (subst (λ (m : ℕ). edgeCount (planIn (start after)) ≤ m) (sym (after .note-ends .kept .1 .1 .1 .0)) (fits after))
-    (subst (λ (m : ℕ). edgeCount (planIn (start after)) ≤ m) (sym (after .note-ends .kept .1 .1 .1 .1 .0)) (fits after))
+    let plan : Plan = planIn (start after) in
+    let fits = room plan (start after .pre) in
+    noted-walk plan (start after .pre) (noted after)
+    (subst (λ (m : ℕ). edgeCount plan ≤ m) (sym (after .note-ends .kept .1 .1 .1 .1 .0)) fits)
+    (subst (λ (m : ℕ). edgeCount plan ≤ m) (sym (after .note-ends .kept .1 .1 .1 .1 .1 .0)) fits)
 
 returns : tie.Need-returns
 unfolding degree
@@ -79,8 +106,11 @@ pub measured-spread-spec : {M : Type 1} → statement M
 measured-spread-spec =
     tie.close
     (tie.spec
-    shared-slice-read-d
-    cast-d
+    shared-slice-read-dl
+    cast-dl
+    shared-slice-read-dr
+    cast-dr
+    mul-note-ends
     slice-aggregate-note-ends
     slice-aggregate-note-ends-2
     note-ends-requires

@@ -1,67 +1,46 @@
--- `radius::walk` meets its contract: after j turns each count is the number of walks that go by one of the first j edges of u. Every
--- edge and entry on the way is one of the n·d, so both lists have it.
+-- `radius::walk` meets its contract: after j turns each count has risen by the number of walks that go by one of the first j edges.
 use mathlib.Core.Path.{_≡_, refl, _∙_}
-use Prim.Native.Nat.{_+_, _*_, _-_, _≤_, _<_}
+use Prim.Native.Nat.{_+_, _-_, _≤_}
 use borrow.Author.Needs.{needs}
-use native.Mathlib.Nat.{mul-le-mul-right}
 use native.Mathlib.Omega.{arith}
 use denote.Ref.{now}
 use lib.ListN.{length}
 use Rattle.bits.specs.Window.{at}
-use Rattle.radius.specs.Walk.{Walked}
-use lib.Arith.{digits-lt}
+use Rattle.radius.specs.Walk.{walked, Counted}
 use Rattle.radius.proofs.Walks.{walk-none, walk-one-more, walk-countable}
 use Rattle.radius.proofs.spread.walk.Statement.{statement}
 use Rattle.radius.proofs.spread.walk.Tie as tie
 
 abbrev Inv-loop : tie.InvT-loop
-Inv-loop lefts rights n d u counts₀ base j₀ counts j =
-    (j ≤ d) × (length counts ≡ length counts₀) × Walked lefts rights n d base j counts
+Inv-loop lefts rights base dl dr counts₀ j₀ counts j =
+    (j ≤ dl) × (length counts ≡ length counts₀) × Counted (walked (at lefts) (at rights) dr base j) counts₀ counts
 
 abbrev μ-loop : tie.MeasureT-loop
-μ-loop lefts rights n d u counts₀ base j₀ counts j = d - j
-
-mul-base : tie.Need-mul-base Inv-loop μ-loop
-mul-base c =
-    let begin = c .before .before .before in
-    omega (arith, mul-le-mul-right (begin .args .d) (begin .pre .1 .0), begin .pre .0 .rights-sized)
+μ-loop lefts rights base dl dr counts₀ j₀ counts j = dl - j
 
 loop-holds : tie.Need-loop-holds Inv-loop μ-loop
 loop-holds c =
-    let begin = c .before .before .before in
-    let args = begin .args in
-    let none =
-    walk-none (now (args .lefts)) (now (args .rights)) (args .n) (args .d) (args .u * args .d) (now (args .counts)) (begin .pre .1 .1) in
-    (search needs, refl, none)
+    let args = c .before .before .before .args in
+    (search needs, refl, walk-none (now (args .lefts)) (now (args .rights)) (args .base) (args .dr) (now (args .counts)))
 
 abbrev start : tie.At-loop Inv-loop μ-loop → tie.Start Inv-loop μ-loop
 start c = c .before .before .before .before
 
-edge-below : (c : tie.In-loop Inv-loop μ-loop)
-    → let args = start (c .before) .args in
-    args .u * args .d + c .before .loop .j < args .n * args .d
-edge-below c = digits-lt (start (c .before) .pre .1 .0) (omega arith)
-
 add-right : tie.Need-add-right Inv-loop μ-loop
-add-right c = omega (arith, edge-below c, start (c .before) .pre .0 .rights-sized)
+add-right c = search needs
 
 mul-right : tie.Need-mul-right Inv-loop μ-loop
-mul-right c = omega (arith, edge-below c, start (c .before) .pre .0 .rights-sized)
+mul-right c = search needs
 
 shared-slice-read-right : tie.Need-shared-slice-read-right Inv-loop μ-loop
-shared-slice-read-right c = omega (arith, edge-below (c .before), start (c .before .before) .pre .0 .rights-sized)
+shared-slice-read-right c = search needs
 
 cast-right : tie.Need-cast-right Inv-loop μ-loop
-cast-right c =
-    let args = start (c .before .before) .args in
-    omega (arith, c .shared-slice-known3 .given (args .u * args .d + c .before .before .loop .j))
+cast-right c = omega (arith, c .shared-slice-known3 .given (start (c .before .before) .args .base + c .before .before .loop .j))
 
 mul-count-edges : tie.Need-mul-count-edges Inv-loop μ-loop
 unfolding at
-mul-count-edges c =
-    let begin = start (c .before .before) in
-    let ends = begin .pre .0 in
-    omega (arith, mul-le-mul-right (begin .args .d) (ends .right-lt _ (edge-below (c .before))), ends .lefts-sized)
+mul-count-edges c = let turn = c .before .before in omega (arith, start turn .pre .entries-inside (turn .loop .j) (omega arith))
 
 count-edges-requires : tie.Need-count-edges-requires Inv-loop μ-loop
 unfolding at
@@ -69,9 +48,8 @@ count-edges-requires c κs =
     let turn = c .before .before .before in
     let before = turn .loop in
     let args = start turn .args in
-    let pre = start turn .pre in
-    walk-countable (now (args .lefts)) (now (args .rights)) (args .n) (args .d) (pre .0) (args .u) (before .j) (before .counts) (pre .1 .0)
-    (omega arith) (omega (arith, pre .1 .1 .sized, before .inv .1)) (before .inv .2)
+    walk-countable (now (args .lefts)) (now (args .rights)) (args .base) (args .dr) (args .dl) (before .j) (now (args .counts)) (before .counts)
+    (start turn .pre) (omega arith) (before .inv .1) (before .inv .2)
 
 add-j : tie.Need-add-j Inv-loop μ-loop
 add-j c = search needs
@@ -82,15 +60,14 @@ loop-less c = search needs
 loop-again : tie.Need-loop-again Inv-loop μ-loop
 unfolding at
 loop-again c =
-    let counted = c .before .before in
-    let counting = counted .count-edges in
-    let turn = counted .before .before .before .before in
+    let counting = c .before .before .count-edges in
+    let turn = c .before .before .before .before .before .before in
     let before = turn .loop in
     let args = start turn .args in (
       search needs,
       counting .kept .1 .1 .1 .0 ∙ before .inv .1,
-      walk-one-more (now (args .lefts)) (now (args .rights)) (args .n) (args .d) (args .u * args .d) (before .j) (before .counts)
-          (counting .last .1 .1 .1 .0) (omega (arith, start turn .pre .1 .1 .sized, before .inv .1)) (before .inv .2) (counting .ensures),
+      walk-one-more (now (args .lefts)) (now (args .rights)) (args .base) (args .dr) (before .j) (now (args .counts)) (before .counts)
+          (counting .last .1 .1 .1 .0) (before .inv .1) (before .inv .2) (counting .ensures),
     )
 
 same-length : tie.Need-same-length Inv-loop μ-loop
@@ -98,7 +75,7 @@ same-length c = search needs
 
 returns : tie.Need-returns Inv-loop μ-loop
 returns c =
-    let end : c .before .loop .j ≡ start (c .before) .args .d = omega arith in
+    let end : c .before .loop .j ≡ start (c .before) .args .dl = omega arith in
     rw end at (c .before .loop .inv .2)
 
 pub walk-spec : {M : Type 1} → statement M
@@ -107,7 +84,6 @@ walk-spec =
     (tie.spec
     Inv-loop
     μ-loop
-    mul-base
     loop-holds
     add-right
     mul-right

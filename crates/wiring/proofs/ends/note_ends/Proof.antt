@@ -2,29 +2,28 @@
 -- no edge stands twice no later turn writes over one of them. An accepted wiring passes every test on the way. Of any other wiring the
 -- lists are told turn by turn, up to the first entry that names no edge.
 use mathlib.Core.Path.{_≡_, _∙_}
-use Prim.Native.Nat.{ℕ, _*_, _/_, _-_, _≤_, _<_}
+use Prim.Native.Nat.{ℕ, _/_, _-_, _≤_, _<_}
 use borrow.Author.Needs.{needs}
 use native.Mathlib.Nat.{div-le-self}
 use native.Mathlib.Omega.{arith}
 use denote.Ref.{now}
 use lib.ListN.{length, length-set}
 use Rattle.wiring.specs.Plan.{edgeOf}
-use Rattle.wiring.specs.Checking.{Wired}
+use Rattle.wiring.specs.Checking.{Permuted}
 use Rattle.wiring.specs.Ends.{Noted, endsRead, leftEnds, rightEnds, notedLefts, notedRights}
-use Rattle.wiring.proofs.Permutation.{edges-le}
 use Rattle.wiring.proofs.EdgeEnds.{Fitting, AllNoted, noted-none, noted-one-more, noted-unfit, noted-fitting}
 use Rattle.wiring.proofs.EdgeEnds.{lefts-none, lefts-one-more, rights-none, rights-one-more, read-one-more, read-stopped, read-last}
 use Rattle.wiring.proofs.ends.note_ends.Statement.{statement}
 use Rattle.wiring.proofs.ends.note_ends.Tie as tie
 
 abbrev Inv-loop : tie.InvT-loop
-Inv-loop wiring n d lefts₀ rights₀ edges i₀ lefts rights i =
+Inv-loop wiring edges dl dr lefts₀ rights₀ i₀ lefts rights i =
     (i ≤ edges) × (length lefts ≡ length lefts₀) × (length rights ≡ length rights₀)
-    × (Wired d n wiring → Noted (edgeOf wiring) d i lefts rights) × ((j : ℕ) → j < i → edgeOf wiring j < n * d)
-    × (lefts ≡ leftEnds (edgeOf wiring) d i lefts₀) × (rights ≡ rightEnds (edgeOf wiring) d i rights₀)
+    × (Permuted edges wiring → Noted (edgeOf wiring) dl dr i lefts rights) × ((j : ℕ) → j < i → edgeOf wiring j < edges)
+    × (lefts ≡ leftEnds (edgeOf wiring) dl i lefts₀) × (rights ≡ rightEnds (edgeOf wiring) dr i rights₀)
 
 abbrev μ-loop : tie.MeasureT-loop
-μ-loop wiring n d lefts₀ rights₀ edges i₀ lefts rights i = edges - i
+μ-loop wiring edges dl dr lefts₀ rights₀ i₀ lefts rights i = edges - i
 
 -- ---- the tests before the loop
 
@@ -36,31 +35,26 @@ start c = first (c .before .before)
 
 abbrev Fits : tie.Start Inv-loop μ-loop → Type 0
 Fits s =
-    Fitting (s .args .d) (s .args .n) (now (s .args .wiring)) (length (now (s .args .lefts))) (length (now (s .args .rights)))
+    Fitting (s .args .edges) (s .args .dl) (s .args .dr) (now (s .args .wiring)) (length (now (s .args .lefts)))
+    (length (now (s .args .rights)))
 
 -- where a test fails the lists stay as they are
 unfit : (s : tie.Start Inv-loop μ-loop) → (Fits s → ⊥)
-    → AllNoted (s .args .d) (s .args .n) (now (s .args .wiring)) (now (s .args .lefts)) (now (s .args .rights)) (now (s .args .lefts))
-    (now (s .args .rights))
-unfit s = noted-unfit _ _ _ _ _
+    → AllNoted (s .args .edges) (s .args .dl) (s .args .dr) (now (s .args .wiring)) (now (s .args .lefts)) (now (s .args .rights))
+    (now (s .args .lefts)) (now (s .args .rights))
+unfit s = noted-unfit _ _ _ _ _ _
 
 returns : tie.Need-returns Inv-loop μ-loop
-returns c = unfit (c .before .before .before .before) (λ f. omega (arith, f .d-low))
+returns c = unfit (c .before .before .before .before) (λ f. omega (arith, f .left-low))
 
 returns-2 : tie.Need-returns-2 Inv-loop μ-loop
-returns-2 c = unfit (first (c .before)) (λ f. omega (arith, f .d-high))
+returns-2 c = unfit (first (c .before)) (λ f. omega (arith, f .right-low))
 
 returns-3 : tie.Need-returns-3 Inv-loop μ-loop
-returns-3 c = unfit (first (c .before .before)) (λ f. omega (arith, f .n-high))
-
-edges-low : (c : tie.Else3 Inv-loop μ-loop) → start c .args .n * start c .args .d ≤ 32768
-edges-low c = edges-le _ _ (c .if3 .left) (c .before .if2 .left)
-
-mul-edges : tie.Need-mul-edges Inv-loop μ-loop
-mul-edges c = omega (arith, edges-low c)
+returns-3 c = unfit (first (c .before .before)) (λ f. omega (arith, f .few))
 
 mul-if4 : tie.Need-mul-if4 Inv-loop μ-loop
-mul-if4 c = omega (arith, edges-low c)
+mul-if4 c = search needs
 
 returns-4 : tie.Need-returns-4 Inv-loop μ-loop
 returns-4 c = unfit (start (c .before)) (λ f. omega (arith, f .sized))
@@ -72,7 +66,7 @@ returns-6 : tie.Need-returns-6 Inv-loop μ-loop
 returns-6 c = unfit (start (c .before .before .before)) (λ f. omega (arith, f .room-right))
 
 loop-holds : tie.Need-loop-holds Inv-loop μ-loop
-loop-holds c = (search needs, search needs, search needs, λ w. noted-none _ _ _ _, λ j l. absurd (omega arith), lefts-none _ _ _, rights-none _ _ _)
+loop-holds c = (search needs, search needs, search needs, λ p. noted-none _ _ _ _ _, λ j l. absurd (omega arith), lefts-none _ _ _, rights-none _ _ _)
 
 -- ---- one turn
 
@@ -86,9 +80,9 @@ turn c = c .before .before
 fitting : (c : tie.At-loop Inv-loop μ-loop) → Fits (start (tested c))
 fitting c =
     record {
-      d-low = omega arith;
-      d-high = omega arith;
-      n-high = omega arith;
+      left-low = omega arith;
+      right-low = omega arith;
+      few = omega arith;
       sized = omega arith;
       room = omega arith;
       room-right = omega arith;
@@ -98,16 +92,16 @@ fitting c =
 as-noted : (c : tie.At-loop Inv-loop μ-loop)
     → let s = start (tested c) .args in
     let edge = edgeOf (now (s .wiring)) in
-    endsRead edge (s .n * s .d) ≡ c .loop .i
-    → (leftEnds edge (s .d) (c .loop .i) (now (s .lefts)) ≡ notedLefts (s .d) (s .n) (now (s .wiring)) (now (s .lefts)) (length (now (s .rights))))
-    × (rightEnds edge (s .d) (c .loop .i) (now (s .rights))
-    ≡ notedRights (s .d) (s .n) (now (s .wiring)) (length (now (s .lefts))) (now (s .rights)))
-as-noted c = noted-fitting _ _ _ _ _ (fitting c) (c .loop .i)
+    endsRead edge (s .edges) ≡ c .loop .i
+    → (leftEnds edge (s .dl) (c .loop .i) (now (s .lefts))
+    ≡ notedLefts (s .edges) (s .dl) (s .dr) (now (s .wiring)) (now (s .lefts)) (length (now (s .rights))))
+    × (rightEnds edge (s .dr) (c .loop .i) (now (s .rights))
+    ≡ notedRights (s .edges) (s .dl) (s .dr) (now (s .wiring)) (length (now (s .lefts))) (now (s .rights)))
+as-noted c = noted-fitting _ _ _ _ _ _ (fitting c) (c .loop .i)
 
 -- a vertex fits 16 bits
-vertex-low : (c : tie.At-loop Inv-loop μ-loop) (x : ℕ) → x < start (tested c) .args .n * start (tested c) .args .d
-    → x / start (tested c) .args .d < 32768
-vertex-low c x l = omega (arith, edges-low (tested c), div-le-self x (start (tested c) .args .d))
+vertex-low : (c : tie.At-loop Inv-loop μ-loop) (x d : ℕ) → x < start (tested c) .args .edges → x / d < 32768
+vertex-low c x d l = omega (arith, div-le-self x d)
 
 edge-at-requires : tie.Need-edge-at-requires Inv-loop μ-loop
 edge-at-requires c κs = search needs
@@ -124,7 +118,7 @@ returns-7 c =
     let edge = c .before .edge-at in
     let read = read-stopped _ _ (before .i) (edge .result) (omega arith) (before .inv .4) (edge .ensures) (omega arith) in
     let both = as-noted (turn (c .before)) read in (
-      record { noted = λ w room room-right. absurd (omega (arith, w .edge-lt (before .i) (omega arith), edge .ensures)) },
+      record { noted = λ p fits. absurd (omega (arith, p .edge-lt (before .i) (omega arith), edge .ensures)) },
       (before .inv .5 ∙ both .0, before .inv .6 ∙ both .1),
     )
 
@@ -132,7 +126,7 @@ div-lefts : tie.Need-div-lefts Inv-loop μ-loop
 div-lefts c = search needs
 
 cast-lefts : tie.Need-cast-lefts Inv-loop μ-loop
-cast-lefts c = omega (arith, vertex-low (turn (c .before)) (c .before .edge-at .result) (omega arith))
+cast-lefts c = omega (arith, vertex-low (turn (c .before)) (c .before .edge-at .result) (start (tested (turn (c .before))) .args .dl) (omega arith))
 
 mul-lefts : tie.Need-mul-lefts Inv-loop μ-loop
 mul-lefts c = search needs
@@ -144,7 +138,7 @@ div-rights : tie.Need-div-rights Inv-loop μ-loop
 div-rights c = search needs
 
 cast-rights : tie.Need-cast-rights Inv-loop μ-loop
-cast-rights c = omega (arith, vertex-low (turn (c .before)) (turn (c .before) .loop .i) (omega arith))
+cast-rights c = omega (arith, vertex-low (turn (c .before)) (turn (c .before) .loop .i) (start (tested (turn (c .before))) .args .dr) (omega arith))
 
 mul-rights : tie.Need-mul-rights Inv-loop μ-loop
 mul-rights c = search needs
@@ -164,8 +158,8 @@ loop-again c =
       search needs,
       simp length-set (before .inv .1),
       simp length-set (before .inv .2),
-      λ w. noted-one-more w (omega arith) (omega arith) (before .i) (c .before .edge-at .result) (omega arith) (c .before .edge-at .ensures)
-          (before .inv .3 w),
+      λ p. noted-one-more p (omega arith) (omega arith) (before .i) (c .before .edge-at .result) (omega arith) (c .before .edge-at .ensures)
+          (before .inv .3 p),
       read-one-more _ _ (before .i) (c .before .edge-at .result) (c .before .edge-at .ensures) (omega arith) (before .inv .4),
       lefts-one-more _ _ _ _ _ _ (c .before .edge-at .ensures) (before .inv .5),
       rights-one-more _ _ _ _ _ _ (c .before .edge-at .ensures) (before .inv .6),
@@ -180,10 +174,10 @@ same-length-4 c = search needs
 returns-8 : tie.Need-returns-8 Inv-loop μ-loop
 returns-8 c =
     let args = start (tested (c .before)) .args in
-    let end : c .before .loop .i ≡ args .n * args .d = omega arith in
+    let end : c .before .loop .i ≡ args .edges = omega arith in
     let inv = c .before .loop .inv in
     let both = as-noted (c .before) (read-last _ _ _ end (inv .4)) in
-    (record { noted = λ w room room-right. rw end at (inv .3 w) }, (inv .5 ∙ both .0, inv .6 ∙ both .1))
+    (record { noted = λ p fits. rw end at (inv .3 p) }, (inv .5 ∙ both .0, inv .6 ∙ both .1))
 
 pub note-ends-spec : {M : Type 1} → statement M
 note-ends-spec =
@@ -194,7 +188,6 @@ note-ends-spec =
     returns
     returns-2
     returns-3
-    mul-edges
     mul-if4
     returns-4
     returns-5

@@ -1,12 +1,14 @@
--- `wiring::piece_of` meets its contract: an accepted wiring holds the d entries of every right vertex, and the part is theirs.
-use mathlib.Core.Path.{refl, sym, ap}
+-- `wiring::piece_of` meets its contract: an accepted wiring holds the entries of every right vertex, and the part is theirs.
+use mathlib.Core.Path.{_≡_, refl, sym, ap}
 use Prim.Native.Nat.{ℕ, _+_, _*_, _≤_}
 use native.Mathlib.Omega.{arith}
 use borrow.Author.Needs.{needs}
 use denote.Ref.{now}
 use lib.ListN.{length}
-use Rattle.wiring.specs.Plan.{Plan, planOf}
-use Rattle.wiring.proofs.Permutation.{wired-fits}
+use Rattle.inner_code.specs.Sheet.{degree}
+use Rattle.wiring.specs.Plan.{Plan, planOf, right}
+use Rattle.wiring.specs.declared.side.SideCode.{SideCode}
+use Rattle.wiring.proofs.Permutation.{fitted-vertex}
 use Rattle.wiring.proofs.Plans.{PlanAccepted, plan-accepted, plan-refused, piece-refused, piece-past, piece-part}
 use Rattle.wiring.proofs.piece.piece_of.Statement.{statement}
 use Rattle.wiring.proofs.piece.piece_of.Tie as tie
@@ -26,30 +28,32 @@ part-result-start c = search needs
 part-result-end : tie.Need-part-result-end
 part-result-end c = search needs
 
-enum-known-values : tie.Need-enum-known-values
-enum-known-values c = search needs
+enum-told-2 : tie.Need-enum-told-2
+enum-told-2 c = search needs
 
-abbrev checked : tie.After-known-told → tie.After-check-plan
-checked c = c .before .before .before
+abbrev checked : tie.After-enum-told2 → tie.After-check-plan
+checked c = c .before .before
 
-abbrev start : tie.After-known-told → tie.Start
-start c = checked c .before .before .before
+abbrev start : tie.After-enum-told2 → tie.Start
+start c = checked c .before .before .before .before
 
 abbrev planIn : tie.Start → Plan
-planIn c = planOf (now (c .args .sheet)) (c .args .n) (now (c .args .wiring))
+planIn c = planOf (now (c .args .left)) (now (c .args .right)) (c .args .nl) (c .args .nr) (now (c .args .wiring))
 
-plan : (c : tie.After-known-told)
-    → PlanAccepted (planIn (start c)) (checked c .check-plan .result) (c .before .values .given .0 .0) (c .before .values .given .0 .1 .0)
-plan c = plan-accepted _ _ _ _ (checked c .check-plan .ensures) (c .before .values .given .1)
+plan : (c : tie.After-enum-told2) → PlanAccepted (planIn (start c)) (checked c .check-plan .result)
+plan c = plan-accepted _ _ (checked c .check-plan .ensures) (c .enum-told2 .given .1)
+
+d-is : (c : tie.After-enum-told2) → checked c .check-plan .result .right .d ≡ degree (now (start c .args .right))
+d-is c = ap (λ (x : SideCode). x .d) (plan c .code-is right)
 
 -- the piece ends where the wiring ends, or before
 end-le : (c : tie.Then1)
-    → let d : ℕ = c .before .before .values .given .0 .0 in
+    → let d : ℕ = checked (c .before) .check-plan .result .right .d in
     2 * (start (c .before) .args .v * d) + 2 * d ≤ length (now (start (c .before) .args .wiring))
 end-le c =
-    let p = plan (c .before) in
     let v = start (c .before) .args .v in
-    omega (arith, wired-fits (p .plan-wired) v (c .if1 .taken), p .d-is, ap (λ (x : ℕ). v * x) (p .d-is))
+    let fits = plan (c .before) .plan-wired .right-fits in
+    omega (arith, fitted-vertex fits v (c .if1 .taken), d-is (c .before), ap (λ (x : ℕ). v * x) (d-is (c .before)))
 
 mul-start : tie.Need-mul-start
 mul-start c = omega (arith, end-le c)
@@ -74,8 +78,8 @@ part-result-end-2 c = end-le c
 
 returns : tie.Need-returns
 returns c =
-    let p = plan (c .before .before) in
-    piece-part _ _ _ _ _ (p .plan-done) (c .before .if1 .taken) (p .d-is) refl refl
+    let told = c .before .before in
+    piece-part _ _ _ _ _ (plan told .plan-done) (c .before .if1 .taken) (d-is told) refl refl
 
 sub-result-3 : tie.Need-sub-result-3
 sub-result-3 c = search needs
@@ -89,11 +93,10 @@ part-result-end-3 c = search needs
 returns-2 : tie.Need-returns-2
 returns-2 c =
     sym (piece-refused _ _ _ _
-    (plan-refused _ _ _ (c .before .before .before .check-plan .ensures) (c .before .enum-told .given .1)))
+    (plan-refused _ _ (c .before .before .before .check-plan .ensures) _ (c .before .enum-told .given .1)))
 
 returns-3 : tie.Need-returns-3
-returns-3 c =
-    sym (piece-past _ _ (plan (c .before .before) .plan-done) (c .before .if1 .left))
+returns-3 c = sym (piece-past _ _ (plan (c .before .before) .plan-done) (c .before .if1 .left))
 
 pub piece-of-spec : {M : Type 1} → statement M
 piece-of-spec =
@@ -104,7 +107,7 @@ piece-of-spec =
     sub-result
     part-result-start
     part-result-end
-    enum-known-values
+    enum-told-2
     mul-start
     mul-start-2
     mul-end

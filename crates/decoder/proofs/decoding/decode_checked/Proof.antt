@@ -1,0 +1,131 @@
+-- `decoder::decode_checked` meets its contract: each finder is prepared for its side's sheet, and one for both where the sheets are the same.
+use mathlib.Core.List.{List, []}
+use mathlib.Core.Path.{_≡_, refl, ap}
+use Prim.Native.Nat.{ℕ}
+use native.Mathlib.Omega.{arith}
+use borrow.Author.Needs.{needs}
+use denote.Ref.{now}
+use lib.ListN.{replicate}
+use Rattle.inner_code.specs.Reply.{done}
+use Rattle.inner_code.specs.Finding.{Prepared, Finds}
+use Rattle.inner_code.proofs.SheetChecks.{sound-accepted}
+use Rattle.inner_code.proofs.Finding.{prepared-finds}
+use Rattle.wiring.specs.Plan.{Plan, planOf, left, right, sheetOf}
+use Rattle.wiring.specs.Wiring.{planCheck}
+use Rattle.wiring.specs.Checking.{codeOf}
+use Rattle.wiring.specs.declared.side.SideCode.{SideCode}
+use Rattle.wiring.specs.declared.side.SideName.{SideName}
+use Rattle.wiring.proofs.Plans.{plan-sound}
+use Rattle.decoder.proofs.Copies.{check-means}
+use Rattle.decoder.proofs.decoding.decode_checked.Statement.{statement}
+use Rattle.decoder.proofs.decoding.decode_checked.Tie as tie
+
+-- ---- a finder that is prepared for a side finds its nearest words
+
+prepared : (plan : Plan) → planCheck plan ≡ done [] → (name : SideName) (code : SideCode) → code ≡ codeOf plan name
+    → {before after : List ℕ} → Prepared (sheetOf plan name) (code .k) (code .basis) before after → before ≡ replicate 3360 0
+    → Finds (sheetOf plan name) after
+prepared plan accepted name code held p zeros =
+    prepared-finds (sheetOf plan name) (code .k) p zeros (sound-accepted (sheetOf plan name) (plan-sound plan accepted .0 name))
+    (ap (λ (x : SideCode). x .k) held) (ap (λ (x : SideCode). x .basis) held)
+
+abbrev planIn : tie.Start → Plan
+planIn c = planOf (now (c .args .left)) (now (c .args .right)) (c .args .nl) (c .args .nr) (now (c .args .wiring))
+
+accepted : (c : tie.Start) → planCheck (planIn c) ≡ done []
+accepted c = check-means _ _ _ _ (c .pre .1 .1) .plan-done
+
+abbrev start : tie.After-prepare-finder → tie.Start
+start c = c .before .before .before .before .before .before .before .before .before
+
+left-finds : (c : tie.After-prepare-finder) → Finds (now (start c .args .left)) (c .prepare-finder .last .1 .1 .1 .0)
+left-finds c =
+    let s = start c in
+    prepared (planIn s) (accepted s) left (s .args .left-code) (s .pre .0) (c .prepare-finder .ensures) refl
+
+slice-aggregate-prepare-finder : tie.Need-slice-aggregate-prepare-finder
+slice-aggregate-prepare-finder c = search needs
+
+prepare-finder-requires : tie.Need-prepare-finder-requires
+prepare-finder-requires c κs = search needs
+
+same-requires : tie.Need-same-requires
+same-requires c κs = search needs
+
+slice-aggregate-decode-copy : tie.Need-slice-aggregate-decode-copy
+slice-aggregate-decode-copy c = search needs
+
+slice-aggregate-decode-copy-2 : tie.Need-slice-aggregate-decode-copy-2
+slice-aggregate-decode-copy-2 c = search needs
+
+decode-copy-requires : tie.Need-decode-copy-requires
+decode-copy-requires c κs =
+    let first = c .before .before .before .before .before .before in
+    let s = start first in (
+      record {
+        plan-done = accepted s;
+        left-finds = left-finds first;
+        right-finds = λ some. absurd (some refl);
+        shared = λ _. c .before .before .before .before .same .ensures .0 (c .before .before .before .if1 .taken);
+      },
+      s .pre .1 .1,
+    )
+
+same-length : tie.Need-same-length
+same-length c = search needs
+
+returns : tie.Need-returns
+returns c = search needs
+
+slice-aggregate-prepare-finder-2 : tie.Need-slice-aggregate-prepare-finder-2
+slice-aggregate-prepare-finder-2 c = search needs
+
+prepare-finder-requires-2 : tie.Need-prepare-finder-requires-2
+prepare-finder-requires-2 c κs = search needs
+
+slice-aggregate-decode-copy-3 : tie.Need-slice-aggregate-decode-copy-3
+slice-aggregate-decode-copy-3 c = search needs
+
+slice-aggregate-decode-copy-4 : tie.Need-slice-aggregate-decode-copy-4
+slice-aggregate-decode-copy-4 c = search needs
+
+decode-copy-requires-2 : tie.Need-decode-copy-requires-2
+decode-copy-requires-2 c κs =
+    let first = c .before .before .before .before .before .before .before .before .before .before .before in
+    let second = c .before .before .before .before in
+    let s = start first in
+    let finds = prepared (planIn s) (accepted s) right (s .args .right-code) (s .pre .1 .0) (second .prepare-finder2 .ensures) refl in (
+      record {
+        plan-done = accepted s;
+        left-finds = left-finds first;
+        right-finds = λ _. finds;
+        shared = λ none. absurd (omega (arith, finds .sized));
+      },
+      s .pre .1 .1,
+    )
+
+same-length-2 : tie.Need-same-length-2
+same-length-2 c = search needs
+
+returns-2 : tie.Need-returns-2
+returns-2 c = search needs
+
+pub decode-checked-spec : {M : Type 1} → statement M
+decode-checked-spec =
+    tie.close
+    (tie.spec
+    slice-aggregate-prepare-finder
+    prepare-finder-requires
+    same-requires
+    slice-aggregate-decode-copy
+    slice-aggregate-decode-copy-2
+    decode-copy-requires
+    same-length
+    returns
+    slice-aggregate-prepare-finder-2
+    prepare-finder-requires-2
+    slice-aggregate-decode-copy-3
+    slice-aggregate-decode-copy-4
+    decode-copy-requires-2
+    same-length-2
+    returns-2)
