@@ -50,11 +50,12 @@ sameReply (done a) (refused n p) = false
 sameReply (refused n p) (done b) = false
 sameReply (refused n p) (refused m q) = eqb n m && eqb p q
 
--- the sweeps that the margin's numbers name for F flips
+-- the inner distance of each side
 abbrev pub distances : ℕ → ℕ → SideName → ℕ
 distances Dl Dr SideName.Left = Dl
 distances Dl Dr SideName.Right = Dr
 
+-- the sweeps that the margin's numbers name for F flips
 abbrev pub named : ℕ → ℕ → ℕ → ℕ → ℕ → ℕ → ℕ → ℕ
 named nl dl nr Dl Dr R F = sweepsNamed (record { edges = nl * dl; n = nr; d = dl; distance = distances Dl Dr; spread = R }) F
 
