@@ -1,6 +1,6 @@
 # make run       proves and builds everything, writes the margin sheets of two built-in plans and carries a caption over a simulated link
 # make test      the gate: every proof, every wrong program refused, every stored run, the C host's tests
-# make bench     the decoder, the nearest word and the encoder beside plain C
+# make bench     the library beside plain C; make bench EXPERT=FILE also beside the decoder expert_decode in that C file
 # make install   the library, its header and pkg-config file, the program margin and its man page, below PREFIX
 # make uninstall takes them away again
 SHELL = /bin/bash
@@ -36,8 +36,13 @@ test:
 # the C host's programs
 host: $(BUILD)/caption_link $(BUILD)/test_vectors $(BUILD)/test_stack $(BUILD)/bench
 
+ifdef EXPERT
+bench: $(BUILD)/bench_expert
+	$(BUILD)/bench_expert
+else
 bench: $(BUILD)/bench
 	$(BUILD)/bench
+endif
 
 # Every crate is proved before anything is built from it. Of what the prover says, a line a crate is shown, and all of it where it fails.
 target/bin/margin: $(SOURCES)
@@ -68,6 +73,10 @@ $(BUILD)/plain.o: bench/plain.c bench/plain.h
 
 $(BUILD)/bench: bench/bench.c bench/plain.h include/lembikat.h $(BUILD)/plain.o $(LIBRARY)
 	$(CC) $(CFLAGS) -Iinclude bench/bench.c $(BUILD)/plain.o $(LIBRARY) -o $@
+
+$(BUILD)/bench_expert: bench/bench.c bench/plain.h include/lembikat.h $(BUILD)/plain.o $(LIBRARY) $(EXPERT)
+	$(CC) -std=gnu11 -O3 -c $(EXPERT) -o $(BUILD)/expert.o
+	$(CC) $(CFLAGS) -DEXPERT -Iinclude bench/bench.c $(BUILD)/plain.o $(BUILD)/expert.o $(LIBRARY) -o $@
 
 install: $(LIBRARY) target/bin/margin
 	install -d $(AT)/lib/pkgconfig $(AT)/include $(AT)/bin $(AT)/share/man/man1

@@ -1,5 +1,7 @@
 /* The library beside plain C, on the same inputs in one run: medians of repeated runs, and their ratio (above 1: the library
-   is faster). With the argument `check` every pair of answers is compared and nothing is timed. */
+   is faster). With the argument `check` every pair of answers is compared and nothing is timed. Compiled with EXPERT and linked
+   with an expert's decoder (`make bench EXPERT=its file`), it shows that decoder too on plans with one code, and how many times
+   its time the library takes. */
 #define _POSIX_C_SOURCE 200809L /* for clock_gettime */
 
 #include "lembikat.h"
@@ -9,6 +11,13 @@
 #include <stdlib.h>
 #include <string.h>
 #include <time.h>
+
+#ifdef EXPERT
+/* number * 2^32 + value: number 0 and the sweeps made, or a refusal and its place */
+uint64_t expert_decode(const uint8_t *sheet, size_t sheet_bytes, const uint8_t *wiring, size_t wiring_bytes,
+                       const uint8_t *received, size_t received_bytes, uint8_t *output, size_t output_bytes, size_t n,
+                       size_t limit);
+#endif
 
 #define MAX_EDGES 32768
 #define RUNS 25
@@ -188,6 +197,25 @@ static uint64_t plain_decodes(const plan *p)
     return (uint64_t)number * 65536u + sweeps;
 }
 
+/* The expert's decoder takes one sheet and one n. */
+static int has_one_code(const plan *p)
+{
+    return p->left.n == p->right.n && p->left.sheet_bytes == p->right.sheet_bytes
+           && memcmp(p->left.sheet, p->right.sheet, p->left.sheet_bytes) == 0;
+}
+
+static uint64_t expert_decodes(const plan *p)
+{
+#ifdef EXPERT
+    uint64_t a = expert_decode(p->left.sheet, p->left.sheet_bytes, p->wiring, 2 * edges(p), received, block_bytes(p), theirs,
+                               block_bytes(p), p->left.n, LIMIT);
+    return (a >> 32) * 65536u + (a >> 32 ? 0 : (uint32_t)a);
+#else
+    (void)p;
+    return 0;
+#endif
+}
+
 static uint64_t library_finds(const plan *p)
 {
     lembikat_word_answer a = lembikat_nearest_word(p->left.sheet, p->left.sheet_bytes, word);
@@ -201,6 +229,54 @@ static uint64_t plain_finds(const plan *p)
     int number = plain_nearest_word(p->left.sheet, p->left.sheet_bytes, word, &nearest, &changed);
     their_sums[0] = (uint16_t)changed;
     return (uint64_t)number * 65536u + nearest;
+}
+
+/* What the locator, the report and the spread find, and the report's list. */
+static uint64_t my_value, their_value;
+static uint8_t my_list[LEMBIKAT_MAX_LIST_BYTES], their_list[LEMBIKAT_MAX_LIST_BYTES];
+
+static uint64_t library_locates(const plan *p)
+{
+    lembikat_answer a = lembikat_locate(PLAN, received, block_bytes(p));
+    my_value = a.place * 65536u + a.value;
+    return a.number * 65536u;
+}
+
+static uint64_t plain_locates(const plan *p)
+{
+    unsigned side = 0;
+    size_t vertex = 0;
+    int number = plain_locate(PLAN, received, block_bytes(p), &side, &vertex);
+    their_value = side * 65536u + vertex;
+    return (uint64_t)number * 65536u;
+}
+
+static uint64_t library_reports(const plan *p)
+{
+    lembikat_answer a = lembikat_report(PLAN, received, block_bytes(p), p->sent, block_bytes(p), my_list, sizeof my_list);
+    my_value = a.value;
+    return a.number * 65536u;
+}
+
+static uint64_t plain_reports(const plan *p)
+{
+    size_t pairs = 0;
+    int number = plain_report(PLAN, received, block_bytes(p), p->sent, block_bytes(p), their_list, sizeof their_list, &pairs);
+    their_value = pairs;
+    return (uint64_t)number * 65536u;
+}
+
+static uint64_t library_spreads(const plan *p)
+{
+    lembikat_answer a = lembikat_spread(PLAN);
+    my_value = a.value;
+    return a.number * 65536u;
+}
+
+static uint64_t plain_spreads(const plan *p)
+{
+    int number = plain_spread(PLAN, &their_value);
+    return (uint64_t)number * 65536u;
 }
 
 static uint64_t library_encodes(const plan *p)
@@ -227,60 +303,90 @@ static double timed(work call, const plan *p, unsigned *calls)
     }
 }
 
-/* One line of the table. Answers whether the two differ. */
-static int row(const plan *p, const char *damage, work library, work plain)
+#ifdef EXPERT
+static const int with_expert = 1;
+#else
+static const int with_expert = 0;
+#endif
+
+static int differ(const plan *p, uint64_t says, uint64_t other)
 {
-    double a[RUNS], b[RUNS];
-    unsigned calls_a = 1, calls_b = 1;
+    return says != other || my_value != their_value || memcmp(mine, theirs, block_bytes(p)) != 0
+           || memcmp(my_sums, their_sums, sizeof my_sums) != 0 || memcmp(my_list, their_list, sizeof my_list) != 0;
+}
+
+/* One line of the table. Answers whether the two differ. */
+static int row(const plan *p, const char *input, work library, work plain)
+{
+    double a[RUNS], b[RUNS], c[RUNS];
+    unsigned calls_a = 1, calls_b = 1, calls_c = 1;
+    int expert = with_expert && library == library_decodes && has_one_code(p);
     memset(my_sums, 0, sizeof my_sums);
     memset(their_sums, 0, sizeof their_sums);
+    my_value = their_value = 0;
     uint64_t says = library(p);
-    if (says != plain(p) || memcmp(mine, theirs, block_bytes(p)) != 0 || memcmp(my_sums, their_sums, sizeof my_sums) != 0) {
-        printf("%s, %s: the library and plain C differ\n", p->name, damage);
+    if (differ(p, says, plain(p)) || (expert && differ(p, says, expert_decodes(p)))) {
+        printf("%s, %s: the library and plain C differ\n", p->name, input);
         return 1;
     }
     if (!timing) {
-        printf("%s, %s: the same\n", p->name, damage);
+        printf("%s, %s: the same\n", p->name, input);
         return 0;
     }
     for (int i = 0; i < RUNS; i++) {
         a[i] = timed(library, p, &calls_a);
         b[i] = timed(plain, p, &calls_b);
+        c[i] = expert ? timed(expert_decodes, p, &calls_c) : 0;
     }
     qsort(a, RUNS, sizeof *a, by_value);
     qsort(b, RUNS, sizeof *b, by_value);
+    qsort(c, RUNS, sizeof *c, by_value);
     char ends[24];
-    if (library == library_encodes)
+    if (says >= 65536)
+        snprintf(ends, sizeof ends, "refused %u", (unsigned)(says / 65536));
+    else if (library == library_encodes)
         snprintf(ends, sizeof ends, "encoded");
     else if (library == library_finds)
         snprintf(ends, sizeof ends, "%u changed", my_sums[0]);
-    else if (says < 65536)
-        snprintf(ends, sizeof ends, "%u sweep%s", (unsigned)says, says == 1 ? "" : "s");
+    else if (library == library_locates)
+        snprintf(ends, sizeof ends, "%s", my_value ? "located" : "nowhere");
+    else if (library == library_reports)
+        snprintf(ends, sizeof ends, "%u runs", (unsigned)my_value);
+    else if (library == library_spreads)
+        snprintf(ends, sizeof ends, "R %u", (unsigned)my_value);
     else
-        snprintf(ends, sizeof ends, "refused %u", (unsigned)(says / 65536));
-    printf("%-22s %-13s %-11s %12.2f %12.2f %8.2f\n", p->name, damage, ends, 1e6 * b[RUNS / 2], 1e6 * a[RUNS / 2],
-           b[RUNS / 2] / a[RUNS / 2]);
+        snprintf(ends, sizeof ends, "%u sweep%s", (unsigned)says, says == 1 ? "" : "s");
+    double mine_us = 1e6 * a[RUNS / 2], plain_us = 1e6 * b[RUNS / 2], expert_us = 1e6 * c[RUNS / 2];
+    printf("%-22s %-13s %-11s %12.2f %12.2f %8.2f", p->name, input, ends, plain_us, mine_us, plain_us / mine_us);
+    if (expert)
+        printf(" %12.2f %8.2f", expert_us, mine_us / expert_us);
+    printf("\n");
     fflush(stdout);
     return 0;
+}
+
+static void damage(const plan *p, unsigned flips)
+{
+    static uint16_t order[MAX_EDGES];
+    memcpy(received, p->sent, block_bytes(p));
+    for (size_t i = 0; i < edges(p); i++)
+        order[i] = (uint16_t)i;
+    shuffle(order, edges(p));
+    for (unsigned i = 0; i < flips; i++)
+        flip(received, order[i]);
 }
 
 /* The decoder on the codeword sent with no, few and many flips, and on random bits, which as a rule do not settle. The zero
    block stands apart, as plain C's best case: its search for a codeword ends at the first word of the list at every vertex. */
 static int decoder_rows(const plan *p, unsigned few, unsigned many)
 {
-    static uint16_t order[MAX_EDGES];
     unsigned flips[3] = {0, few, many};
-    char damage[24];
+    char input[24];
     int failed = 0;
     for (int f = 0; f < 3; f++) {
-        memcpy(received, p->sent, block_bytes(p));
-        for (size_t i = 0; i < edges(p); i++)
-            order[i] = (uint16_t)i;
-        shuffle(order, edges(p));
-        for (unsigned i = 0; i < flips[f]; i++)
-            flip(received, order[i]);
-        snprintf(damage, sizeof damage, "%u flips", flips[f]);
-        failed |= row(p, damage, library_decodes, plain_decodes);
+        damage(p, flips[f]);
+        snprintf(input, sizeof input, "%u flips", flips[f]);
+        failed |= row(p, input, library_decodes, plain_decodes);
     }
     memset(received, 0, block_bytes(p));
     failed |= row(p, "zero block", library_decodes, plain_decodes);
@@ -288,6 +394,27 @@ static int decoder_rows(const plan *p, unsigned few, unsigned many)
         if (draw(2))
             flip(received, i);
     return failed | row(p, "random bits", library_decodes, plain_decodes);
+}
+
+/* Most vertices damaged: where many bits are flipped a plan's time goes into finding nearest words. */
+static int damaged_row(const plan *p, unsigned flips)
+{
+    char input[24];
+    damage(p, flips);
+    snprintf(input, sizeof input, "%u flips", flips);
+    return row(p, input, library_decodes, plain_decodes);
+}
+
+/* The calls whose work is mostly the check of the plan: the locator on the codeword sent, the report of so many flips, the
+   spread. */
+static int other_rows(const plan *p, unsigned flips)
+{
+    int failed;
+    damage(p, 0);
+    failed = row(p, "locate", library_locates, plain_locates);
+    damage(p, flips);
+    failed |= row(p, "report", library_reports, plain_reports);
+    return failed | row(p, "spread", library_spreads, plain_spreads);
 }
 
 /* The encoder, on a message of the right length with its first bits set. */
@@ -317,9 +444,11 @@ int main(int count, char **words)
     int failed = 0;
     timing = !(count > 1 && strcmp(words[1], "check") == 0);
     if (timing)
-        printf("%-22s %-13s %-11s %12s %12s %8s\n", "plan", "input", "ends", "plain C, us", "library, us", "ratio");
+        printf("%-22s %-13s %-11s %12s %12s %8s%s\n", "plan", "input", "ends", "plain C, us", "library, us", "ratio",
+               with_expert ? "   expert, us  of that" : "");
     set_squares(&p, "house, n 64", &house, 64);
     failed |= decoder_rows(&p, 2, 12);
+    failed |= other_rows(&p, 12);
     failed |= encoder_row(&p);
     set_squares(&p, "house, n 2048", &house, 2048);
     failed |= decoder_rows(&p, 3, 160);
@@ -329,6 +458,8 @@ int main(int count, char **words)
     failed |= decoder_rows(&p, 3, 640);
     set_squares(&p, "d 16 k 11, n 2048", &k_11, 2048);
     failed |= decoder_rows(&p, 3, 160);
+    failed |= damaged_row(&p, 2000);
+    failed |= other_rows(&p, 160);
     set_squares(&p, "d 16 k 11, n 32", &k_11, 32);
     failed |= encoder_row(&p);
     failed |= word_row(&p, "house", &house);

@@ -1,4 +1,4 @@
-/* The plain C decoder, nearest word and encoder of the benchmark. */
+/* The plain C of the benchmark: decoder, nearest word, locator, report, spread and encoder. */
 #include "plain.h"
 
 #include <string.h>
@@ -82,6 +82,15 @@ static int check_plan(const uint8_t *left_sheet, size_t left_sheet_bytes, const 
     if (p->edges != nr * (size_t)p->codes[1].d)
         return 23;
     return check_wiring(p, wiring, wiring_bytes);
+}
+
+static int check_block(const plan *p, const uint8_t *block, size_t bytes)
+{
+    if (bytes != (p->edges + 7) / 8)
+        return 11;
+    if (p->edges % 8 && block[p->edges / 8] & (0xffu >> (p->edges % 8)))
+        return 12;
+    return 0;
 }
 
 static size_t place_of(int right, const uint8_t *wiring, size_t i)
@@ -180,10 +189,9 @@ int plain_decode(const uint8_t *left_sheet, size_t left_sheet_bytes, const uint8
     int fault = check_plan(left_sheet, left_sheet_bytes, right_sheet, right_sheet_bytes, nl, nr, wiring, wiring_bytes, &p);
     if (fault)
         return fault;
-    if (received_bytes != (p.edges + 7) / 8)
-        return 11;
-    if (p.edges % 8 && received[p.edges / 8] & (0xffu >> (p.edges % 8)))
-        return 12;
+    fault = check_block(&p, received, received_bytes);
+    if (fault)
+        return fault;
     if (output_bytes < received_bytes)
         return 13;
     if (limit > 4096)
@@ -203,6 +211,104 @@ int plain_decode(const uint8_t *left_sheet, size_t left_sheet_bytes, const uint8
     }
     memcpy(output, received, received_bytes);
     return 15;
+}
+
+/* ---- locator, report, spread ---- */
+
+int plain_locate(const uint8_t *left_sheet, size_t left_sheet_bytes, const uint8_t *right_sheet, size_t right_sheet_bytes,
+                 size_t nl, size_t nr, const uint8_t *wiring, size_t wiring_bytes, const uint8_t *block, size_t block_bytes,
+                 unsigned *side, size_t *vertex)
+{
+    plan p;
+    int fault = check_plan(left_sheet, left_sheet_bytes, right_sheet, right_sheet_bytes, nl, nr, wiring, wiring_bytes, &p);
+    if (!fault)
+        fault = check_block(&p, block, block_bytes);
+    if (fault)
+        return fault;
+    *side = 0;
+    *vertex = 0;
+    for (int right = 0; right < 2; right++)
+        for (size_t v = 0; v < p.n[right]; v++)
+            if (!is_word(&p.codes[right], read_word(&p.codes[right], right, wiring, block, v))) {
+                *side = 1u + (unsigned)right;
+                *vertex = v;
+                return 0;
+            }
+    return 0;
+}
+
+static unsigned bit_of(const uint8_t *block, size_t i)
+{
+    return (block[i / 8] >> (7 - i % 8)) & 1u;
+}
+
+int plain_report(const uint8_t *left_sheet, size_t left_sheet_bytes, const uint8_t *right_sheet, size_t right_sheet_bytes,
+                 size_t nl, size_t nr, const uint8_t *wiring, size_t wiring_bytes, const uint8_t *received,
+                 size_t received_bytes, const uint8_t *settled, size_t settled_bytes, uint8_t *list, size_t list_bytes,
+                 size_t *pairs)
+{
+    plan p;
+    int fault = check_plan(left_sheet, left_sheet_bytes, right_sheet, right_sheet_bytes, nl, nr, wiring, wiring_bytes, &p);
+    if (!fault)
+        fault = check_block(&p, received, received_bytes);
+    if (!fault)
+        fault = check_block(&p, settled, settled_bytes);
+    if (fault)
+        return fault;
+    /* nothing may be written to a list that is too short, so the runs are counted first */
+    for (int writing = 0; writing < 2; writing++) {
+        size_t count = 0;
+        for (size_t i = 0; i < p.edges; i++) {
+            if (bit_of(received, i) == bit_of(settled, i))
+                continue;
+            size_t from = i;
+            while (i < p.edges && bit_of(received, i) != bit_of(settled, i))
+                i++;
+            if (writing) {
+                uint8_t *pair = list + 4 * count;
+                pair[0] = (uint8_t)(from >> 8);
+                pair[1] = (uint8_t)from;
+                pair[2] = (uint8_t)((i - from) >> 8);
+                pair[3] = (uint8_t)(i - from);
+            }
+            count++;
+        }
+        if (list_bytes < 4 * count)
+            return 16;
+        *pairs = count;
+    }
+    return 0;
+}
+
+int plain_spread(const uint8_t *left_sheet, size_t left_sheet_bytes, const uint8_t *right_sheet, size_t right_sheet_bytes,
+                 size_t nl, size_t nr, const uint8_t *wiring, size_t wiring_bytes, uint64_t *spread)
+{
+    plan p;
+    static uint16_t left_end[32768], right_end[32768]; /* of each entry and of each edge */
+    int fault = check_plan(left_sheet, left_sheet_bytes, right_sheet, right_sheet_bytes, nl, nr, wiring, wiring_bytes, &p);
+    if (fault)
+        return fault;
+    size_t dl = (size_t)p.codes[0].d, dr = (size_t)p.codes[1].d;
+    for (size_t i = 0; i < p.edges; i++) {
+        left_end[i] = (uint16_t)(edge_of(wiring, i) / dl);
+        right_end[edge_of(wiring, i)] = (uint16_t)(i / dr);
+    }
+    *spread = 0;
+    for (size_t u = 0; u < nl; u++) {
+        uint32_t meets[2048];
+        uint64_t sum = 0;
+        memset(meets, 0, nl * sizeof *meets);
+        for (size_t j = 0; j < dl; j++)
+            for (size_t i = 0; i < dr; i++)
+                meets[left_end[right_end[u * dl + j] * dr + i]]++;
+        for (size_t w = 0; w < nl; w++) {
+            uint64_t met = nr * meets[w];
+            sum += met < dl * dl ? dl * dl - met : met - dl * dl;
+        }
+        if (*spread < sum)
+            *spread = sum;
+    }
+    return 0;
 }
 
 /* ---- the encoder ---- */

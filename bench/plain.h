@@ -14,6 +14,21 @@ int plain_decode(const uint8_t *left_sheet, size_t left_sheet_bytes, const uint8
                  size_t nl, size_t nr, const uint8_t *wiring, size_t wiring_bytes, const uint8_t *received,
                  size_t received_bytes, uint8_t *output, size_t output_bytes, size_t limit, size_t *sweeps, uint16_t sums[64]);
 
+/* The first vertex that reads no inner codeword: its side (1 left, 2 right) and its number, both 0 where there is none. */
+int plain_locate(const uint8_t *left_sheet, size_t left_sheet_bytes, const uint8_t *right_sheet, size_t right_sheet_bytes,
+                 size_t nl, size_t nr, const uint8_t *wiring, size_t wiring_bytes, const uint8_t *block, size_t block_bytes,
+                 unsigned *side, size_t *vertex);
+
+/* The maximal runs of bits at which two blocks differ, bit by bit: their number, and offset and length of each in the list. */
+int plain_report(const uint8_t *left_sheet, size_t left_sheet_bytes, const uint8_t *right_sheet, size_t right_sheet_bytes,
+                 size_t nl, size_t nr, const uint8_t *wiring, size_t wiring_bytes, const uint8_t *received,
+                 size_t received_bytes, const uint8_t *settled, size_t settled_bytes, uint8_t *list, size_t list_bytes,
+                 size_t *pairs);
+
+/* The spread: for each left vertex the walk over its edges, and over the edges of each right vertex met. */
+int plain_spread(const uint8_t *left_sheet, size_t left_sheet_bytes, const uint8_t *right_sheet, size_t right_sheet_bytes,
+                 size_t nl, size_t nr, const uint8_t *wiring, size_t wiring_bytes, uint64_t *spread);
+
 /* The library's elimination, written in C: a set of rows for each bit, as eight words of 64. */
 int plain_encode(const uint8_t *left_sheet, size_t left_sheet_bytes, const uint8_t *right_sheet, size_t right_sheet_bytes,
                  size_t nl, size_t nr, const uint8_t *wiring, size_t wiring_bytes, const uint8_t *message, size_t message_bytes,

@@ -18,7 +18,7 @@ static void decode(void), decode_two_codes(void), decode_house_right(void), deco
 
 /* The bytes that each call may take, as the header says, and the number that it must answer here. The decoder's blocks are such
  * that do not settle, so that it runs its sweeps and writes the received block back. */
-#define DECODE_BYTES (19 * 1024)
+#define DECODE_BYTES (90 * 1024)
 
 static const struct {
     const char *name, *plan;
@@ -27,16 +27,16 @@ static const struct {
     void (*run)(void);
 } calls[] = {
     {"lembikat_nearest_word", "k 11", 5 * 1024, LEMBIKAT_DONE, nearest_word},
-    {"lembikat_locate", "largest", 5 * 1024, LEMBIKAT_DONE, locate},
+    {"lembikat_locate", "largest", 38 * 1024, LEMBIKAT_DONE, locate},
     {"lembikat_decode", "largest", DECODE_BYTES, LEMBIKAT_UNSETTLED, decode},
     {"lembikat_decode", "two codes of k 11", DECODE_BYTES, LEMBIKAT_UNSETTLED, decode_two_codes},
     {"lembikat_decode", "k 11, house code", DECODE_BYTES, LEMBIKAT_UNSETTLED, decode_house_right},
     {"lembikat_decode", "house code, k 11", DECODE_BYTES, LEMBIKAT_UNSETTLED, decode_house_left},
-    {"lembikat_report", "largest", 5 * 1024, LEMBIKAT_DONE, report},
+    {"lembikat_report", "largest", 38 * 1024, LEMBIKAT_DONE, report},
     {"lembikat_spread", "largest", 138 * 1024, LEMBIKAT_DONE, spread},
     {"lembikat_margin", "largest", 142 * 1024, LEMBIKAT_DONE, margin},
-    {"lembikat_encode", "largest with messages", 38 * 1024, LEMBIKAT_DONE, encode},
-    {"lembikat_read", "largest with messages", 38 * 1024, LEMBIKAT_DONE, read_block},
+    {"lembikat_encode", "largest with messages", 70 * 1024, LEMBIKAT_DONE, encode},
+    {"lembikat_read", "largest with messages", 70 * 1024, LEMBIKAT_DONE, read_block},
 };
 #define CALLS (sizeof calls / sizeof calls[0])
 

@@ -76,9 +76,9 @@ extern "C" {
 /* The version, as text (pkg-config tells the same) and as numbers; the last two are below 1,000 each. LEMBIKAT_VERSION_NUMBER
  * rises with every version, the first number where a caller must change its code. A host asks for a version or a later one so:
  *   #if LEMBIKAT_VERSION_AT_LEAST(3, 0, 0) */
-#define LEMBIKAT_VERSION "3.0"
+#define LEMBIKAT_VERSION "3.1"
 #define LEMBIKAT_VERSION_MAJOR 3
-#define LEMBIKAT_VERSION_MINOR 0
+#define LEMBIKAT_VERSION_MINOR 1
 #define LEMBIKAT_VERSION_PATCH 0
 #define LEMBIKAT_VERSION_AS_NUMBER(major, minor, patch) (1000000L * (major) + 1000L * (minor) + (patch))
 #define LEMBIKAT_VERSION_NUMBER                                                                                                \
@@ -183,7 +183,7 @@ lembikat_word_answer lembikat_nearest_word(const uint8_t *sheet, size_t sheet_by
 /* The first vertex that reads no inner codeword of its side, the left side before the right, the lowest number first.
  *   place: LEMBIKAT_NONE where the block is a codeword, else LEMBIKAT_LEFT or LEMBIKAT_RIGHT; value: the vertex, below nl on
  *   the left and below nr on the right.
- *   Refusals: the plan's, 11, 12.  Stack: at most 5 KiB. */
+ *   Refusals: the plan's, 11, 12.  Stack: at most 38 KiB. */
 lembikat_answer lembikat_locate(const uint8_t *left_sheet, size_t left_sheet_bytes, const uint8_t *right_sheet,
                                 size_t right_sheet_bytes, size_t nl, size_t nr, const uint8_t *wiring, size_t wiring_bytes,
                                 const uint8_t *block, size_t block_bytes);
@@ -194,7 +194,7 @@ lembikat_answer lembikat_locate(const uint8_t *left_sheet, size_t left_sheet_byt
  * the sweeps that it names.
  *   output: the settled block at the front; with LEMBIKAT_UNSETTLED the received block; else untouched.  value: the sweeps.
  *   sums: the bits that each of the first 64 sweeps changed, with LEMBIKAT_UNSETTLED too.
- *   Refusals: the plan's, 11, 12, 13, 14, 15.  Stack: at most 19 KiB. */
+ *   Refusals: the plan's, 11, 12, 13, 14, 15.  Stack: at most 90 KiB. */
 lembikat_decode_answer lembikat_decode(const uint8_t *left_sheet, size_t left_sheet_bytes, const uint8_t *right_sheet,
                                        size_t right_sheet_bytes, size_t nl, size_t nr, const uint8_t *wiring,
                                        size_t wiring_bytes, const uint8_t *received, size_t received_bytes, uint8_t *output,
@@ -203,7 +203,7 @@ lembikat_decode_answer lembikat_decode(const uint8_t *left_sheet, size_t left_sh
 /* Lists the maximal runs of bits at which a received and a settled block differ, in rising order. A run takes four bytes of
  * the list: its bit offset and its length, two bytes each, high byte first. Neither block need be a codeword.
  *   list: the runs at the front.  value: their number, at most (N + 1) / 2.
- *   Refusals: the plan's, then 11 and 12 for the received block, 11 and 12 for the settled one, 16.  Stack: at most 5 KiB. */
+ *   Refusals: the plan's, then 11 and 12 for the received block, 11 and 12 for the settled one, 16.  Stack: at most 38 KiB. */
 lembikat_answer lembikat_report(const uint8_t *left_sheet, size_t left_sheet_bytes, const uint8_t *right_sheet,
                                 size_t right_sheet_bytes, size_t nl, size_t nr, const uint8_t *wiring, size_t wiring_bytes,
                                 const uint8_t *received, size_t received_bytes, const uint8_t *settled, size_t settled_bytes,
@@ -227,14 +227,14 @@ lembikat_answer lembikat_margin(const uint8_t *left_sheet, size_t left_sheet_byt
 
 /* Writes the codeword that carries a message.
  *   output: the block at the front.  value: 0.
- *   Refusals: the plan's, 19, 20, 21, 13.  Stack: at most 38 KiB. */
+ *   Refusals: the plan's, 19, 20, 21, 13.  Stack: at most 70 KiB. */
 lembikat_answer lembikat_encode(const uint8_t *left_sheet, size_t left_sheet_bytes, const uint8_t *right_sheet,
                                 size_t right_sheet_bytes, size_t nl, size_t nr, const uint8_t *wiring, size_t wiring_bytes,
                                 const uint8_t *message, size_t message_bytes, uint8_t *output, size_t output_bytes);
 
 /* Writes the message that a codeword block carries: it undoes lembikat_encode.
  *   output: the message at the front.  value: 0.
- *   Refusals: the plan's, 19, 11, 12, 22, 13.  Stack: at most 38 KiB. */
+ *   Refusals: the plan's, 19, 11, 12, 22, 13.  Stack: at most 70 KiB. */
 lembikat_answer lembikat_read(const uint8_t *left_sheet, size_t left_sheet_bytes, const uint8_t *right_sheet,
                               size_t right_sheet_bytes, size_t nl, size_t nr, const uint8_t *wiring, size_t wiring_bytes,
                               const uint8_t *block, size_t block_bytes, uint8_t *output, size_t output_bytes);

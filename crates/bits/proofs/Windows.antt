@@ -11,7 +11,7 @@ use native.Mathlib.Omega.{arith}
 use lib.ListN.{getD}
 use lib.Pow.{pow-pos, shl-exact, field, mod-mod-pow, shr-shr, high, low}
 use Rattle.bits.specs.Window.{wordAt}
-use Rattle.bits.specs.Bit.{digit, bitAt}
+use Rattle.bits.specs.Bit.{digit, bitAt, pairAt}
 use Rattle.bits.proofs.Words.{word-ext, word-digits}
 
 -- ---- digits of a number that is cut or put together
@@ -85,3 +85,18 @@ wordAt-window bytes i d narrow middle last =
     (λ j l.
     digit-low (x / 2 ^ (24 - i % 8 - d)) d (d - 1 - j) (omega arith) ∙ digit-shifted x (24 - i % 8 - d) (d - 1 - j)
     ∙ ap (digit x) (omega arith) ∙ window-digit bytes (i / 8) middle last (i % 8 + j) (omega arith) ∙ ap (bitAt bytes) (omega arith))
+
+-- whole bytes
+module _ (bytes : List ℕ) (i : ℕ) (whole : i % 8 ≡ 0) (small : (k : ℕ) → getD bytes k 0 < 256) where
+  pub wordAt-byte : wordAt bytes i 8 ≡ getD bytes (i / 8) 0
+  wordAt-byte =
+      let from : 24 - i % 8 - 8 ≡ 16 = omega arith in
+      sym (wordAt-window bytes i 8 (omega arith) (small (i / 8 + 1)) (small (i / 8 + 2)))
+      ∙ rw from (omega (arith, small (i / 8), small (i / 8 + 1), small (i / 8 + 2)))
+
+  pub wordAt-pair : wordAt bytes i 16 ≡ pairAt bytes (i / 8)
+  unfolding pairAt
+  wordAt-pair =
+      let from : 24 - i % 8 - 16 ≡ 8 = omega arith in
+      sym (wordAt-window bytes i 16 (omega arith) (small (i / 8 + 1)) (small (i / 8 + 2)))
+      ∙ rw from (omega (arith, small (i / 8), small (i / 8 + 1), small (i / 8 + 2)))

@@ -15,7 +15,7 @@ use native.Mathlib.Numerals.{one-add}
 use native.Mathlib.Omega.{arith}
 use lib.Arith.{bin-ind}
 use lib.Bits.{bitXor, differ, xor-add-and, xor-comm, xor-self, xor-zero-l, xor-zero-r}
-use lib.Bits.{xor-lt, xor-block, xor-shr, xor-mod, shifted-half, shifted-even}
+use lib.Bits.{xor-lt, xor-block, xor-shr, xor-mod, xor-shifted, shifted-half, shifted-even}
 use lib.Count.{ones, ones-step}
 use lib.Pow.{pow-pos, pow-mono, shl-shr, shr-shr}
 use Rattle.bits.specs.Bit.{digit}
@@ -124,6 +124,11 @@ digit-pow-other b (suc k) (suc j) h ne =
 pub xor-digit : (a b j : ℕ) → digit (bitXor a b) j ≡ bitXor (digit a j) (digit b j)
 unfolding digit
 xor-digit a b j = ap (λ (x : ℕ). x % 2) (xor-shr a b j) ∙ xor-mod (a / 2 ^ j) (b / 2 ^ j) 1
+
+-- 2^k + m has the digits of m below k, and a 1 at k
+pub digit-upper : (k m i : ℕ) → m < 2 ^ k → digit (2 ^ k + m) i ≡ bitXor (digit (1 * 2 ^ k) i) (digit m i)
+digit-upper k m i h =
+    ap (λ (x : ℕ). digit x i) (ap (λ (x : ℕ). x + m) (sym (one-mul (2 ^ k))) ∙ sym (xor-shifted 1 k m h)) ∙ xor-digit (1 * 2 ^ k) m i
 
 -- ---- the number of set digits
 

@@ -1,10 +1,12 @@
--- What the code reads of a list: none of this is needed to believe a contract of a service.
+-- What the code reads of a list and writes to it: none of this is needed to believe a contract of a service.
 --   at l i            element i of a list, 0 past its end
 --   wordAt bytes i d  the number that the d bits from bit i on make, bit i of the highest weight; past the end bits are 0
+--   turned bytes i b  the byte string with its bit i turned where b is 1, and as it is where b is 0; past the end nothing changes
 use Prim.Native.Nat.{ℕ, _+_}
 use mathlib.Core.List.{List}
+use lib.Bits.{bitXor}
 use lib.ListN.{getD}
-use Rattle.bits.specs.Bit.{word, bitAt}
+use Rattle.bits.specs.Bit.{word, bitAt, withBit}
 
 unfoldable pub at : List ℕ → ℕ → ℕ
 at l i = getD l i 0
@@ -12,3 +14,7 @@ at l i = getD l i 0
 unfoldable pub wordAt : List ℕ → ℕ → ℕ → ℕ
 unfolding word bitAt
 wordAt bytes i d = word d (λ j. bitAt bytes (i + j))
+
+unfoldable pub turned : List ℕ → ℕ → ℕ → List ℕ
+unfolding withBit bitAt
+turned bytes i b = withBit bytes i (bitXor (bitAt bytes i) b)

@@ -2,7 +2,7 @@
 ghost use mathlib.Core.Bool.{true, false};
 ghost use mathlib.Core.Path.{_≡_};
 ghost use Prim.Native.Nat.{_%_, _<_, _≤_, min};
-ghost use Rattle.bits.specs.Window.{at, wordAt};
+ghost use Rattle.bits.specs.Window.{at, wordAt, turned};
 ghost use Rattle.bits.specs.Bit.{bitAt, withBit, pairAt};
 
 // Bit i of a byte string, 0 past its end. Bit 0 has weight 128 in byte 0.
@@ -25,6 +25,16 @@ pub fn put_bit(bytes: &mut [u8], i: usize, b: u64)
         let x = bytes[at];
         let place = 7 - i % 8;
         bytes[at] = x ^ ((((x >> place) % 2) ^ ((b % 2) as u8)) << place);
+    }
+}
+
+// Turns bit i of a byte string: 0 becomes 1, and 1 becomes 0. Nothing is written past the end.
+pub fn turn_bit(bytes: &mut [u8], i: usize)
+    ensures { λ _. ⌜ now (bytes .exit) ≡ turned (now (bytes .entry)) i 1 ⌝ }
+{
+    let at = i / 8;
+    if at < bytes.len() {
+        bytes[at] = bytes[at] ^ (1u8 << (7 - i % 8));
     }
 }
 

@@ -3,26 +3,34 @@
 --   decodeCheck ..                what stops a decoder call before it decodes (specs Answer)
 --   decodeAnswer, decodeSums, decodeOutput    what the decoder answers, the sums that it tells, and its output at exit (specs Answer)
 --   Passed plan received output H  what a call knows that nothing stops before it decodes
+--   locatedBy codes wiring block  where the code finds a vertex that is not satisfied (wiring specs Access)
 -- Laws are named `copy-` and the fact: `copied` is the output with the copy, its first `size` bytes are lent on, and `swept` comes back for them.
 use Prim.Native.Nat.{ℕ, _≤_, _<_, min}
 use native.Mathlib.Nat.{min-eq-left, min-eq-right}
 use mathlib.Core.List.{List, [], _∷_, _++_}
-use mathlib.Core.Path.{_≡_, sym, ap, _∙_}
+use mathlib.Core.Path.{_≡_, sym, ap, ap₂, _∙_}
 use native.Mathlib.Omega.{arith}
-use lib.ListN.{length, take, drop}
+use lib.ListN.{length, take, drop, replicate}
 use borrow.Author.Tests.{ltb-false}
 use Rattle.bits.specs.Bit.{written}
 use Rattle.bits.proofs.Fronts.{written-part, written-over, written-again}
 use Rattle.inner_code.specs.Reply.{done, refused}
 use Rattle.inner_code.proofs.Replies.{andThen-done, refuse-done}
-use Rattle.wiring.specs.Plan.{Plan, edgeCount}
+use Rattle.wiring.specs.Access.{bothCodes, locatedBy}
+use Rattle.wiring.specs.Plan.{Plan, edgeCount, left, right, sideOf}
 use Rattle.wiring.specs.Wiring.{planCheck}
-use Rattle.wiring.specs.Block.{blockBytes, blockCheck}
+use Rattle.wiring.specs.Block.{blockBytes, blockCheck, isCodewordBlock, located}
+use Rattle.wiring.specs.Checking.{codeOf}
+use Rattle.wiring.specs.declared.side.SideCode.{SideCode}
 use Rattle.wiring.proofs.Blocks.{block-sized, block-clear, block-back}
+use Rattle.wiring.proofs.CodewordBlocks.{located-some}
+use Rattle.wiring.proofs.Locating.{located-by}
 use Rattle.wiring.proofs.Plans.{plan-sound, plan-back}
 use Rattle.decoder.specs.Decode.{sweptBlock, settlesAt, sweepSums}
 use Rattle.decoder.specs.Answer.{decodeCheck, decodeAnswer, decodeSums, decodeOutput}
-use Rattle.decoder.proofs.Settling.{decode-unsettled, decode-settled}
+use Rattle.decoder.proofs.Settling.{settles-at, decode-unsettled, decode-settled}
+use Rattle.decoder.proofs.SweepSums.{sums-zero}
+use Rattle.decoder.proofs.Sweeping.{after-zero}
 
 -- ---- a call that nothing stops before it decodes
 
@@ -88,5 +96,36 @@ module _ (plan : Plan) (received output : List ℕ) (H : ℕ) (checked : decodeC
         (
           copy-told ∙ ap (sweepSums plan received) (min-eq-right (omega arith)) ∙ sym (r .tells),
           e ∙ ap (written received) copy-whole ∙ written-again received swept output (kept ∙ ap length copy-part) ∙ sym (r .leaves),
+        ),
+      )
+
+-- ---- a codeword, which no sweep changes
+
+module _ (plan : Plan) (received output : List ℕ) (H : ℕ) (checked : decodeCheck plan received output H ≡ done []) (l r : SideCode)
+    (left-is : l ≡ codeOf plan left) (right-is : r ≡ codeOf plan right)
+    (nowhere : locatedBy (bothCodes l r) (plan .wiring) received ≡ []) where
+  codeword-located : located (sideOf plan) received ≡ []
+  unfolding locatedBy
+  codeword-located =
+      let (s, w) = plan-sound plan (check-means plan received output H checked .plan-done) in
+      sym (ap₂ (λ (a b : SideCode). locatedBy (bothCodes a b) (plan .wiring) received) left-is right-is
+      ∙ located-by plan received (λ name. s name .count-high) w)
+      ∙ nowhere
+
+  codeword-settled : settlesAt plan received H ≡ 0
+  codeword-settled =
+      settles-at plan received H 0 (omega arith)
+      (ap (isCodewordBlock (sideOf plan)) (after-zero (sideOf plan) received) ∙ located-some (sideOf plan) received codeword-located)
+      (λ j l. absurd (omega arith))
+
+  pub copy-codeword : {after : List ℕ} → after ≡ written received output
+      → (done (0 ∷ []) ≡ decodeAnswer plan received output H)
+      × ((replicate 64 0 ≡ decodeSums plan received output H) × (after ≡ decodeOutput plan received output H))
+  copy-codeword e =
+      let d = decode-settled plan received output H checked 0 codeword-settled (omega arith) in (
+        sym (d .answer),
+        (
+          sums-zero plan received ∙ sym (d .tells),
+          e ∙ ap (λ (block : List ℕ). written block output) (sym (after-zero (sideOf plan) received)) ∙ sym (d .leaves),
         ),
       )

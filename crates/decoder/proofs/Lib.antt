@@ -1,5 +1,7 @@
 pub mod Sweeping
 pub mod Settling
+pub mod Patterns
+pub mod RightWords
 pub mod Visiting
 pub mod Passes
 pub mod Copies

@@ -8,10 +8,11 @@
 --   Swept plan received H count block sums the block after `count` sweeps, at no count before which it was settled, and their sums
 -- Laws are named by their subject, then by the fact: `turn-` is about the side of a sweep, `settled-` about settled blocks, `pass-` about one
 -- sweep of the code, `told-` about sums, `swept-` about all sweeps so far, and `settle-` gives what the code answers and leaves at one way out each: after the
--- first two sweeps (-zero, -one), after a later one (-later), and at the limit (-never).
+-- first two sweeps (-zero, -one), after a later one (-later), before the last two (-earlier), and at the limit (-never).
 use Prim.Native.Nat.{ℕ, _+_, _≤_, _<_, zero-le, min}
-use mathlib.Core.Bool.{Bool, true, false, true≢false}
+use mathlib.Core.Bool.{true, false, true≢false}
 use mathlib.Core.List.{List, []}
+use mathlib.Mathlib.Data.Bool.Basic.{eq-false-of-not-eq-true}
 use mathlib.Core.Path.{_≡_, refl, sym, ap, ap₂, _∙_}
 use native.Mathlib.Nat.{le-refl, min-eq-left, min-eq-right}
 use native.Mathlib.Decide.{decLe}
@@ -55,6 +56,17 @@ turn-two = refl
 pub turn-more : (i : ℕ) {name : SideName} → name ≡ turn i → other name ≡ turn (i + 1)
 unfolding turn
 turn-more i e = rw add-one (ap other e)
+
+-- the side of every second sweep is the same
+pub turn-again : (i : ℕ) {name : SideName} → name ≡ turn i → name ≡ turn (i + 2)
+unfolding other
+turn-again i {name} e =
+    let two : i + 1 + 1 ≡ i + 2 = omega arith in
+    sym (other-twice name) ∙ rw two at (turn-more (i + 1) (turn-more i e))
+  where
+    other-twice : (name : SideName) → other (other name) ≡ name
+    other-twice SideName.Left = refl
+    other-twice SideName.Right = refl
 
 -- ---- a side that changes nowhere
 
@@ -145,20 +157,14 @@ module _ {plan : Plan} {received : List ℕ} (b : Begun plan received) where
   settled-stays i j e = after-stays (sideOf plan) mends i j received e
 
   settled-before : (i j : ℕ) → settledAfter plan received (i + j) ≡ false → settledAfter plan received i ≡ false
-  settled-before i j e = go (settledAfter plan received i) refl
-    where
-      go : (t : Bool) → settledAfter plan received i ≡ t → settledAfter plan received i ≡ false
-      go true q = absurd (true≢false (sym q ∙ ap (isCodewordBlock (sideOf plan)) (sym (settled-stays i j q)) ∙ e))
-      go false q = q
+  settled-before i j e =
+      eq-false-of-not-eq-true (λ q. true≢false (sym q ∙ ap (isCodewordBlock (sideOf plan)) (sym (settled-stays i j q)) ∙ e))
 
   -- before a sweep that changes a vertex the block was not settled
   pass-unsettled : {i changed : ℕ} {after : List ℕ} → Pass plan received i changed after → (changed ≡ 0 → ⊥) → settledAfter plan received i ≡ false
   unfolding firstUnsatisfied
-  pass-unsettled {i} a some = go (settledAfter plan received i) refl
-    where
-      go : (t : Bool) → settledAfter plan received i ≡ t → settledAfter plan received i ≡ false
-      go true q = absurd (a .dirty some (first-all (countOf plan (turn i)) _ (codeword-block-each (sideOf plan) _ q (turn i))))
-      go false q = q
+  pass-unsettled {i} a some =
+      eq-false-of-not-eq-true (λ q. a .dirty some (first-all (countOf plan (turn i)) _ (codeword-block-each (sideOf plan) _ q (turn i))))
 
   -- before a sweep that changes none it was, since the side swept before is satisfied
   pass-settled : {i changed : ℕ} {after : List ℕ} → 1 ≤ i → Pass plan received i changed after → changed ≡ 0 → settledAfter plan received i ≡ true
@@ -226,9 +232,17 @@ module _ {plan : Plan} {received : List ℕ} (b : Begun plan received) where
       (pass-settled (le-refl 1) two still) (two .leaves) told
 
   pub settle-later : {H count changed : ℕ} {block after sums : List ℕ} → Swept plan received H count block sums
-      → Pass plan received count changed after → changed ≡ 0 → 1 ≤ count → count ≤ H → Answer H count after sums
+      → Pass plan received count changed after → changed ≡ 0 → 1 ≤ count → count ≤ H + 1 → Answer H count after sums
   settle-later {H} {count} so-far a none low high =
-      found H count 1 (omega arith) (so-far .unsettled) (pass-settled low a none) (a .leaves) (so-far .told)
+      found H count 1 high (so-far .unsettled) (pass-settled low a none) (a .leaves) (so-far .told)
+
+  -- the same where one more sweep is made than the one that tells it
+  pub settle-earlier : {H count changed more : ℕ} {block between after sums : List ℕ} → Swept plan received H count block sums
+      → Pass plan received count changed between → Pass plan received (count + 1) more after → changed ≡ 0 → 1 ≤ count → count ≤ H
+      → Answer H count after sums
+  settle-earlier {H} {count} so-far a next none low high =
+      let two : count + 1 + 1 ≡ count + 2 = omega arith in
+      found H count 2 (omega arith) (so-far .unsettled) (pass-settled low a none) (rw two at (next .leaves)) (so-far .told)
 
   pub settle-never : {H count : ℕ} {block sums : List ℕ} → Swept plan received H count block sums → H < count → Answer H (H + 1) block sums
   settle-never {H} {count} so-far past =

@@ -1,38 +1,38 @@
--- One sweep as the code makes it: vertices that are passed over, vertices that are mended, and how many bits change.
+-- One sweep as the code makes it: vertices that stay, vertices that are mended, and how many bits change.
 --   changedAt, changedBy       how many bits a word's nearest word changes, and those of a side's first vertices together (specs Visiting)
---   PassedOver, SideSwept      what passing over vertices and a whole sweep give (specs Visiting)
+--   SideSwept                  what a whole sweep gives (specs Visiting)
 --   visited, sweep, nearestOf  the block after some vertices, and after all, have their nearest word (specs Sweep, Visiting)
 --   Visits side before v changed block   the first v vertices are visited: `changed` bits changed, and the block is `block`
---   Passing side block from v  the words of the vertices from .. v - 1 are their own nearest ones
 -- Laws are named by their subject, then by the fact: `changed-` is about the number of bits that change, `visits-` about the block so
--- far, `passing-` and `passed-` about vertices that stay, `word-` about one vertex's word in the code, `ready-` about a side of a checked plan.
-use Prim.Native.Nat.{ℕ, zero, suc, _+_, _-_, _*_, _^_, _≤_, _<_}
+-- far, `word-`, `found-` and `pattern-` about one vertex's word in the code, `ready-` about a side of a checked plan.
+use Prim.Native.Nat.{ℕ, _+_, _-_, _*_, _^_, _≤_, _<_, min}
 use mathlib.Core.Bool.{Bool, true, false}
 use mathlib.Core.List.{List, []}
 use mathlib.Core.Path.{_≡_, refl, sym, ap, ap₂, _∙_}
-use native.Mathlib.Nat.{le-refl, le-trans, le-of-eq, add-zero}
-use native.Mathlib.Decide.{ℕ-discrete}
+use native.Mathlib.Nat.{le-refl, le-trans, le-of-eq, min-eq-left}
 use native.Mathlib.Omega.{arith}
 use Rattle.bits.proofs.Sums.{sum-zero, sum-one-more, sum-mono, sum-const, sum-none, sum-none-each}
+use lib.Bits.{bitXor, xor-lt}
 use lib.ListN.{length}
+use Rattle.bits.specs.Window.{wordAt}
+use Rattle.bits.proofs.Xor.{xor-cancel}
 use Rattle.inner_code.specs.Sheet.{degree}
 use Rattle.inner_code.specs.declared.nearest.Step.{Step}
-use Rattle.inner_code.proofs.NearestWord.{changed-none, changed-none-back, changed-le}
+use Rattle.inner_code.proofs.NearestWord.{nearest-lt, changed-none, changed-none-back, changed-le}
 use Rattle.inner_code.specs.Reply.{done}
 use Rattle.inner_code.specs.Finding.{Finds}
 use Rattle.inner_code.proofs.SheetChecks.{Sound, sound}
 use Rattle.inner_code.proofs.Finding.{OwnNearest, Found}
-use Rattle.wiring.specs.Plan.{Plan, Side, sheetOf, countOf, sideBy}
+use Rattle.wiring.specs.Plan.{Plan, Side, left, sheetOf, countOf, sideBit, sideBy}
 use Rattle.wiring.specs.Wiring.{planCheck}
-use Rattle.wiring.specs.Access.{readWord, writtenWord}
 use Rattle.wiring.specs.declared.side.SideName.{SideName}
 use Rattle.wiring.proofs.VertexWords.{vertex-lt}
-use Rattle.wiring.proofs.VertexAccess.{read-inside, write-inside}
 use Rattle.wiring.proofs.Plans.{plan-sound, fitted-sheet}
 use Rattle.wiring.specs.Block.{vertexWord, withWord}
-use Rattle.wiring.proofs.Permutation.{Whole, edges-le, side-fits, side-edges, side-lt, side-once}
+use Rattle.wiring.proofs.Permutation.{Whole, edges-le, fitted-vertex, fitted-edges, side-fits, side-edges, side-lt, side-once}
 use Rattle.decoder.specs.Sweep.{visited, sweep}
-use Rattle.decoder.specs.Visiting.{changedAt, changedBy, Ready, SideReady, PassedOver, nearestOf}
+use Rattle.decoder.specs.Visiting.{changedAt, changedBy, Ready, SideReady, SideSwept, nearestOf, patternPut}
+use Rattle.decoder.proofs.Patterns.{pattern-word}
 use Rattle.decoder.proofs.Sweeping.{length-visited, visited-one-more, visited-skip, visited-later}
 
 -- ---- how many bits change
@@ -123,66 +123,37 @@ module _ {N : ℕ} {side : Side} (whole : Whole N side) {before block : List ℕ
 
 -- after the last vertex
 pub visits-sweep : {side : Side} {before : List ℕ} {v changed : ℕ} {block : List ℕ} → Visits side before v changed block → v ≡ side .n
-    → (changed ≡ changedBy side (side .n) before) × (block ≡ sweep side before)
+    → SideSwept side before changed block
 unfolding sweep
-visits-sweep {side} {before} all end = (
-  all .counted ∙ ap (λ (m : ℕ). changedBy side m before) end,
-  all .swept ∙ ap (λ (m : ℕ). visited (nearestOf side) side m before) end,
-)
+visits-sweep {side} {before} all end =
+    record {
+      counted = all .counted ∙ ap (λ (m : ℕ). changedBy side m before) end;
+      leaves = all .swept ∙ ap (λ (m : ℕ). visited (nearestOf side) side m before) end;
+    }
 
--- ---- vertices that are passed over
+pub ready-whole : {sheet : List ℕ} {n : ℕ} {wiring finder : List ℕ} → SideReady sheet n wiring finder → (name : SideName)
+    → Whole (n * degree sheet) (sideBy sheet n wiring name)
+ready-whole ready name =
+    record { degree-pos = ready .fits .d-low; entries = refl; bit-lt = side-lt (ready .permuted) name; bit-once = side-once (ready .permuted) name }
 
-pub record Passing (side : Side) (block : List ℕ) (from v : ℕ) : Type 0 where
-  pub after : from ≤ v
-  pub within : v ≤ side .n
-  pub stay : (u : ℕ) → from ≤ u → u < v → nearestOf side (vertexWord side block u) ≡ vertexWord side block u
+-- the entries of a vertex
+pub ready-vertex : {sheet : List ℕ} {n : ℕ} {wiring finder : List ℕ} → SideReady sheet n wiring finder → {v : ℕ} → v < n
+    → v * degree sheet + degree sheet ≤ 32768
+ready-vertex {sheet} {n} ready {v} below = omega (arith, fitted-vertex (ready .fits) v below, ready .fits .sized, fitted-edges (ready .fits))
 
-module _ {side : Side} {block : List ℕ} {from : ℕ} where
-  pub passing-none : from ≤ side .n → Passing side block from from
-  passing-none h = record { after = le-refl from; within = h; stay = λ v a b. absurd (omega arith) }
+-- ---- a vertex's word as the code has it, and what the finder says of it
 
-  pub passing-more : {v : ℕ} → Passing side block from v → v < side .n → nearestOf side (vertexWord side block v) ≡ vertexWord side block v
-      → Passing side block from (v + 1)
-  passing-more {v} so-far below here = record { after = omega (arith, so-far .after); within = omega arith; stay = go }
-    where
-      go : (u : ℕ) → from ≤ u → u < v + 1 → nearestOf side (vertexWord side block u) ≡ vertexWord side block u
-      go u low high = elim (ℕ-discrete u v) [ yes e ↦ rw e here | no apart ↦ so-far .stay u low (omega arith) ]
-
-  pub passed-end : {v : ℕ} → Passing side block from v → side .n ≤ v → PassedOver side block from v
-  passed-end all end = record { after = all .after; within = all .within; stay = all .stay; stops = λ l. absurd (omega arith) }
-
-  pub passed-stop : {v : ℕ} → Passing side block from v → (nearestOf side (vertexWord side block v) ≡ vertexWord side block v → ⊥)
-      → PassedOver side block from v
-  passed-stop all moves = record { after = all .after; within = all .within; stay = all .stay; stops = λ l. moves }
-
--- passing them over is visiting them
-pub visits-passed : {N : ℕ} {side : Side} → Whole N side → {before block : List ℕ} {v to changed : ℕ} → Visits side before v changed block
-    → PassedOver side block v to → Visits side before to changed block
-visits-passed {N} {side} whole {before} {block} {v} {to} {changed} so-far passed =
-    rw (sum-back v to (passed .after)) at (go (to - v) (omega (arith, passed .after)))
-  where
-    sum-back : (a b : ℕ) → a ≤ b → a + (b - a) ≡ b
-    sum-back a b h = omega arith
-
-    next : (a b : ℕ) → a + suc b ≡ a + b + 1
-    next a b = omega arith
-
-    go : (m : ℕ) → v + m ≤ to → Visits side before (v + m) changed block
-    go zero h = rw (add-zero v) so-far
-    go (suc m) h =
-        rw (next v m)
-        (visits-kept whole (omega (arith, passed .within)) (go m (omega arith)) (passed .stay (v + m) (omega arith) (omega arith)))
-
--- ---- a vertex's word as the code reads it, and what the finder says of it
+-- as it is read from the block: the bits of a left vertex stand in a row
+pub word-read : {sheet : List ℕ} {n : ℕ} {wiring finder : List ℕ} → SideReady sheet n wiring finder → (block : List ℕ) (v : ℕ)
+    {d word : ℕ} → d ≡ degree sheet → word ≡ wordAt block (v * d) (min d 16) → word ≡ vertexWord (sideBy sheet n wiring left) block v
+unfolding vertexWord wordAt sideBit
+word-read ready block v d-is read =
+    read ∙ ap₂ (wordAt block) (ap (λ (x : ℕ). v * x) d-is) (ap (λ (x : ℕ). min x 16) d-is ∙ min-eq-left (ready .fits .d-high))
 
 module _ {sheet : List ℕ} {n : ℕ} {wiring finder : List ℕ} (ready : SideReady sheet n wiring finder) (name : SideName) (block : List ℕ)
-    {v d word : ℕ} (below : v < n) (d-is : d ≡ degree sheet) (read : word ≡ readWord name wiring d block v) where
+    {v word : ℕ} (below : v < n) (word-is : word ≡ vertexWord (sideBy sheet n wiring name) block v) where
   abbrev side : Side
   side = sideBy sheet n wiring name
-
-  word-is : word ≡ vertexWord side block v
-  word-is =
-      read ∙ ap (λ (x : ℕ). readWord name wiring x block v) d-is ∙ read-inside sheet (ready .fits) name block v below
 
   word-lt : word < 2 ^ degree sheet
   word-lt = rw word-is (vertex-lt side block v)
@@ -193,27 +164,34 @@ module _ {sheet : List ℕ} {n : ℕ} {wiring finder : List ℕ} (ready : SideRe
   pub word-moves : {r : Bool} → OwnNearest finder word r → r ≡ false → nearestOf side (vertexWord side block v) ≡ vertexWord side block v → ⊥
   word-moves own e = rw word-is at (own .changes e sheet (ready .finds) word-lt)
 
-  pub word-found : {step : Step} {after : List ℕ} → Found finder word step after → step .word ≡ nearestOf side (vertexWord side block v)
-  word-found found = found .nearest sheet (ready .finds) word-lt ∙ ap (nearestOf side) word-is
+  module _ {step : Step} {after : List ℕ} (found : Found finder word step after) where
+    pub word-found : step .word ≡ nearestOf side (vertexWord side block v)
+    word-found = found .nearest sheet (ready .finds) word-lt ∙ ap (nearestOf side) word-is
 
-  pub word-counted : {step : Step} {after : List ℕ} → Found finder word step after → step .changed ≡ changedAt side (vertexWord side block v)
-  word-counted found = found .counted sheet (ready .finds) word-lt ∙ ap (changedAt side) word-is
+    pub word-counted : step .changed ≡ changedAt side (vertexWord side block v)
+    word-counted = found .counted sheet (ready .finds) word-lt ∙ ap (changedAt side) word-is
 
--- the word put where the code puts it
-pub word-put : {sheet : List ℕ} {n : ℕ} {wiring finder : List ℕ} → SideReady sheet n wiring finder → (name : SideName) (block : List ℕ) (mended : ℕ)
-    {after : List ℕ} {v d : ℕ} → v < n → d ≡ degree sheet
-    → after ≡ writtenWord name wiring d v mended block → after ≡ withWord (sideBy sheet n wiring name) v mended block
-word-put {sheet} {wiring = wiring} ready name block mended {after} {v} {d} below d-is e =
-    e ∙ ap (λ (x : ℕ). writtenWord name wiring x v mended block) d-is ∙ write-inside sheet (ready .fits) name v mended block below
+    pub found-lt : step .word < 2 ^ degree sheet
+    found-lt =
+        let s = sound sheet [] (ready .finds .accepted) in
+        rw word-found (nearest-lt _ _ _ (s .degree-high) (s .rows-lt) _ (vertex-lt side block v))
+
+    -- the pattern that leads from one word to the other
+    pub pattern-lt : bitXor word (step .word) < 2 ^ degree sheet
+    pattern-lt = xor-lt (degree sheet) word (step .word) word-lt found-lt
+
+  -- the pattern put on the vertex's bits puts the other word there
+  pub word-put : (mended : ℕ) {after : List ℕ}
+      → after ≡ patternPut (sideBit name wiring) (degree sheet) (v * degree sheet) (bitXor word mended) (degree sheet) block
+      → after ≡ withWord side v mended block
+  word-put mended e =
+      e ∙ pattern-word (ready-whole ready name) v below (bitXor word mended) block
+      ∙ ap (λ (x : ℕ). withWord side v x block)
+      (ap (λ (x : ℕ). bitXor (vertexWord side block v) (bitXor x mended)) word-is ∙ xor-cancel (vertexWord side block v) mended)
 
 -- the sheet of a side has its first byte
 pub ready-sheet : {sheet : List ℕ} {n : ℕ} {wiring finder : List ℕ} → SideReady sheet n wiring finder → 0 < length sheet
 ready-sheet {sheet} ready = fitted-sheet sheet (ready .fits)
-
-pub ready-whole : {sheet : List ℕ} {n : ℕ} {wiring finder : List ℕ} → SideReady sheet n wiring finder → (name : SideName)
-    → Whole (n * degree sheet) (sideBy sheet n wiring name)
-ready-whole ready name =
-    record { degree-pos = ready .fits .d-low; entries = refl; bit-lt = side-lt (ready .permuted) name; bit-once = side-once (ready .permuted) name }
 
 -- ---- the sides of a checked plan
 

@@ -7,20 +7,27 @@
 --   Ready plan leftFinder rightFinder  the plan is accepted, and each finder finds its side's nearest words; a right finder of no numbers
 --                               stands for the left one, and both sides have one sheet
 --   SideSwept side before changed after  one sweep as the code makes it: how many bits it changed, and the block that it leaves
+--   BothSwept plan before here there after  a left sweep and the right one after it as the code makes them: how many bits each changed, and the block
+--                               that is left
 --   noted sums i H changed      the sums with that of sweep i + 1 in them, where it is one of the H sweeps and one that is told
---   PassedOver side block from to   the words of the vertices from .. to - 1 are their own nearest ones, and that of `to` is not unless to is n
-use Prim.Native.Nat.{ℕ, _*_, _≤_, _<_, min}
+--   patternPut bit d base p h block  the block with the h lowest digits of the pattern p put on the bits of a vertex: its d entries begin at
+--                               `base`, and digit j of p turns the bit at entry base + (d - 1 - j) where it is 1
+--   WordsRead side block words  the list holds the words that the vertices of a side read, and the block holds the side's bits
+--   PlacesNoted plan places     the list holds, at each edge, the entry of the wiring where it stands
+use Prim.Native.Nat.{ℕ, zero, suc, _+_, _-_, _*_, _≤_, _<_, min}
 use mathlib.Core.List.{List, []}
 use mathlib.Core.Bool.{cond}
 use mathlib.Core.Path.{_≡_}
 use lib.Dec.{ltb}
 use lib.ListN.{length, set}
+use Rattle.bits.specs.Bit.{digit}
 use Rattle.bits.specs.Sum.{sum}
+use Rattle.bits.specs.Window.{at, turned}
 use Rattle.inner_code.specs.Reply.{done}
 use Rattle.inner_code.specs.Code.{nearestWord, bitsChanged}
 use Rattle.inner_code.specs.Finding.{Finds}
 use Rattle.inner_code.specs.Sheet.{degree}
-use Rattle.wiring.specs.Plan.{Plan, Side}
+use Rattle.wiring.specs.Plan.{Plan, Side, edgeOf, edgeCount, left, right, sideOf}
 use Rattle.wiring.specs.Wiring.{planCheck}
 use Rattle.wiring.specs.Block.{vertexWord}
 use Rattle.wiring.specs.Checking.{Fitted, Permuted}
@@ -51,11 +58,24 @@ pub record SideSwept (side : Side) (before : List ℕ) (changed : ℕ) (after : 
   pub counted : changed ≡ changedBy side (side .n) before
   pub leaves : after ≡ sweep side before
 
+pub record BothSwept (plan : Plan) (before : List ℕ) (here there : ℕ) (after : List ℕ) : Type 0 where
+  pub between : List ℕ
+  pub left-swept : SideSwept (sideOf plan left) before here between
+  pub right-swept : SideSwept (sideOf plan right) between there after
+
 unfoldable pub noted : List ℕ → ℕ → ℕ → ℕ → List ℕ
 noted sums i H changed = cond (ltb i (min H 64)) (set sums i changed) sums
 
-pub record PassedOver (side : Side) (block : List ℕ) (from to : ℕ) : Type 0 where
-  pub after : from ≤ to
-  pub within : to ≤ side .n
-  pub stay : (v : ℕ) → from ≤ v → v < to → nearestOf side (vertexWord side block v) ≡ vertexWord side block v
-  pub stops : to < side .n → nearestOf side (vertexWord side block to) ≡ vertexWord side block to → ⊥
+unfoldable pub patternPut : (ℕ → ℕ) → ℕ → ℕ → ℕ → ℕ → List ℕ → List ℕ
+unfolding digit turned
+patternPut bit d base p zero block = block
+patternPut bit d base p (suc h) block = patternPut bit d base p h (turned block (bit (base + (d - 1 - h))) (digit p h))
+
+pub record WordsRead (side : Side) (block words : List ℕ) : Type 0 where
+  pub sized : length words ≡ 2048
+  pub room : side .n * side .d ≤ length block * 8
+  pub each : (v : ℕ) → v < side .n → at words v ≡ vertexWord side block v
+
+pub record PlacesNoted (plan : Plan) (places : List ℕ) : Type 0 where
+  pub sized : length places ≡ 32768
+  pub each : (i : ℕ) → i < edgeCount plan → at places (edgeOf (plan .wiring) i) ≡ i

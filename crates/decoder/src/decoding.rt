@@ -5,7 +5,9 @@ use inner_code::FINDER_WORDS;
 use inner_code::Refusal;
 use inner_code::refusal;
 use wiring::Checked;
+use wiring::Located;
 use wiring::SideCode;
+ghost use mathlib.Core.Bool.{true};
 ghost use mathlib.Core.List.{[]};
 ghost use mathlib.Core.Path.{_≡_};
 ghost use Prim.Native.Nat.{_≤_};
@@ -13,6 +15,7 @@ ghost use lib.ListN.{length, replicate};
 ghost use Rattle.bits.specs.Bit.{written};
 ghost use Rattle.inner_code.specs.Reply.{done, refused};
 ghost use Rattle.wiring.specs.Plan.{planOf};
+ghost use Rattle.wiring.specs.Access.{bothCodes, locatedBy};
 ghost use Rattle.wiring.specs.Checking.{codeOf};
 ghost use Rattle.wiring.specs.declared.side.SideName.{SideName};
 ghost use Rattle.decoder.specs.Visiting.{Ready};
@@ -20,6 +23,9 @@ ghost use Rattle.decoder.specs.Answer.{decodeCheck, decodeAnswer, decode
 
 // The most sweeps that a call may allow.
 const MAX_LIMIT: usize = 4096;
+
+// A block of so few bytes is first tested by the rows.
+const SMALL_BLOCK: usize = 32;
 
 // What the decoder answers: the sweeps after which the block settled, or the refusal.
 pub enum Decoded {
@@ -107,6 +113,13 @@ fn decode_checked(
     ensures { λ r. ⌜ r .sums ≡ decodeSums (planOf (now (left .entry)) (now (right .entry)) nl nr (now (wiring .entry))) (now (received .entry)) (now (output .entry)) limit ⌝ }
     ensures { λ _. ⌜ now (output .exit) ≡ decodeOutput (planOf (now (left .entry)) (now (right .entry)) nl nr (now (wiring .entry))) (now (received .entry)) (now (output .entry)) limit ⌝ }
 {
+    if is_small_codeword(left_code, right_code, wiring, received) {
+        copy_front(received, output);
+        return Decoding {
+            outcome: Decoded::Settled(0),
+            sums: [0; SUMS],
+        };
+    }
     let left_basis = left_code.basis;
     let mut left_finder = [0u16; FINDER_WORDS];
     inner_code::prepare_finder(left, left_code.k, &left_basis, &mut left_finder);
@@ -200,6 +213,21 @@ fn refuse(refusal: Refusal) -> Decoding
     Decoding {
         outcome: Decoded::Refused(refusal),
         sums: [0; SUMS],
+    }
+}
+
+// Whether a block of few bits is a codeword, by the rows of each side; of a longer block nothing is said. Setting up a finder costs more than
+// testing so few vertices by the rows.
+fn is_small_codeword(left: SideCode, right: SideCode, wiring: &[u8], block: &[u8]) -> bool
+    ensures { λ r. ⌜ (r ≡ true → locatedBy (bothCodes left right) (now (wiring .entry)) (now (block .entry)) ≡ []) ⌝ }
+{
+    if SMALL_BLOCK < block.len() {
+        return false;
+    }
+    match wiring::first_unsatisfied(left, right, wiring, block) {
+        Located::Nowhere => true,
+        Located::At { side: _, vertex: _ } => false,
+        Located::Refused(_) => false,
     }
 }
 

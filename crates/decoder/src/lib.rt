@@ -1,8 +1,10 @@
 // Sweeps: the decoder and the correction report.
 mod decoding;
+mod pattern;
 mod report;
 mod settle;
 mod sweep;
+mod words;
 
 pub use decoding::Decoded;
 pub use decoding::Decoding;

@@ -1,53 +1,34 @@
-// One sweep: every vertex of a side is visited in turn.
+// One sweep: every vertex of a side is visited in turn. A visit fetches the vertex's word once and gives it to the finder as a number, which
+// has neither block nor wiring. The words of the right side are fetched all at once, after the first left sweep, and kept: from then on a
+// bit that changes is turned in the block and in the word of the right vertex that reads it.
+use crate::pattern::put_pattern;
+use crate::pattern::put_pattern_told;
+use crate::words::left_word;
 use inner_code::FINDER_WORDS;
+use wiring::MAX_VERTICES;
 use wiring::SideName;
+ghost use mathlib.Core.Bool.{true};
+ghost use mathlib.Core.List.{[]};
 ghost use mathlib.Core.Path.{_≡_};
-ghost use Prim.Native.Nat.{_≤_};
 ghost use Rattle.inner_code.specs.Finding.{Finds};
+ghost use Rattle.inner_code.specs.Reply.{done};
 ghost use Rattle.wiring.specs.Plan.{planOf, sideBy, sideOf};
+ghost use Rattle.wiring.specs.declared.side.SideName.{SideName};
+ghost use Rattle.wiring.specs.Wiring.{planCheck};
 ghost use Rattle.decoder.specs.Sweep.{other};
-ghost use Rattle.decoder.specs.Visiting.{Ready, SideReady, SideSwept, PassedOver};
+ghost use Rattle.decoder.specs.Visiting.{Ready, SideReady, SideSwept, WordsRead, PlacesNoted};
 
-// Sweeps the named side of a checked plan. Its finder is the one of its side; where there is none for the right side, both sides have the
-// left sheet, and its finder serves both.
-pub(crate) fn sweep_named(
-    left: &[u8],
-    right: &[u8],
-    nl: usize,
-    nr: usize,
-    wiring: &[u8],
-    side: SideName,
-    left_finder: &mut [u16],
-    right_finder: &mut [u16],
-    block: &mut [u8],
-) -> usize
-    requires { ⌜ Ready (planOf (now left) (now right) nl nr (now wiring)) (now «left_finder») (now «right_finder») ⌝ }
-    ensures { λ r. ⌜ SideSwept (sideOf (planOf (now (left .entry)) (now (right .entry)) nl nr (now (wiring .entry))) side) (now (block .entry)) r (now (block .exit)) ⌝ }
-    ensures { λ _. ⌜ Ready (planOf (now (left .entry)) (now (right .entry)) nl nr (now (wiring .entry))) (now («left_finder» .exit)) (now («right_finder» .exit)) ⌝ }
-{
-    match side {
-        SideName::Left => sweep_side(left, nl, wiring, SideName::Left, left_finder, block),
-        SideName::Right => {
-            if right_finder.len() == 0 {
-                return sweep_side(right, nr, wiring, SideName::Right, left_finder, block);
-            }
-            sweep_side(right, nr, wiring, SideName::Right, right_finder, block)
-        }
-    }
-}
-
-// Puts the nearest word at every vertex of a side, which has this sheet and n vertices, and answers how many bits that changed: what the
-// steps tell, added up.
-fn sweep_side(
+// The first sweep of a left side, which has this sheet and n vertices: puts the nearest word at every vertex and answers how many bits that
+// changed, what the steps tell, added up. No word of a right vertex is kept yet.
+pub(crate) fn sweep_first(
     sheet: &[u8],
     n: usize,
     wiring: &[u8],
-    side: SideName,
     finder: &mut [u16],
     block: &mut [u8],
 ) -> usize
     requires { ⌜ SideReady (now sheet) n (now wiring) (now finder) ⌝ }
-    ensures { λ r. ⌜ SideSwept (sideBy (now (sheet .entry)) n (now (wiring .entry)) side) (now (block .entry)) r (now (block .exit)) ⌝ }
+    ensures { λ r. ⌜ SideSwept (sideBy (now (sheet .entry)) n (now (wiring .entry)) SideName.Left) (now (block .entry)) r (now (block .exit)) ⌝ }
     ensures { λ _. ⌜ Finds (now (sheet .entry)) (now (finder .exit)) ⌝ }
 {
     // a finder has this length: said once, so that the compiler drops the test of it at each visit
@@ -58,11 +39,12 @@ fn sweep_side(
     let mut changed = 0;
     let mut v = 0;
     while v < n {
-        v = pass_over(sheet, n, wiring, side, finder, block, v);
-        if v < n {
-            let word = wiring::read_word(side, wiring, d, block, v);
+        let word = left_word(wiring, block, v, d);
+        if inner_code::is_own_nearest(finder, word) {
+            v += 1;
+        } else {
             let step = inner_code::find_nearest(finder, word);
-            wiring::write_word(side, wiring, d, v, step.word, block);
+            put_pattern(SideName::Left, wiring, v * d, d, word ^ step.word, block);
             changed += step.changed as usize;
             v += 1;
         }
@@ -70,31 +52,133 @@ fn sweep_side(
     changed
 }
 
-// The first vertex of a side from `from` on whose word is not its own nearest one, n where there is none. Most vertices stay, and this loop
-// has nothing else to do.
-fn pass_over(
+// A sweep of a right side by the words that its vertices read: they are kept up with the block.
+fn sweep_words(
     sheet: &[u8],
     n: usize,
     wiring: &[u8],
-    side: SideName,
-    finder: &[u16],
-    block: &[u8],
-    from: usize,
+    finder: &mut [u16],
+    words: &mut [u16; MAX_VERTICES],
+    block: &mut [u8],
 ) -> usize
-    requires { ⌜ from ≤ n ⌝ }
     requires { ⌜ SideReady (now sheet) n (now wiring) (now finder) ⌝ }
-    ensures { λ r. ⌜ PassedOver (sideBy (now (sheet .entry)) n (now (wiring .entry)) side) (now (block .entry)) from r ⌝ }
+    requires { ⌜ WordsRead (sideBy (now sheet) n (now wiring) SideName.Right) (now block) (now words) ⌝ }
+    ensures { λ r. ⌜ SideSwept (sideBy (now (sheet .entry)) n (now (wiring .entry)) SideName.Right) (now (block .entry)) r (now (block .exit)) ⌝ }
+    ensures { λ _. ⌜ Finds (now (sheet .entry)) (now (finder .exit)) ⌝ }
+    ensures { λ _. ⌜ WordsRead (sideBy (now (sheet .entry)) n (now (wiring .entry)) SideName.Right) (now (block .exit)) (now (words .exit)) ⌝ }
+{
+    if finder.len() != FINDER_WORDS {
+        return 0;
+    }
+    let d = sheet[0] as usize;
+    let mut changed = 0;
+    let mut v = 0;
+    while v < n {
+        let word = words[v];
+        if inner_code::is_own_nearest(finder, word) {
+            v += 1;
+        } else {
+            let step = inner_code::find_nearest(finder, word);
+            words[v] = step.word;
+            put_pattern(SideName::Right, wiring, v * d, d, word ^ step.word, block);
+            changed += step.changed as usize;
+            v += 1;
+        }
+    }
+    changed
+}
+
+// A sweep of the right side of a checked plan, with its finder; where there is none for the right side, both sides have the left sheet, and
+// its finder serves both.
+pub(crate) fn sweep_right(
+    left: &[u8],
+    right: &[u8],
+    nl: usize,
+    nr: usize,
+    wiring: &[u8],
+    left_finder: &mut [u16],
+    right_finder: &mut [u16],
+    words: &mut [u16; MAX_VERTICES],
+    block: &mut [u8],
+) -> usize
+    requires { ⌜ Ready (planOf (now left) (now right) nl nr (now wiring)) (now «left_finder») (now «right_finder») ⌝ }
+    requires { ⌜ WordsRead (sideOf (planOf (now left) (now right) nl nr (now wiring)) SideName.Right) (now block) (now words) ⌝ }
+    ensures { λ r. ⌜ SideSwept (sideOf (planOf (now (left .entry)) (now (right .entry)) nl nr (now (wiring .entry))) SideName.Right) (now (block .entry)) r (now (block .exit)) ⌝ }
+    ensures { λ _. ⌜ Ready (planOf (now (left .entry)) (now (right .entry)) nl nr (now (wiring .entry))) (now («left_finder» .exit)) (now («right_finder» .exit)) ⌝ }
+    ensures { λ _. ⌜ WordsRead (sideOf (planOf (now (left .entry)) (now (right .entry)) nl nr (now (wiring .entry))) SideName.Right) (now (block .exit)) (now (words .exit)) ⌝ }
+{
+    if right_finder.len() == 0 {
+        return sweep_words(right, nr, wiring, left_finder, words, block);
+    }
+    sweep_words(right, nr, wiring, right_finder, words, block)
+}
+
+// A later sweep of the left side: what it changes is told to the words of the right vertices.
+pub(crate) fn sweep_left(
+    left: &[u8],
+    right: &[u8],
+    nl: usize,
+    nr: usize,
+    wiring: &[u8],
+    finder: &mut [u16],
+    places: &[u16],
+    words: &mut [u16; MAX_VERTICES],
+    block: &mut [u8],
+) -> usize
+    requires { ⌜ planCheck (planOf (now left) (now right) nl nr (now wiring)) ≡ done [] ⌝ }
+    requires { ⌜ Finds (now left) (now finder) ⌝ }
+    requires { ⌜ PlacesNoted (planOf (now left) (now right) nl nr (now wiring)) (now places) ⌝ }
+    requires { ⌜ WordsRead (sideOf (planOf (now left) (now right) nl nr (now wiring)) SideName.Right) (now block) (now words) ⌝ }
+    ensures { λ r. ⌜ SideSwept (sideOf (planOf (now (left .entry)) (now (right .entry)) nl nr (now (wiring .entry))) SideName.Left) (now (block .entry)) r (now (block .exit)) ⌝ }
+    ensures { λ _. ⌜ Finds (now (left .entry)) (now (finder .exit)) ⌝ }
+    ensures { λ _. ⌜ WordsRead (sideOf (planOf (now (left .entry)) (now (right .entry)) nl nr (now (wiring .entry))) SideName.Right) (now (block .exit)) (now (words .exit)) ⌝ }
+{
+    if finder.len() != FINDER_WORDS {
+        return 0;
+    }
+    let d = left[0] as usize;
+    let mut changed = 0;
+    let mut v = 0;
+    while v < nl {
+        let word = left_word(wiring, block, v, d);
+        if inner_code::is_own_nearest(finder, word) {
+            v += 1;
+        } else {
+            let step = inner_code::find_nearest(finder, word);
+            put_pattern_told(
+                left,
+                right,
+                nl,
+                nr,
+                wiring,
+                v,
+                word ^ step.word,
+                places,
+                words,
+                block,
+            );
+            changed += step.changed as usize;
+            v += 1;
+        }
+    }
+    changed
+}
+
+// Whether every word of a left side is its own nearest one: a sweep of it would change nothing.
+pub(crate) fn all_stay(sheet: &[u8], n: usize, wiring: &[u8], finder: &[u16], block: &[u8]) -> bool
+    requires { ⌜ SideReady (now sheet) n (now wiring) (now finder) ⌝ }
+    ensures { λ r. ⌜ (r ≡ true → SideSwept (sideBy (now (sheet .entry)) n (now (wiring .entry)) SideName.Left) (now (block .entry)) 0 (now (block .entry))) ⌝ }
 {
     let d = sheet[0] as usize;
-    let mut v = from;
+    let mut v = 0;
     while v < n {
-        let word = wiring::read_word(side, wiring, d, block, v);
+        let word = left_word(wiring, block, v, d);
         if !inner_code::is_own_nearest(finder, word) {
-            return v;
+            return false;
         }
         v += 1;
     }
-    v
+    true
 }
 
 // The other side.

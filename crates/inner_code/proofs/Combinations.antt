@@ -8,10 +8,10 @@ use Prim.Native.Nat.{ℕ, zero, suc, _+_, _*_, _^_, _<_}
 use native.Mathlib.Nat.{le-step, lt-suc-self, zero-mul, one-mul, pow-suc, ne-of-lt}
 use native.Mathlib.Omega.{arith}
 use borrow.Author.Tests.{eq-eqb, eqb-true}
-use lib.Bits.{bitXor, xor-zero-r, xor-lt, xor-self, xor-shifted}
+use lib.Bits.{bitXor, xor-zero-r, xor-lt, xor-self}
 use lib.Pow.{pow-pos}
 use Rattle.bits.specs.Bit.{digit}
-use Rattle.bits.proofs.Xor.{xor-swap, xor-digit, digit-lt, digit-zero, digit-high, digit-pow-same, digit-pow-other}
+use Rattle.bits.proofs.Xor.{xor-swap, xor-digit, digit-lt, digit-zero, digit-high, digit-upper, digit-pow-same, digit-pow-other}
 use Rattle.inner_code.specs.Code.{combination, isCodeword}
 use Rattle.bits.proofs.Searches.{some-below, some-found}
 
@@ -64,19 +64,14 @@ combination-lower row k m h =
     ap (λ (x : ℕ). bitXor (combination row k m) x) (ap (λ (x : ℕ). x * row k) (digit-high k m k h (omega arith)) ∙ zero-mul (row k))
     ∙ xor-zero-r _
 
--- 2^k + m has the digits of m below k, and a 1 at k
-upper-digit : (k m i : ℕ) → m < 2 ^ k → digit (2 ^ k + m) i ≡ bitXor (digit (1 * 2 ^ k) i) (digit m i)
-upper-digit k m i h =
-    ap (λ (x : ℕ). digit x i) (ap (λ (x : ℕ). x + m) (sym (one-mul (2 ^ k))) ∙ sym (xor-shifted 1 k m h)) ∙ xor-digit (1 * 2 ^ k) m i
-
 pub combination-upper : (row : ℕ → ℕ) (k m : ℕ) → m < 2 ^ k → combination row (suc k) (2 ^ k + m) ≡ bitXor (combination row k m) (row k)
 unfolding combination
 combination-upper row k m h =
     ap₂ bitXor
     (combination-digits row k (2 ^ k + m) m
-    (λ i l. upper-digit k m i h ∙ ap (λ (x : ℕ). bitXor x (digit m i)) (digit-pow-other 1 k i (omega arith) (ne-of-lt l))))
+    (λ i l. digit-upper k m i h ∙ ap (λ (x : ℕ). bitXor x (digit m i)) (digit-pow-other 1 k i (omega arith) (ne-of-lt l))))
     (ap (λ (x : ℕ). x * row k)
-    (upper-digit k m k h ∙ ap₂ bitXor (digit-pow-same 1 k (omega arith)) (digit-high k m k h (omega arith)))
+    (digit-upper k m k h ∙ ap₂ bitXor (digit-pow-same 1 k (omega arith)) (digit-high k m k h (omega arith)))
     ∙ one-mul (row k))
 
 -- ---- the test

@@ -10,22 +10,25 @@ use mathlib.Core.List.{List}
 use Prim.Native.Nat.{ℕ, zero, suc, _+_, _*_, _/_, _%_, _^_, _≤_, _<_, min}
 use native.Mathlib.Nat.{min-eq-left, min-eq-right, min-le-left, min-le-right, min-zero, zero-min, zero-mul, one-mul, div-eq-of-lt-le, pow-suc}
 use native.Mathlib.Nat.{eq-zero-or-pos, le-suc-iff, suc-inj, not-suc-le-zero, le-step, le-of-lt, lt-suc-self, le-refl, ne-of-lt}
+use native.Mathlib.Nat.{le-dest, mul-comm}
+use native.Mathlib.Decide.{decLt}
 use native.Mathlib.Numerals.{add-one}
 use native.Mathlib.Omega.{arith}
 use borrow.Author.Tests.{eq-eqb, ne-eqb}
 use lib.Dec.{eqb}
 use lib.ListN.{length, getD, set, length-set}
 use lib.Seq.{getD-set-same, getD-set-other}
-use lib.Bits.{bitXor, xor-self, xor-zero-r, xor-shr}
+use lib.Bits.{bitXor, xor-self, xor-comm, xor-zero-r, xor-shr, xor-shifted}
 use lib.Count.{leading-top}
-use lib.Pow.{pow-pos, shr-mono}
+use lib.Pow.{pow-pos, pow-add, shr-mono}
 use Rattle.bits.specs.Window.{at}
 use Rattle.bits.specs.Bit.{digit}
-use Rattle.bits.proofs.Xor.{xor-assoc, xor-cancel, xor-swap, xor-half, xor-parity, xor-digit, digit-lt}
+use Rattle.bits.proofs.Xor.{xor-assoc, xor-cancel, xor-swap, xor-half, xor-parity, xor-pow, xor-digit, digit-lt}
 use Rattle.inner_code.specs.Code.{combination, isCodeword}
 use Rattle.inner_code.specs.Reduction.{reduceBy, reduced, echelon, reducedBy, withEchelon}
 use Rattle.bits.proofs.Searches.{min-either}
-use Rattle.inner_code.proofs.Combinations.{digit-times, codeword-zero, codeword-xor, codeword-more, codeword-last-row, codeword-found}
+use Rattle.inner_code.proofs.Combinations.{digit-times, combination-none, combination-lower, combination-upper}
+use Rattle.inner_code.proofs.Combinations.{codeword-zero, codeword-xor, codeword-more, codeword-last-row, codeword-found}
 
 -- ---- one step
 
@@ -129,6 +132,37 @@ reduced-combination row k (suc j) m h =
     times (suc zero) l = ap (reduced row k) (one-mul (row j)) ∙ reduced-row row k j h
     times (suc (suc t)) l = absurd (omega arith)
 
+-- what is left of the powers of 2 combines to what is left of any number
+pub reduced-powers : (row : ℕ → ℕ) (k from : ℕ) (left : ℕ → ℕ) → ((b : ℕ) → left b ≡ reduced row k (2 ^ (from + b))) → (n m : ℕ) → m < 2 ^ n
+    → combination left n m ≡ reduced row k (m * 2 ^ from)
+reduced-powers row k from left is zero m h =
+    let none : m ≡ 0 = omega arith in
+    rw none (combination-none left 0 ∙ sym (ap (reduced row k) (zero-mul (2 ^ from)) ∙ reduced-zero row k))
+reduced-powers row k from left is (suc n) m h =
+    elim (decLt m (2 ^ n)) [
+      | yes low ↦ combination-lower left n m low ∙ reduced-powers row k from left is n m low
+      | no high ↦ upper (reduced-powers row k from left is n) (le-dest (omega arith))
+    ]
+  where
+    upper : ((j : ℕ) → j < 2 ^ n → combination left n j ≡ reduced row k (j * 2 ^ from)) → (j : ℕ) × (2 ^ n + j ≡ m)
+        → combination left (suc n) m ≡ reduced row k (m * 2 ^ from)
+    upper before (j, e) =
+        let j-lt : j < 2 ^ n = omega (arith, pow-suc 2 n, e, h) in
+        let joined : bitXor (j * 2 ^ from) (2 ^ (from + n)) ≡ (2 ^ n + j) * 2 ^ from =
+        ap (bitXor (j * 2 ^ from)) (pow-add 2 from n ∙ mul-comm (2 ^ from) (2 ^ n)) ∙ xor-pow j (2 ^ n) from
+        ∙ ap (λ (x : ℕ). x * 2 ^ from)
+        (xor-comm j (2 ^ n) ∙ ap (λ (x : ℕ). bitXor x j) (sym (one-mul (2 ^ n))) ∙ xor-shifted 1 n j j-lt
+        ∙ ap (λ (x : ℕ). x + j) (one-mul (2 ^ n))) in
+        rw (← e) (combination-upper left n j j-lt ∙ ap₂ bitXor (before j j-lt) (is n)
+        ∙ sym (reduced-xor row k (j * 2 ^ from) (2 ^ (from + n))) ∙ ap (reduced row k) joined)
+
+-- of a word they leave the exclusive-or of what they leave of its halves
+pub reduced-halves : (row : ℕ → ℕ) (k w : ℕ)
+    → bitXor (reduced row k (w % 256 * 2 ^ 0)) (reduced row k (w / 256 * 2 ^ 8)) ≡ reduced row k w
+reduced-halves row k w =
+    sym (reduced-xor row k (w % 256 * 2 ^ 0) (w / 256 * 2 ^ 8))
+    ∙ ap (reduced row k) (xor-comm (w % 256 * 2 ^ 0) (w / 256 * 2 ^ 8) ∙ xor-shifted (w / 256) 8 (w % 256 * 2 ^ 0) (omega arith) ∙ omega arith)
+
 -- the last step takes off a codeword, or nothing
 last-step : (row : ℕ → ℕ) (k w : ℕ) → isCodeword row k (bitXor w (reduced row k w)) ≡ true → isCodeword row k (bitXor (row k) (echelon row k)) ≡ true
     → isCodeword row (suc k) (bitXor w (reduceBy (echelon row k) (reduced row k w))) ≡ true
@@ -182,7 +216,7 @@ codeword-test row k w = go (isCodeword row k w) refl
 
 -- ---- the rows as the code keeps them
 
-pub reducedBy-echelon : (basis row : ℕ → ℕ) (n w : ℕ) → ((i : ℕ) → i < n → basis i ≡ echelon row i) → reducedBy basis n w ≡ reduced row n w
+reducedBy-echelon : (basis row : ℕ → ℕ) (n w : ℕ) → ((i : ℕ) → i < n → basis i ≡ echelon row i) → reducedBy basis n w ≡ reduced row n w
 unfolding reducedBy reduced echelon
 reducedBy-echelon basis row zero w h = refl
 reducedBy-echelon basis row (suc n) w h = ap₂ reduceBy (h n (lt-suc-self n)) (reducedBy-echelon basis row n w (λ i l. h i (le-step l)))
@@ -197,12 +231,12 @@ pub reducedBy-kept : (basis : ℕ → ℕ) (n w left : ℕ) → left ≡ reduced
 unfolding reducedBy reduceBy
 reducedBy-kept basis n w left e h = rw (add-one, ← e) (sym (min-eq-left h))
 
-pub length-withEchelon : (row : ℕ → ℕ) (n : ℕ) (l : List ℕ) → length (withEchelon row n l) ≡ length l
+length-withEchelon : (row : ℕ → ℕ) (n : ℕ) (l : List ℕ) → length (withEchelon row n l) ≡ length l
 unfolding withEchelon
 length-withEchelon row zero l = refl
 length-withEchelon row (suc n) l = length-set (withEchelon row n l) n (echelon row n) ∙ length-withEchelon row n l
 
-pub withEchelon-at : (row : ℕ → ℕ) (n : ℕ) (l : List ℕ) (i : ℕ) → i < n → n ≤ length l → getD (withEchelon row n l) i 0 ≡ echelon row i
+withEchelon-at : (row : ℕ → ℕ) (n : ℕ) (l : List ℕ) (i : ℕ) → i < n → n ≤ length l → getD (withEchelon row n l) i 0 ≡ echelon row i
 unfolding withEchelon
 withEchelon-at row zero l i h f = absurd (not-suc-le-zero h)
 withEchelon-at row (suc n) l i h f =

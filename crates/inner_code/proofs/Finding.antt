@@ -1,83 +1,55 @@
 -- The finder of nearest words: what its parts hold, how they come to stand there, and that the word found is the nearest word.
 --   Placed start part before after   `after` is `before` with `part` in it from `start` on (specs Finding)
 --   Finds sheet finder               the finder finds the sheet's nearest words (specs Finding)
---   Prepared, leftIn, ownNearest, searchedIn, foundWord, foundFinder   what the code answers and leaves (specs Finding)
+--   Filled, Prepared, leftIn, ownNearest, singleIn, searchedIn, soughtIn, foundWord, foundFinder
+--                                    what the code answers and leaves (specs Finding)
+--   otherLeft finder left b          the test whether the rows leave something else of 2^b
+--   Single finder left r             r is the smallest pattern of a single one of which the rows leave `left`
+--   Sought finder left w             what is answered and left for w where no leader is at hand
+--   Tabulates row n table            the table's first 2^n numbers are the combinations of n rows
 --   OwnNearest finder w r            r tells whether w is its own nearest word
 --   Leads before w x after           x is the nearest word of w, and what finds before finds after
 --   Found before w r after           r is the step to the nearest word of w, and what finds before finds after
--- Laws are named by their subject, then by the fact: `placed-` is about a part put into a list, as many turns as have been made (-none,
--- -one-more, -all) or lent and back (-back), `house-` about the house code's sheet, `table-` about the word in the table, `left-` about what
--- the rows leave of a word, `search-` about the nearest of the listed codewords, `leader-` about the leaders kept, `own-` and `found-` about
--- what the code answers by the case that it takes (-none: the list is no finder), and what it means (-means), and `finds-` and `prepared-`
--- lead to a Finds.
-use Prim.Native.Nat.{ℕ, _+_, _*_, _%_, _^_, _≤_, _<_, min}
-use mathlib.Core.Bool.{Bool, true, false}
+-- Laws are named by their subject, then by the fact: `placed-` is about a part put into a list, `single-` about the patterns of a single one
+-- (-met: one is found, -none: all are tried in vain, -few: none is tried), `search-` about the nearest of the listed codewords, `sought-`
+-- about the word sought, `left-` about what the rows leave of a word, `leader-` about the leaders kept, `own-` and `found-` about what the
+-- code answers by the case that it takes (-none: the list is no finder), and what it means (-means), and `tabulates-`, `filled-` and
+-- `prepared-` lead to a Finds.
+use Prim.Native.Nat.{ℕ, _+_, _-_, _*_, _/_, _%_, _^_, _≤_, _<_, min}
+use mathlib.Core.Bool.{Bool, true, false, not, true≢false}
 use mathlib.Core.List.{List, [], _++_}
-use mathlib.Core.Logic.{⊎-elim}
-use mathlib.Core.Path.{_≡_, refl, sym, ap, _∙_}
-use native.Mathlib.Nat.{le-dest, min-eq-left}
-use native.Mathlib.Decide.{ℕ-discrete}
+use mathlib.Core.Path.{_≡_, refl, sym, ap, ap₂, _∙_, subst}
+use native.Mathlib.Nat.{le-dest, min-eq-left, one-mul, mod-eq-of-lt}
+use native.Mathlib.Decide.{ℕ-discrete, decLt}
 use native.Mathlib.Omega.{arith}
-use borrow.Author.Tests.{eqb-true, eqb-false, eq-eqb, ne-eqb, le-leb, lt-leb}
+use borrow.Author.Tests.{eqb-true, eqb-false, eq-eqb, ne-eqb, le-leb, lt-leb, lt-ltb, le-ltb, not-false}
 use lib.Bits.{bitXor}
 use lib.Count.{ones}
 use lib.Dec.{eqb}
 use lib.ListN.{length, getD, set, take, drop, replicate, length-set, length-append, length-drop, length-replicate, getD-replicate, List·getD-append}
-use lib.Pow.{pow-mono}
-use lib.Seq.{ext-getD, getD-append-add, take-all, length-take-le, getD-take, getD-drop, getD-set-same, getD-set-other}
+use lib.Pow.{pow-mono, pow-pos, pow-lt, shr-lt}
+use lib.Seq.{getD-append-add, length-take-le, getD-take, getD-drop, getD-set-same, getD-set-other}
+use Rattle.bits.specs.Search.{firstFailing}
 use Rattle.bits.specs.Window.{at}
+use Rattle.bits.proofs.Searches.{first-passed, first-failed, first-at, first-all}
 use Rattle.bits.proofs.Xor.{xor-cancel}
 use Rattle.inner_code.specs.Reply.{done}
 use Rattle.inner_code.specs.Code.{combination, isCodeword, nearestPattern, nearestWord, bitsChanged}
-use Rattle.inner_code.specs.Reduction.{reduced, reducedBy, echelon, withEchelon, searched, stepTo, Lists}
+use Rattle.inner_code.specs.Reduction.{reduced, reducedBy, withEchelon, searched, stepTo, listed, Lists}
 use Rattle.inner_code.specs.declared.nearest.Step.{Step}
 use Rattle.inner_code.specs.Sheet.{degree, rowCount, rowOf, sheetCheck}
-use Rattle.inner_code.specs.House.{houseSheet, HouseTable}
-use Rattle.inner_code.specs.Finding.{isFinder, kindIn, rowsIn, listedIn, basisIn, tableIn, nameIn, leaderIn, wordIn, Finds, Placed}
-use Rattle.inner_code.specs.Finding.{ByTable, ByCodewords, Prepared, leftIn, ownNearest, searchedIn, foundWord, foundFinder}
-use Rattle.inner_code.proofs.NearestWord.{searched-ext, nearest-codeword, nearest-fixed, nearest-searched}
+use Rattle.inner_code.specs.Finding.{isFinder, listedIn, digitsIn, leaderIn, wordIn, leftIn, Leader, Finds, Placed}
+use Rattle.inner_code.specs.Finding.{powerLeft, Filled, Prepared, ownNearest, slotOf, firstSingle, singleIn, searchedIn, soughtIn}
+use Rattle.inner_code.specs.Finding.{foundWord, foundFinder}
+use Rattle.inner_code.proofs.NearestWord.{searched-ext, nearest-codeword, nearest-fixed, nearest-searched, nearest-pattern-lt}
 use Rattle.inner_code.proofs.NearestWord.{step-word, step-changed, changed-ones}
-use Rattle.inner_code.proofs.EchelonForm.{codeword-reduced, reduced-codeword, reducedBy-echelon, length-withEchelon, withEchelon-at}
-use Rattle.inner_code.proofs.Cosets.{coset-pattern, coset-lt}
-use Rattle.inner_code.proofs.Listings.{lists-fits, lists-word}
+use Rattle.inner_code.proofs.EchelonForm.{codeword-reduced, reduced-codeword, reduced-powers, reduced-halves, reducedBy-stored}
+use Rattle.inner_code.proofs.Cosets.{coset-pattern, leader-own, leader-zero, leader-single}
+use Rattle.inner_code.proofs.Listings.{length-listed, listed-word, lists-fits, lists-word}
 use Rattle.inner_code.proofs.SheetChecks.{Sound, sound}
 
--- ---- a part put into a list, one number a turn
+-- ---- a part put into a list: one that was lent as a slice of its own and comes back
 
-pub placed-none : (start : ℕ) (part l : List ℕ) → Placed start (take 0 part) l l
-placed-none start part l = record { sized = refl; inside = λ i h. absurd (omega arith); ahead = λ i h. refl; behind = λ i h. refl }
-
-pub placed-one-more : (start : ℕ) (part : List ℕ) {before after : List ℕ} (i : ℕ) → i < length part → start + i < length before
-    → Placed start (take i part) before after → Placed start (take (i + 1) part) before (set after (start + i) (getD part i 0))
-placed-one-more start part {before} {after} i h room p =
-    record {
-      sized = length-set after (start + i) _ ∙ p .sized;
-      inside = inside;
-      ahead = λ j l. getD-set-other after (start + i) j _ 0 (λ e. omega arith) ∙ p .ahead j l;
-      behind = λ j l. getD-set-other after (start + i) j _ 0 (λ e. omega (arith, more)) ∙ p .behind j (omega (arith, so-far, more));
-    }
-  where
-    so-far : length (take i part) ≡ i
-    so-far = length-take-le i part (omega arith)
-
-    more : length (take (i + 1) part) ≡ i + 1
-    more = length-take-le (i + 1) part (omega arith)
-
-    inside : (j : ℕ) → j < length (take (i + 1) part) → getD (set after (start + i) (getD part i 0)) (start + j) 0 ≡ getD (take (i + 1) part) j 0
-    inside j l =
-        elim (ℕ-discrete j i) [
-          | yes here ↦
-              rw here (getD-set-same after (start + i) _ 0 (omega (arith, p .sized)) ∙ sym (getD-take (i + 1) part i 0 (omega arith)))
-          | no other ↦
-              getD-set-other after (start + i) (start + j) _ 0 (λ e. other (omega arith)) ∙ p .inside j (omega (arith, so-far, more))
-              ∙ getD-take i part j 0 (omega (arith, more)) ∙ sym (getD-take (i + 1) part j 0 (omega (arith, more)))
-        ]
-
-pub placed-all : (start : ℕ) (part : List ℕ) {before after : List ℕ} (i : ℕ) → i ≡ length part → Placed start (take i part) before after
-    → Placed start part before after
-placed-all start part i e p = rw (take-all i part (omega arith)) at p
-
--- the same for a part that was lent as a slice of its own and comes back
 pub placed-back : (start k : ℕ) (part before : List ℕ) → start + k ≤ length before → length part ≡ k
     → Placed start part before (take start before ++ (part ++ drop k (drop start before)))
 placed-back start k part before room size = record { sized = sized; inside = inside; ahead = ahead; behind = behind }
@@ -108,35 +80,77 @@ placed-back start k part before room size = record { sized = sized; inside = ins
         ∙ getD-append-add part rest t 0 ∙ getD-drop k (drop start before) t 0 ∙ getD-drop start before (k + t) 0
         ∙ ap (λ (j : ℕ). getD before j 0) (sym near)
 
--- ---- the house code's sheet
+-- ---- the patterns of a single one
 
-pub length-house : length houseSheet ≡ 10
-unfolding houseSheet
-length-house = refl
+-- a shifted 1 that fits is a power of 2
+pub shifted-one : (b width : ℕ) → b < width → (1 * 2 ^ b) % 2 ^ width ≡ 2 ^ b
+shifted-one b width b-lt = ap (λ (x : ℕ). x % 2 ^ width) (one-mul (2 ^ b)) ∙ mod-eq-of-lt (pow-lt b-lt)
 
--- its d is 8, so a word has 8 digits, and its k 4
-house-degree : (w : ℕ) → w < 2 ^ degree houseSheet → w < 256
-unfolding degree houseSheet
-house-degree w h = h
+-- whether the rows leave something else of 2^b
+abbrev otherLeft : List ℕ → ℕ → ℕ → Bool
+otherLeft finder left b = not (eqb (leftIn finder (2 ^ b)) left)
 
-house-nearest : (w : ℕ) → nearestWord (rowOf houseSheet) 4 8 w ≡ nearestWord (rowOf houseSheet) (rowCount houseSheet) (degree houseSheet) w
-unfolding degree rowCount houseSheet
-house-nearest w = refl
+other-true : (finder : List ℕ) (left b : ℕ) → (leftIn finder (2 ^ b) ≡ left → ⊥) → otherLeft finder left b ≡ true
+other-true finder left b other = ap not (ne-eqb (leftIn finder (2 ^ b)) left other)
 
-pub house-sheet : (sheet house : List ℕ) → house ≡ houseSheet → length sheet ≡ 10 → ((i : ℕ) → i < 10 → getD sheet i 0 ≡ getD house i 0)
-    → sheet ≡ houseSheet
-house-sheet sheet house e size same =
-    ext-getD 0 sheet houseSheet (size ∙ sym length-house) (λ i l. same i (omega (arith, length-house)) ∙ ap (λ (s : List ℕ). getD s i 0) e)
+other-false : (finder : List ℕ) (left b : ℕ) → leftIn finder (2 ^ b) ≡ left → otherLeft finder left b ≡ false
+other-false finder left b same = ap not (eq-eqb (leftIn finder (2 ^ b)) left same)
+
+module _ (finder : List ℕ) (left : ℕ) where
+  pub single-few : listedIn finder ≤ 64 → singleIn finder left ≡ 0
+  unfolding singleIn
+  single-few few = rw (le-leb _ _ few)
+
+  module _ (many : 64 < listedIn finder) where
+    -- the first that the rows leave the same of
+    pub single-met : (b : ℕ) → b < digitsIn finder → ((a : ℕ) → a < b → leftIn finder (2 ^ a) ≡ left → ⊥) → leftIn finder (2 ^ b) ≡ left
+        → singleIn finder left ≡ 2 ^ b
+    unfolding singleIn firstSingle
+    single-met b b-lt first same =
+        let met = first-at (digitsIn finder) (otherLeft finder left) b b-lt (λ a l. other-true finder left a (first a l))
+        (other-false finder left b same) in
+        rw (lt-leb _ _ many, met, lt-ltb _ _ b-lt)
+
+    -- all tried, and none met
+    pub single-none : ((a : ℕ) → a < digitsIn finder → leftIn finder (2 ^ a) ≡ left → ⊥) → singleIn finder left ≡ 0
+    unfolding singleIn firstSingle
+    single-none none =
+        let last = first-all (digitsIn finder) (otherLeft finder left) (λ a l. other-true finder left a (none a l)) in
+        rw (lt-leb _ _ many, last, le-ltb (digitsIn finder) (digitsIn finder) (omega arith))
+
+-- r is the smallest pattern of a single one of which the rows leave this
+record Single (finder : List ℕ) (left r : ℕ) : Type 0 where
+  digit : ℕ
+  is : r ≡ 2 ^ digit
+  digit-lt : digit < digitsIn finder
+  same : leftIn finder (2 ^ digit) ≡ left
+  first : (a : ℕ) → a < digit → leftIn finder (2 ^ a) ≡ left → ⊥
+
+single-is : (finder : List ℕ) (left : ℕ) → (singleIn finder left ≡ 0 → ⊥) → Single finder left (singleIn finder left)
+single-is finder left some =
+    elim (decLt 64 (listedIn finder)) [
+      | yes many ↦
+          let b = firstFailing (digitsIn finder) (otherLeft finder left) in
+          let first : (a : ℕ) → a < b → leftIn finder (2 ^ a) ≡ left → ⊥ =
+          λ a l e. true≢false (sym (first-passed (digitsIn finder) (otherLeft finder left) a l) ∙ other-false finder left a e) in
+          elim (decLt b (digitsIn finder)) [
+            | yes b-lt ↦
+                let same = eqb-true _ _ (not-false _ (first-failed (digitsIn finder) (otherLeft finder left) b-lt)) in
+                record { digit = b; is = single-met finder left many b b-lt first same; digit-lt = b-lt; same = same; first = first }
+            | no past ↦ absurd (some (single-none finder left many (λ a l. first a (omega arith))))
+          ]
+      | no few ↦ absurd (some (single-few finder left (omega arith)))
+    ]
 
 -- ---- the listed codewords as a part that is lent on
 
-pub search-part : (finder : List ℕ) (count n w : ℕ) → n ≡ count → 1312 + count ≤ length finder
-    → searched (at (take n (drop 1312 finder))) (length (take n (drop 1312 finder))) w ≡ searched (wordIn finder) count w
+pub search-part : (finder : List ℕ) (count n w : ℕ) → n ≡ count → 2592 + count ≤ length finder
+    → searched (at (take n (drop 2592 finder))) (length (take n (drop 2592 finder))) w ≡ searched (wordIn finder) count w
 unfolding at wordIn
 search-part finder count n w e room =
-    let size : length (take n (drop 1312 finder)) ≡ count = length-take-le n (drop 1312 finder) (omega (arith, length-drop 1312 finder)) ∙ e in
-    rw size (searched-ext (at (take n (drop 1312 finder))) (wordIn finder) count w
-    (λ m h. getD-take n (drop 1312 finder) m 0 (omega arith) ∙ getD-drop 1312 finder m 0))
+    let size : length (take n (drop 2592 finder)) ≡ count = length-take-le n (drop 2592 finder) (omega (arith, length-drop 2592 finder)) ∙ e in
+    rw size (searched-ext (at (take n (drop 2592 finder))) (wordIn finder) count w
+    (λ m h. getD-take n (drop 2592 finder) m 0 (omega arith) ∙ getD-drop 2592 finder m 0))
 
 -- the codewords are searched where no more are told than fit
 pub search-few : (finder : List ℕ) (w : ℕ) → listedIn finder ≤ 2048 → searchedIn finder w ≡ searched (wordIn finder) (listedIn finder) w
@@ -147,117 +161,121 @@ pub search-many : (finder : List ℕ) (w : ℕ) → 2048 < listedIn finder → s
 unfolding searchedIn
 search-many finder w many = rw (lt-leb _ _ many)
 
+-- ---- the word sought
+
+pub sought-searched : (finder : List ℕ) (left w : ℕ) → singleIn finder left ≡ 0 → soughtIn finder left w ≡ searchedIn finder w
+unfolding soughtIn
+sought-searched finder left w none = rw (eq-eqb _ _ none)
+
+pub sought-single : (finder : List ℕ) (left w : ℕ) → (singleIn finder left ≡ 0 → ⊥) → soughtIn finder left w ≡ bitXor w (singleIn finder left)
+unfolding soughtIn
+sought-single finder left w some = rw (ne-eqb _ _ some)
+
 -- ---- the word found
 
-module _ {sheet finder : List ℕ} (f : Finds sheet finder) (w : ℕ) (w-lt : w < 2 ^ degree sheet) (kind : kindIn finder ≡ 1) where
-  table-nearest : tableIn finder (w % 256) ≡ nearestWord (rowOf sheet) (rowCount sheet) (degree sheet) w
-  table-nearest =
-      let small : w < 256 = f .tabled kind .words-lt w w-lt in
-      let itself : w % 256 ≡ w = omega arith in
-      rw itself (f .tabled kind .table w w-lt)
-
-module _ {sheet finder : List ℕ} (f : Finds sheet finder) (kind : kindIn finder ≡ 1 → ⊥) where
+module _ {sheet finder : List ℕ} (f : Finds sheet finder) where
   is-sound : Sound sheet
   is-sound = sound sheet [] (f .accepted)
 
-  left-reduced : (w : ℕ) → leftIn finder w ≡ reduced (rowOf sheet) (rowCount sheet) w
-  left-reduced w =
-      ap (λ (m : ℕ). reducedBy (basisIn finder) m w)
-      (ap (λ (m : ℕ). min m 11) (f .searching kind .rows) ∙ min-eq-left (is-sound .count-high))
-      ∙ reducedBy-echelon (basisIn finder) (rowOf sheet) (rowCount sheet) w (f .searching kind .basis)
-
   search-sized : listedIn finder ≤ 2048
-  search-sized = omega (arith, f .searching kind .listed, pow-mono {j = 11} (is-sound .count-high))
+  search-sized = omega (arith, f .listed, pow-mono {j = 11} (is-sound .count-high))
 
-  module _ (w : ℕ) where
+  module _ (w : ℕ) (w-lt : w < 2 ^ degree sheet) where
     -- nothing is left of a codeword, which is its own nearest word
     left-none : leftIn finder w ≡ 0 → nearestWord (rowOf sheet) (rowCount sheet) (degree sheet) w ≡ w
     left-none e =
         nearest-fixed (rowOf sheet) (rowCount sheet) (degree sheet) (is-sound .degree-high) (is-sound .rows-lt) w
-        (reduced-codeword (rowOf sheet) (rowCount sheet) w (sym (left-reduced w) ∙ e))
+        (reduced-codeword (rowOf sheet) (rowCount sheet) w (sym (f .left w w-lt) ∙ e))
 
-    left-some : w < 2 ^ degree sheet → (leftIn finder w ≡ 0 → ⊥)
-        → nearestWord (rowOf sheet) (rowCount sheet) (degree sheet) w ≡ w → ⊥
-    left-some w-lt e same =
+    left-some : (leftIn finder w ≡ 0 → ⊥) → nearestWord (rowOf sheet) (rowCount sheet) (degree sheet) w ≡ w → ⊥
+    left-some e same =
         let codeword : isCodeword (rowOf sheet) (rowCount sheet) w ≡ true =
         rw same at (nearest-codeword (rowOf sheet) (rowCount sheet) (degree sheet) (is-sound .degree-high) (is-sound .rows-lt) w w-lt) in
-        e (left-reduced w ∙ codeword-reduced (rowOf sheet) (rowCount sheet) w codeword)
+        e (f .left w w-lt ∙ codeword-reduced (rowOf sheet) (rowCount sheet) w codeword)
 
-    search-nearest : w < 2 ^ degree sheet → searched (wordIn finder) (listedIn finder) w ≡ nearestWord (rowOf sheet) (rowCount sheet) (degree sheet) w
-    search-nearest w-lt =
-        ap (λ (n : ℕ). searched (wordIn finder) n w) (f .searching kind .listed)
-        ∙ nearest-searched (rowOf sheet) (rowCount sheet) (degree sheet) (is-sound .degree-high) (is-sound .rows-lt)
-        (wordIn finder) (f .searching kind .words) w w-lt
-
-    -- the leader kept for what is left of a word leads to its nearest word
-    leader-met : w < 2 ^ degree sheet → (s left : ℕ) → s < 512 → left ≡ leftIn finder w → (left ≡ 0 → ⊥)
-        → nameIn finder s ≡ left → bitXor w (leaderIn finder s) ≡ nearestWord (rowOf sheet) (rowCount sheet) (degree sheet) w
+    -- the leader kept that the rows leave the same of leads to the nearest word
+    leader-met : (s : ℕ) → s < 2048 → leftIn finder (leaderIn finder s) ≡ leftIn finder w
+        → bitXor w (leaderIn finder s) ≡ nearestWord (rowOf sheet) (rowCount sheet) (degree sheet) w
     unfolding nearestWord
-    leader-met w-lt s left s-lt is some met =
-        ap (bitXor w) (f .searching kind .leaders s w s-lt w-lt (λ e. some (sym met ∙ e)) (met ∙ is ∙ left-reduced w))
+    leader-met s s-lt same =
+        let leader-lt = f .leaders s s-lt .below in
+        ap (bitXor w) (sym (f .leaders s s-lt .own)
+        ∙ coset-pattern (rowOf sheet) (rowCount sheet) (degree sheet) (is-sound .degree-high) (is-sound .rows-lt) (leaderIn finder s) w leader-lt w-lt
+        (sym (f .left (leaderIn finder s) leader-lt) ∙ same ∙ f .left w w-lt))
 
-    -- one more leader, in the slot that its coset's name gives
-    leader-more : (s left nearest : ℕ) → s < 512 → left ≡ leftIn finder w
-        → nearest ≡ searched (wordIn finder) (listedIn finder) w
-        → Finds sheet (set (set finder (288 + 2 * s) left) (288 + 2 * s + 1) (bitXor w nearest))
-    unfolding nearestWord basisIn wordIn
-    leader-more s left nearest s-lt is found =
+    -- so does the smallest pattern of a single one
+    single-nearest : (r : ℕ) → (leftIn finder w ≡ 0 → ⊥) → Single finder (leftIn finder w) r
+        → bitXor w r ≡ nearestWord (rowOf sheet) (rowCount sheet) (degree sheet) w
+    unfolding nearestWord
+    single-nearest r some s =
+        let b-lt : s .digit < degree sheet = omega (arith, s .digit-lt, f .digits) in
+        let left-pow : (a : ℕ) → a < degree sheet → leftIn finder (2 ^ a) ≡ reduced (rowOf sheet) (rowCount sheet) (2 ^ a) =
+        λ a l. f .left (2 ^ a) (pow-lt l) in
+        ap (bitXor w) (s .is ∙ sym (leader-single (rowOf sheet) (rowCount sheet) (degree sheet) (is-sound .degree-high) (is-sound .rows-lt)
+        w (s .digit) w-lt b-lt (λ e. some (f .left w w-lt ∙ e))
+        (sym (left-pow (s .digit) b-lt) ∙ s .same ∙ f .left w w-lt)
+        (λ a l e. s .first a l (left-pow a (omega arith) ∙ e ∙ sym (f .left w w-lt)))))
+
+    search-nearest : searchedIn finder w ≡ nearestWord (rowOf sheet) (rowCount sheet) (degree sheet) w
+    search-nearest =
+        search-few finder w search-sized ∙ ap (λ (n : ℕ). searched (wordIn finder) n w) (f .listed)
+        ∙ nearest-searched (rowOf sheet) (rowCount sheet) (degree sheet) (is-sound .degree-high) (is-sound .rows-lt)
+        (wordIn finder) (f .words) w w-lt
+
+    sought-nearest : (leftIn finder w ≡ 0 → ⊥)
+        → soughtIn finder (leftIn finder w) w ≡ nearestWord (rowOf sheet) (rowCount sheet) (degree sheet) w
+    sought-nearest some =
+        elim (ℕ-discrete (singleIn finder (leftIn finder w)) 0) [
+          | yes none ↦ sought-searched finder (leftIn finder w) w none ∙ search-nearest
+          | no single ↦
+              sought-single finder (leftIn finder w) w single ∙ single-nearest _ some (single-is finder (leftIn finder w) single)
+        ]
+
+    -- one more leader
+    leader-more : (s nearest : ℕ) → s < 2048 → nearest ≡ nearestWord (rowOf sheet) (rowCount sheet) (degree sheet) w
+        → Finds sheet (set finder (544 + s) (bitXor w nearest))
+    unfolding nearestWord leftIn wordIn
+    leader-more s nearest s-lt is =
         record {
-          sized = length-set (set finder (288 + 2 * s) left) (288 + 2 * s + 1) (bitXor w nearest) ∙ length-set finder (288 + 2 * s) left ∙ f .sized;
+          sized = length-set finder (544 + s) pattern ∙ f .sized;
           accepted = f .accepted;
-          tabled = λ e. absurd (kind (sym (other 0 (λ h. omega arith) (λ h. omega arith)) ∙ e));
-          searching = λ e. record {
-            rows = other 1 (λ h. omega arith) (λ h. omega arith) ∙ f .searching kind .rows;
-            basis = λ i l.
-                let high : rowCount sheet ≤ 11 = is-sound .count-high in
-                other (16 + i) (λ h. omega arith) (λ h. omega arith) ∙ f .searching kind .basis i l;
-            listed = other 2 (λ h. omega arith) (λ h. omega arith) ∙ f .searching kind .listed;
-            words = λ m l. other (1312 + m) (λ h. omega arith) (λ h. omega arith) ∙ f .searching kind .words m l;
-            leaders = leaders;
-          };
+          digits = ap (λ (n : ℕ). min n 16) (other 1 (λ h. omega arith)) ∙ f .digits;
+          left = λ v v-lt.
+              let v-lt-16 : v < 2 ^ 16 = omega (arith, v-lt, pow-mono (is-sound .degree-high)) in
+              ap₂ bitXor (other (32 + v % 256) (λ h. omega arith)) (other (288 + v / 256) (λ h. omega arith)) ∙ f .left v v-lt;
+          listed = other 0 (λ h. omega arith) ∙ f .listed;
+          words = λ m l. other (2592 + m) (λ h. omega arith) ∙ f .words m l;
+          leaders = leaders;
         }
       where
         pattern : ℕ
         pattern = bitXor w nearest
 
-        after : List ℕ
-        after = set (set finder (288 + 2 * s) left) (288 + 2 * s + 1) pattern
+        other : (j : ℕ) → (j ≡ 544 + s → ⊥) → getD (set finder (544 + s) pattern) j 0 ≡ getD finder j 0
+        other j a = getD-set-other finder (544 + s) j pattern 0 a
 
-        other : (j : ℕ) → (j ≡ 288 + 2 * s → ⊥) → (j ≡ 288 + 2 * s + 1 → ⊥) → getD after j 0 ≡ getD finder j 0
-        other j a b =
-            getD-set-other (set finder (288 + 2 * s) left) (288 + 2 * s + 1) j pattern 0 b ∙ getD-set-other finder (288 + 2 * s) j left 0 a
+        is-pattern : pattern ≡ nearestPattern (rowOf sheet) (rowCount sheet) (degree sheet) w
+        is-pattern = ap (bitXor w) is ∙ xor-cancel w _
 
-        name : nameIn after s ≡ left
-        name =
-            getD-set-other (set finder (288 + 2 * s) left) (288 + 2 * s + 1) (288 + 2 * s) pattern 0 (λ h. omega arith)
-            ∙ getD-set-same finder (288 + 2 * s) left 0 (omega (arith, f .sized))
-
-        leader : leaderIn after s ≡ pattern
+        leader : Leader sheet pattern
         leader =
-            getD-set-same (set finder (288 + 2 * s) left) (288 + 2 * s + 1) pattern 0
-            (omega (arith, length-set finder (288 + 2 * s) left, f .sized))
+            subst (Leader sheet) (sym is-pattern) (record {
+              below = nearest-pattern-lt (rowOf sheet) (rowCount sheet) (degree sheet) (is-sound .degree-high) (is-sound .rows-lt) w w-lt;
+              own = leader-own (rowOf sheet) (rowCount sheet) (degree sheet) (is-sound .degree-high) (is-sound .rows-lt) w w-lt;
+            })
 
-        leaders : (t v : ℕ) → t < 512 → v < 2 ^ degree sheet → (nameIn after t ≡ 0 → ⊥) → nameIn after t ≡ reduced (rowOf sheet) (rowCount sheet) v
-            → leaderIn after t ≡ nearestPattern (rowOf sheet) (rowCount sheet) (degree sheet) v
-        leaders t v t-lt v-lt some named =
+        leaders : (t : ℕ) → t < 2048 → Leader sheet (leaderIn (set finder (544 + s) pattern) t)
+        leaders t t-lt =
             elim (ℕ-discrete t s) [
-              | yes here ↦
-                  let same : reduced (rowOf sheet) (rowCount sheet) w ≡ reduced (rowOf sheet) (rowCount sheet) v =
-                  sym (left-reduced w) ∙ sym is ∙ sym name ∙ ap (nameIn after) (sym here) ∙ named in
-                  let w-lt = coset-lt (rowOf sheet) (rowCount sheet) (degree sheet) (is-sound .rows-lt) v w v-lt same in
-                  ap (leaderIn after) here ∙ leader ∙ ap (bitXor w) (found ∙ search-nearest w-lt) ∙ xor-cancel w _
-                  ∙ coset-pattern (rowOf sheet) (rowCount sheet) (degree sheet) (is-sound .degree-high) (is-sound .rows-lt) w v w-lt v-lt same
-              | no apart ↦
-                  let name-same = other (288 + 2 * t) (λ h. apart (omega arith)) (λ h. omega arith) in
-                  other (288 + 2 * t + 1) (λ h. omega arith) (λ h. apart (omega arith))
-                  ∙ f .searching kind .leaders t v t-lt v-lt (λ e. some (name-same ∙ e)) (sym name-same ∙ named)
+              | yes here ↦ rw here (subst (Leader sheet) (sym (getD-set-same finder (544 + s) pattern 0 (omega (arith, f .sized)))) leader)
+              | no apart ↦ subst (Leader sheet) (sym (other (544 + t) (λ h. apart (omega arith)))) (f .leaders t t-lt)
             ]
 
 -- ---- what the code answers, by the case that it takes
 
-module _ (finder : List ℕ) (w : ℕ) (other : length finder ≡ 3360 → ⊥) where
+module _ (finder : List ℕ) (w : ℕ) (other : length finder ≡ 4640 → ⊥) where
   no-finder : isFinder finder ≡ false
-  no-finder = ne-eqb (length finder) 3360 other
+  no-finder = ne-eqb (length finder) 4640 other
 
   pub own-none : true ≡ ownNearest finder w
   unfolding ownNearest
@@ -267,55 +285,48 @@ module _ (finder : List ℕ) (w : ℕ) (other : length finder ≡ 3360 → ⊥) 
   unfolding foundWord foundFinder
   found-none = (rw no-finder, rw no-finder)
 
-module _ (finder : List ℕ) (w : ℕ) (size : length finder ≡ 3360) where
+-- the case that no leader is at hand
+pub record Sought (finder : List ℕ) (left w : ℕ) : Type 0 where
+  pub word : soughtIn finder left w ≡ foundWord finder w
+  pub high : 2 ^ digitsIn finder ≤ w → finder ≡ foundFinder finder w
+  pub kept : w < 2 ^ digitsIn finder → set finder (544 + slotOf left) (bitXor w (soughtIn finder left w)) ≡ foundFinder finder w
+
+module _ (finder : List ℕ) (w : ℕ) (size : length finder ≡ 4640) where
   is-finder : isFinder finder ≡ true
-  is-finder = eq-eqb (length finder) 3360 size
+  is-finder = eq-eqb (length finder) 4640 size
 
-  module _ (kind : kindIn finder ≡ 1) where
-    tabled : eqb (kindIn finder) 1 ≡ true
-    tabled = eq-eqb (kindIn finder) 1 kind
-
-    pub own-table : eqb (tableIn finder (w % 256)) w ≡ ownNearest finder w
-    unfolding ownNearest
-    own-table = rw (is-finder, tabled)
-
-    pub found-table : (tableIn finder (w % 256) ≡ foundWord finder w) × (finder ≡ foundFinder finder w)
-    unfolding foundWord foundFinder
-    found-table = (rw (is-finder, tabled), rw (is-finder, tabled))
-
-  module _ (left : ℕ) (kind : kindIn finder ≡ 1 → ⊥) (is : left ≡ leftIn finder w) where
-    not-tabled : eqb (kindIn finder) 1 ≡ false
-    not-tabled = ne-eqb (kindIn finder) 1 kind
-
+  module _ (left : ℕ) (is : left ≡ leftIn finder w) where
     pub own-left : eqb left 0 ≡ ownNearest finder w
     unfolding ownNearest
-    own-left = rw (is-finder, not-tabled, is)
+    own-left = rw (is-finder, is)
 
     pub found-codeword : left ≡ 0 → (w ≡ foundWord finder w) × (finder ≡ foundFinder finder w)
     unfolding foundWord foundFinder
     found-codeword e =
         let none : eqb (leftIn finder w) 0 ≡ true = eq-eqb (leftIn finder w) 0 (sym is ∙ e) in
-        (rw (is-finder, not-tabled, none), rw (is-finder, not-tabled, none))
+        (rw (is-finder, none), rw (is-finder, none))
 
     module _ (some : left ≡ 0 → ⊥) where
       left-there : eqb (leftIn finder w) 0 ≡ false
       left-there = ne-eqb (leftIn finder w) 0 (λ e. some (is ∙ e))
 
-      pub found-leader : nameIn finder (left % 512) ≡ left
-          → (bitXor w (leaderIn finder (left % 512)) ≡ foundWord finder w) × (finder ≡ foundFinder finder w)
+      pub found-leader : leftIn finder (leaderIn finder (slotOf left)) ≡ left
+          → (bitXor w (leaderIn finder (slotOf left)) ≡ foundWord finder w) × (finder ≡ foundFinder finder w)
       unfolding foundWord foundFinder
       found-leader met =
-          let kept : eqb (nameIn finder (leftIn finder w % 512)) (leftIn finder w) ≡ true = eq-eqb _ _ (rw is at met) in
-          (rw (is-finder, not-tabled, left-there, kept, is), rw (is-finder, not-tabled, left-there, kept))
+          let kept : eqb (leftIn finder (leaderIn finder (slotOf (leftIn finder w)))) (leftIn finder w) ≡ true = eq-eqb _ _ (rw is at met) in
+          (rw (is-finder, left-there, kept, is), rw (is-finder, left-there, kept))
 
-      pub found-searched : (nameIn finder (left % 512) ≡ left → ⊥) → (nearest : ℕ) → nearest ≡ searchedIn finder w
-          → (nearest ≡ foundWord finder w)
-          × (set (set finder (288 + 2 * (left % 512)) left) (288 + 2 * (left % 512) + 1) (bitXor w nearest) ≡ foundFinder finder w)
+      pub found-sought : (leftIn finder (leaderIn finder (slotOf left)) ≡ left → ⊥) → Sought finder left w
       unfolding foundWord foundFinder
-      found-searched missed nearest found =
-          let new : eqb (nameIn finder (leftIn finder w % 512)) (leftIn finder w) ≡ false =
-          ne-eqb (nameIn finder (leftIn finder w % 512)) (leftIn finder w) (λ e. missed (rw (sym is) at e)) in
-          (rw (is-finder, not-tabled, left-there, new, found), rw (is-finder, not-tabled, left-there, new, found, is))
+      found-sought missed =
+          let other : eqb (leftIn finder (leaderIn finder (slotOf (leftIn finder w)))) (leftIn finder w) ≡ false =
+          ne-eqb (leftIn finder (leaderIn finder (slotOf (leftIn finder w)))) (leftIn finder w) (λ e. missed (rw (sym is) at e)) in
+          record {
+            word = rw (is-finder, left-there, other, is);
+            high = λ high. rw (is-finder, left-there, other, le-leb _ _ high);
+            kept = λ low. rw (is-finder, left-there, other, lt-leb _ _ low, is);
+          }
 
 -- ---- what these answers mean, where the finder finds a sheet's nearest words
 
@@ -341,30 +352,20 @@ pub record Found (before : List ℕ) (w : ℕ) (r : Step) (after : List ℕ) : T
 
 pub own-means : (finder : List ℕ) (w : ℕ) {r : Bool} → r ≡ ownNearest finder w → OwnNearest finder w r
 own-means finder w {r} e =
-    elim (ℕ-discrete (kindIn finder) 1) [
-      | yes kind ↦
-          let same : length finder ≡ 3360 → r ≡ eqb (tableIn finder (w % 256)) w = λ size. e ∙ sym (own-table finder w size kind) in
-          record {
-            stays = λ t sheet f w-lt. sym (table-nearest f w w-lt kind) ∙ eqb-true _ _ (sym (same (f .sized)) ∙ t);
-            changes = λ t sheet f w-lt fixed. eqb-false _ _ (sym (same (f .sized)) ∙ t) (table-nearest f w w-lt kind ∙ fixed);
-          }
-      | no kind ↦
-          let same : length finder ≡ 3360 → r ≡ eqb (leftIn finder w) 0 = λ size. e ∙ sym (own-left finder w size (leftIn finder w) kind refl) in
-          record {
-            stays = λ t sheet f w-lt. left-none f kind w (eqb-true (leftIn finder w) 0 (sym (same (f .sized)) ∙ t));
-            changes = λ t sheet f w-lt. left-some f kind w w-lt (eqb-false (leftIn finder w) 0 (sym (same (f .sized)) ∙ t));
-          }
-    ]
+    let same : length finder ≡ 4640 → r ≡ eqb (leftIn finder w) 0 = λ size. e ∙ sym (own-left finder w size (leftIn finder w) refl) in
+    record {
+      stays = λ t sheet f w-lt. left-none f w w-lt (eqb-true (leftIn finder w) 0 (sym (same (f .sized)) ∙ t));
+      changes = λ t sheet f w-lt. left-some f w w-lt (eqb-false (leftIn finder w) 0 (sym (same (f .sized)) ∙ t));
+    }
+
+slot-lt : (left : ℕ) → slotOf left < 2048
+unfolding slotOf
+slot-lt left = omega arith
 
 found-leads : (finder : List ℕ) (w : ℕ) → Leads finder w (foundWord finder w) (foundFinder finder w)
 found-leads finder w =
-    elim (ℕ-discrete (length finder) 3360) [
-      | yes size ↦
-          elim (ℕ-discrete (kindIn finder) 1) [
-            | yes kind ↦
-                same (found-table finder w size kind) (record { nearest = λ sheet f w-lt. table-nearest f w w-lt kind; finds = λ sheet f. f })
-            | no kind ↦ untabled size kind
-          ]
+    elim (ℕ-discrete (length finder) 4640) [
+      | yes size ↦ by-left size
       | no other ↦
           same (found-none finder w other) (record { nearest = λ sheet f w-lt. absurd (other (f .sized)); finds = λ sheet f. f })
     ]
@@ -376,28 +377,36 @@ found-leads finder w =
     left : ℕ
     left = leftIn finder w
 
-    untabled : length finder ≡ 3360 → (kindIn finder ≡ 1 → ⊥) → Leads finder w (foundWord finder w) (foundFinder finder w)
-    untabled size kind =
+    sought : (left ≡ 0 → ⊥) → Sought finder left w → Leads finder w (foundWord finder w) (foundFinder finder w)
+    sought some found =
+        elim (decLt w (2 ^ digitsIn finder)) [
+          | yes low ↦
+              same (found .word, found .kept low)
+              (record {
+                nearest = λ sheet f w-lt. sought-nearest f w w-lt some;
+                finds = λ sheet f.
+                    let w-lt = subst (λ (d : ℕ). w < 2 ^ d) (f .digits) low in
+                    leader-more f w w-lt (slotOf left) _ (slot-lt left) (sought-nearest f w w-lt some);
+              })
+          | no high ↦
+              same (found .word, found .high (omega arith))
+              (record { nearest = λ sheet f w-lt. sought-nearest f w w-lt some; finds = λ sheet f. f })
+        ]
+
+    by-left : length finder ≡ 4640 → Leads finder w (foundWord finder w) (foundFinder finder w)
+    by-left size =
         elim (ℕ-discrete left 0) [
           | yes none ↦
-              same (found-codeword finder w size left kind refl none)
-              (record { nearest = λ sheet f w-lt. sym (left-none f kind w none); finds = λ sheet f. f })
+              same (found-codeword finder w size left refl none)
+              (record { nearest = λ sheet f w-lt. sym (left-none f w w-lt none); finds = λ sheet f. f })
           | no some ↦
-              elim (ℕ-discrete (nameIn finder (left % 512)) left) [
+              elim (ℕ-discrete (leftIn finder (leaderIn finder (slotOf left))) left) [
                 | yes met ↦
-                    same (found-leader finder w size left kind refl some met)
-                    (record { nearest = λ sheet f w-lt. leader-met f kind w w-lt (left % 512) left (omega arith) refl some met; finds = λ sheet f. f })
-                | no missed ↦
-                    same (found-searched finder w size left kind refl some missed (searchedIn finder w) refl)
-                    (record {
-                      nearest = λ sheet f w-lt. search-told (search-sized f kind) ∙ search-nearest f kind w w-lt;
-                      finds = λ sheet f. leader-more f kind w (left % 512) left _ (omega arith) refl (search-told (search-sized f kind));
-                    })
+                    same (found-leader finder w size left refl some met)
+                    (record { nearest = λ sheet f w-lt. leader-met f w w-lt (slotOf left) (slot-lt left) met; finds = λ sheet f. f })
+                | no missed ↦ sought some (found-sought finder w size left refl some missed)
               ]
         ]
-      where
-        search-told : listedIn finder ≤ 2048 → searchedIn finder w ≡ searched (wordIn finder) (listedIn finder) w
-        search-told few = search-few finder w few
 
 pub found-means : (finder : List ℕ) (w : ℕ) {r : Step} {after : List ℕ} → r ≡ stepTo w (foundWord finder w) → after ≡ foundFinder finder w
     → Found finder w r after
@@ -413,47 +422,87 @@ found-means finder w step-is after-is =
 
 -- ---- a finder set up
 
--- by the table, for the house code's sheet
-pub finds-tabled : (sheet before : List ℕ) {table after : List ℕ} → sheet ≡ houseSheet → HouseTable table → length (set before 0 1) ≡ 3360
-    → Placed 32 table (set before 0 1) after → sheetCheck sheet ≡ done [] → Finds sheet after
-finds-tabled sheet before {table} {after} e house size p accepted =
+-- a table of 256 numbers, the first 2^n of them the combinations of n rows
+pub record Tabulates (row : ℕ → ℕ) (n : ℕ) (table : List ℕ) : Type 0 where
+  sized : length table ≡ 256
+  entry : (m : ℕ) → m < 2 ^ n → getD table m 0 ≡ combination row n m
+
+pub tabulates-listed : (row : ℕ → ℕ) (n : ℕ) (part : List ℕ) {table : List ℕ} → n ≤ 8 → length part ≡ 256 → table ≡ listed row n part
+    → Tabulates row n table
+tabulates-listed row n part n-high size is =
+    rw is (record {
+      sized = length-listed row n part ∙ size;
+      entry = listed-word row n part (omega (arith, size, pow-mono n-high));
+    })
+
+-- the tables and the codewords are put in one after the other, then the head
+pub filled-parts : (sheet : List ℕ) (k d count : ℕ) {basis before low-table low high-table high words-part words after : List ℕ}
+    → length before ≡ 4640 → d ≡ min (degree sheet) 16
+    → Tabulates (powerLeft basis k 0) 8 low-table → Placed 32 low-table before low
+    → Tabulates (powerLeft basis k 8) (d - 8) high-table → Placed 288 high-table low high
+    → 2048 ≤ length words-part → Lists (rowOf sheet) k words-part count words → Placed 2592 words high after
+    → Filled sheet k basis before (set (set after 0 count) 1 d)
+unfolding wordIn
+filled-parts sheet k d count {basis} {before} {low-table} {low} {high-table} {high} {words-part} {words} {after}
+    size d-is low-is in-low high-is in-high room lists in-words =
     record {
-      sized = p .sized ∙ size;
-      accepted = accepted;
-      tabled = λ k. record { words-lt = words-lt; table = in-table };
-      searching = λ other. absurd (other kind);
+      sized = length-set (set after 0 count) 1 d ∙ length-set after 0 count ∙ sized;
+      listed = getD-set-other (set after 0 count) 1 0 d 0 (λ e. omega arith) ∙ getD-set-same after 0 count 0 (omega (arith, sized))
+          ∙ lists .room room .0;
+      digits = ap (λ (n : ℕ). min n 16) (getD-set-same (set after 0 count) 1 d 0 (omega (arith, length-set after 0 count, sized)) ∙ d-is)
+          ∙ omega arith;
+      low = λ m h.
+          ahead (32 + m) (omega arith) (omega arith) ∙ in-high .ahead (32 + m) (omega arith)
+          ∙ in-low .inside m (omega (arith, low-is .sized)) ∙ low-is .entry m h;
+      high = λ m h.
+          let m-lt : m < 2 ^ (d - 8) = rw d-is h in
+          let few : 2 ^ (d - 8) ≤ 256 = pow-mono {i = d - 8} {j = 8} (omega arith) in
+          ahead (288 + m) (omega arith) (omega arith) ∙ in-high .inside m (omega (arith, high-is .sized)) ∙ high-is .entry m m-lt
+          ∙ ap (λ (n : ℕ). combination (powerLeft basis k 8) (n - 8) m) d-is;
+      words = λ m h.
+          beside (2592 + m) (omega arith) ∙ in-words .inside m (omega (arith, lists-fits (rowOf sheet) k lists room, lists .room room .0))
+          ∙ lists-word (rowOf sheet) k lists room m h;
+      leaders = λ t h.
+          ahead (544 + t) (omega arith) (omega arith) ∙ in-high .behind (544 + t) (omega (arith, high-is .sized))
+          ∙ in-low .behind (544 + t) (omega (arith, low-is .sized));
     }
   where
-    kind : kindIn after ≡ 1
-    kind = p .ahead 0 (omega arith) ∙ getD-set-same before 0 1 0 (omega (arith, length-set before 0 1))
+    sized : length after ≡ length before
+    sized = in-words .sized ∙ in-high .sized ∙ in-low .sized
 
-    words-lt : (w : ℕ) → w < 2 ^ degree sheet → w < 256
-    words-lt = rw e house-degree
+    beside : (j : ℕ) → 2 ≤ j → getD (set (set after 0 count) 1 d) j 0 ≡ getD after j 0
+    beside j h = getD-set-other (set after 0 count) 1 j d 0 (λ e. omega arith) ∙ getD-set-other after 0 j count 0 (λ e. omega arith)
 
-    in-table : (w : ℕ) → w < 2 ^ degree sheet → tableIn after w ≡ nearestWord (rowOf sheet) (rowCount sheet) (degree sheet) w
-    in-table w h =
-        let small : w < 256 = words-lt w h in
-        p .inside w (omega (arith, house .sized)) ∙ house .entry w small ∙ rw e (house-nearest w)
+    ahead : (j : ℕ) → 2 ≤ j → j < 2592 → getD (set (set after 0 count) 1 d) j 0 ≡ getD high j 0
+    ahead j two h = beside j two ∙ in-words .ahead j h
 
--- by a search, for any other: the codewords, k, how many codewords there are and the basis are put into a finder of zeros
-pub finds-searching : (sheet : List ℕ) (k count rows : ℕ) {before part words a basis after : List ℕ} → before ≡ replicate 3360 0
-    → Lists (rowOf sheet) k part count words → 2048 ≤ length part → Placed 1312 words before a → rows ≡ min k 11
-    → Placed 16 basis (set (set a 1 rows) 2 count) after
-    → sheetCheck sheet ≡ done [] → k ≡ rowCount sheet → basis ≡ withEchelon (rowOf sheet) (rowCount sheet) (replicate 11 0)
-    → Finds sheet after
-unfolding at basisIn wordIn
-finds-searching sheet k count rows {a = a} {basis = basis} {after = after} zeros lists room words-in rows-is basis-in accepted k-is stored =
+-- the high half of a word has as many digits as the word has above eight
+half-lt : (d w : ℕ) → w < 2 ^ d → w / 256 < 2 ^ (d - 8)
+half-lt d w h =
+    elim (decLt d 8) [
+      | yes low ↦
+          let none : w / 256 ≡ 0 = omega (arith, h, pow-lt low) in
+          rw none (pow-pos (d - 8))
+      | no high ↦
+          let whole : d - 8 + 8 ≡ d = omega arith in
+          shr-lt (d - 8) 8 (rw whole h)
+    ]
+
+filled-finds : (sheet : List ℕ) (k : ℕ) {basis before after : List ℕ} → Filled sheet k basis before after → before ≡ replicate 4640 0
+    → sheetCheck sheet ≡ done [] → k ≡ rowCount sheet → basis ≡ withEchelon (rowOf sheet) (rowCount sheet) (replicate 11 0) → Finds sheet after
+unfolding leftIn powerLeft
+filled-finds sheet k {basis} {before} {after} p zeros accepted k-is stored =
     record {
-      sized = basis-in .sized ∙ length-set (set a 1 rows) 2 count ∙ length-set a 1 rows ∙ a-sized;
+      sized = p .sized ∙ ap length zeros ∙ length-replicate {A = ℕ} 4640 0;
       accepted = accepted;
-      tabled = λ e. omega (arith, basis-in .ahead 0 (omega arith), untouched 0 (omega arith) (λ h. omega arith) (λ h. omega arith));
-      searching = λ other. record {
-        rows = rows-at;
-        basis = basis-at;
-        listed = listed-at;
-        words = word-at;
-        leaders = λ t w t-lt w-lt some named. absurd (some (none-kept t t-lt));
-      };
+      digits = p .digits ∙ digits-all;
+      left = left;
+      listed = p .listed ∙ ap (λ (m : ℕ). 2 ^ m) rows-all;
+      words = λ m h. p .words m (rw rows-all h) ∙ ap (λ (i : ℕ). combination (rowOf sheet) i m) rows-all;
+      leaders = λ t t-lt. subst (Leader sheet) (sym (none-kept t t-lt)) (record {
+        below = pow-pos (degree sheet);
+        own = leader-zero (rowOf sheet) (rowCount sheet) (degree sheet) (s .degree-high) (s .rows-lt);
+      });
     }
   where
     s : Sound sheet
@@ -462,64 +511,29 @@ finds-searching sheet k count rows {a = a} {basis = basis} {after = after} zeros
     rows-all : min k 11 ≡ rowCount sheet
     rows-all = ap (λ (m : ℕ). min m 11) k-is ∙ min-eq-left (s .count-high)
 
-    a-sized : length a ≡ 3360
-    a-sized = words-in .sized ∙ ap length zeros ∙ length-replicate {A = ℕ} 3360 0
+    digits-all : min (degree sheet) 16 ≡ degree sheet
+    digits-all = min-eq-left (s .degree-high)
 
-    beside : (j : ℕ) → (j ≡ 1 → ⊥) → (j ≡ 2 → ⊥) → getD (set (set a 1 rows) 2 count) j 0 ≡ getD a j 0
-    beside j one two = getD-set-other (set a 1 rows) 2 j count 0 two ∙ getD-set-other a 1 j rows 0 one
+    none-kept : (t : ℕ) → t < 2048 → leaderIn after t ≡ 0
+    none-kept t h = p .leaders t h ∙ ap (λ (l : List ℕ). getD l (544 + t) 0) zeros ∙ getD-replicate {A = ℕ} 4640 (544 + t) 0 0 (omega arith)
 
-    -- ahead of the codewords only k and their count are not 0 once these stand there
-    untouched : (j : ℕ) → j < 1312 → (j ≡ 1 → ⊥) → (j ≡ 2 → ⊥) → getD (set (set a 1 rows) 2 count) j 0 ≡ 0
-    untouched j h one two =
-        beside j one two ∙ words-in .ahead j h ∙ ap (λ (l : List ℕ). getD l j 0) zeros ∙ getD-replicate {A = ℕ} 3360 j 0 0 (omega arith)
+    power : (from b : ℕ) → powerLeft basis k from b ≡ reduced (rowOf sheet) (rowCount sheet) (2 ^ (from + b))
+    power from b =
+        ap₂ (λ (l : List ℕ) (n : ℕ). reducedBy (at l) n (2 ^ (from + b))) stored rows-all
+        ∙ reducedBy-stored (rowOf sheet) (rowCount sheet) (replicate 11 0) (2 ^ (from + b))
+        (omega (arith, s .count-high, length-replicate {A = ℕ} 11 0))
 
-    rows-at : rowsIn after ≡ rowCount sheet
-    rows-at =
-        basis-in .ahead 1 (omega arith) ∙ getD-set-other (set a 1 rows) 2 1 count 0 (λ h. omega arith)
-        ∙ getD-set-same a 1 rows 0 (omega (arith, a-sized)) ∙ rows-is ∙ rows-all
-
-    listed-at : listedIn after ≡ 2 ^ rowCount sheet
-    listed-at =
-        basis-in .ahead 2 (omega arith) ∙ getD-set-same (set a 1 rows) 2 count 0 (omega (arith, length-set a 1 rows, a-sized))
-        ∙ lists .room room .0 ∙ ap (λ (m : ℕ). 2 ^ m) rows-all
-
-    eleven : length basis ≡ 11
-    eleven = ap length stored ∙ length-withEchelon (rowOf sheet) (rowCount sheet) (replicate 11 0) ∙ length-replicate {A = ℕ} 11 0
-
-    basis-at : (i : ℕ) → i < rowCount sheet → basisIn after i ≡ echelon (rowOf sheet) i
-    basis-at i h =
-        let high : rowCount sheet ≤ 11 = s .count-high in
-        basis-in .inside i (omega (arith, eleven)) ∙ ap (λ (l : List ℕ). getD l i 0) stored
-        ∙ withEchelon-at (rowOf sheet) (rowCount sheet) (replicate 11 0) i h (omega (arith, length-replicate {A = ℕ} 11 0))
-
-    none-kept : (t : ℕ) → t < 512 → nameIn after t ≡ 0
-    none-kept t h =
-        basis-in .behind (288 + 2 * t) (omega (arith, eleven)) ∙ untouched (288 + 2 * t) (omega arith) (λ e. omega arith) (λ e. omega arith)
-
-    word-at : (m : ℕ) → m < 2 ^ rowCount sheet → wordIn after m ≡ combination (rowOf sheet) (rowCount sheet) m
-    word-at m h =
-        let below : m < 2 ^ min k 11 = rw rows-all h in
-        basis-in .behind (1312 + m) (omega (arith, eleven)) ∙ beside (1312 + m) (λ e. omega arith) (λ e. omega arith)
-        ∙ words-in .inside m (omega (arith, lists-fits (rowOf sheet) k lists room, lists .room room .0))
-        ∙ lists-word (rowOf sheet) k lists room m below
-        ∙ ap (λ (i : ℕ). combination (rowOf sheet) i m) rows-all
+    left : (w : ℕ) → w < 2 ^ degree sheet → leftIn after w ≡ reduced (rowOf sheet) (rowCount sheet) w
+    left w h =
+        let low-lt : w % 256 < 2 ^ 8 = omega arith in
+        let high-lt : w / 256 < 2 ^ (min (degree sheet) 16 - 8) = rw digits-all (half-lt (degree sheet) w h) in
+        ap₂ bitXor
+        (p .low (w % 256) low-lt ∙ reduced-powers (rowOf sheet) (rowCount sheet) 0 _ (power 0) 8 (w % 256) low-lt)
+        (p .high (w / 256) high-lt ∙ reduced-powers (rowOf sheet) (rowCount sheet) 8 _ (power 8) _ (w / 256) high-lt)
+        ∙ reduced-halves (rowOf sheet) (rowCount sheet) w
 
 -- what `prepare_finder` leaves of a finder of zeros
-pub prepared-finds : (sheet : List ℕ) (k : ℕ) {basis before after : List ℕ} → Prepared sheet k basis before after → before ≡ replicate 3360 0
+pub prepared-finds : (sheet : List ℕ) (k : ℕ) {basis before after : List ℕ} → Prepared sheet k basis before after → before ≡ replicate 4640 0
     → sheetCheck sheet ≡ done [] → k ≡ rowCount sheet → basis ≡ withEchelon (rowOf sheet) (rowCount sheet) (replicate 11 0) → Finds sheet after
 prepared-finds sheet k {before = before} p zeros accepted k-is stored =
-    ⊎-elim
-    (λ (t : (sheet ≡ houseSheet) × ByTable before _). finds-tabled sheet before (t .0) (t .1 .house) sized-house (t .1 .placed) accepted)
-    (λ (t : (sheet ≡ houseSheet → ⊥) × ByCodewords sheet k _ before _).
-    let by = t .1 in
-    finds-searching sheet k (by .count) (min k 11) zeros (by .lists) sized-words (by .listed) refl (by .placed) accepted k-is stored)
-    (p .finder sized)
-  where
-    sized : length before ≡ 3360
-    sized = ap length zeros ∙ length-replicate {A = ℕ} 3360 0
-
-    sized-house : length (set before 0 1) ≡ 3360
-    sized-house = length-set before 0 1 ∙ sized
-
-    sized-words : 2048 ≤ length (drop 1312 before)
-    sized-words = omega (arith, length-drop 1312 before, sized)
+    filled-finds sheet k (p .finder (ap length zeros ∙ length-replicate {A = ℕ} 4640 0)) zeros accepted k-is stored

@@ -60,7 +60,7 @@ pub listed-one-more : (row : ℕ → ℕ) (i : ℕ) (l : List ℕ) → listed ro
 unfolding listed
 listed-one-more row i l = rw add-one
 
-length-listed : (row : ℕ → ℕ) (k : ℕ) (l : List ℕ) → length (listed row k l) ≡ length l
+pub length-listed : (row : ℕ → ℕ) (k : ℕ) (l : List ℕ) → length (listed row k l) ≡ length l
 unfolding listed
 length-listed row zero l = length-set l 0 0
 length-listed row (suc i) l = length-doubled (2 ^ i) (row i) (2 ^ i) (listed row i l) ∙ length-listed row i l
@@ -86,13 +86,6 @@ listed-word row (suc i) l f m h = go (listed-word row i l (omega (arith, pow-suc
     go : ((j : ℕ) → j < 2 ^ i → getD (listed row i l) j 0 ≡ combination row i j)
         → getD (doubled (2 ^ i) (row i) (2 ^ i) (listed row i l)) m 0 ≡ combination row (suc i) m
     go before = elim (decLt m (2 ^ i)) [ yes s ↦ lower before s | no s ↦ upper before (le-dest (omega arith)) ]
-
-pub listed-beyond : (row : ℕ → ℕ) (k : ℕ) (l : List ℕ) (m : ℕ) → 2 ^ k ≤ m → getD (listed row k l) m 0 ≡ getD l m 0
-unfolding listed
-listed-beyond row zero l m h = getD-set-other l 0 m 0 0 (λ e. omega arith)
-listed-beyond row (suc i) l m h =
-    doubled-other (2 ^ i) (row i) (2 ^ i) (listed row i l) m (inr (omega (arith, pow-suc 2 i, h)))
-    ∙ listed-beyond row i l m (omega (arith, pow-suc 2 i, h))
 
 -- what stood at place 0 before does not matter
 pub listed-again : (row : ℕ → ℕ) (k : ℕ) (l : List ℕ) → listed row k (set l 0 0) ≡ listed row k l

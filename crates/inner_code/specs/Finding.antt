@@ -1,87 +1,79 @@
 -- How the code finds a sheet's nearest words, and what it keeps for that: none of this is needed to believe a contract of a service.
--- All that is kept stands in one list of 3,360 numbers of 16 bits, the finder. A list of another length is no finder:
+-- All that is kept stands in one list of 4,640 numbers of 16 bits, the finder. A list of another length is no finder:
 --   isFinder finder      the test of the length
---   kindIn finder        1 where the table answers; with any other number the codewords are searched
---   rowsIn finder        k, the number of rows
 --   listedIn finder      how many codewords are listed
---   basisIn finder i     row i of the echelon form
---   tableIn finder w     the nearest word of w, of the words below 256
---   nameIn finder s      what the rows leave of the words of the coset whose leader is kept in slot s, 0 where none is
---   leaderIn finder s    that leader: the nearest pattern of these words
+--   digitsIn finder      d, the number of digits of a word: 16 at most, whatever is told
+--   lowIn finder m       what the rows leave of m, for m below 256
+--   highIn finder m      what the rows leave of 256 times m, for m below 256
+--   leaderIn finder s    the leader kept in slot s
 --   wordIn finder m      codeword m
 -- What holds of a finder and of the functions over it:
---   Tabled sheet finder       the table has the sheet's nearest words
---   Searching sheet finder    rows, basis, codewords and leaders are the sheet's
---   Finds sheet finder        the sheet is accepted, and the finder finds its nearest words
+--   Leader sheet p       p is the nearest pattern of the words of its coset: it is below 2^d, and its own nearest pattern
+--   Finds sheet finder   the sheet is accepted, and all that the finder holds is the sheet's
 --   Placed start part before after    the list `after` is `before` with `part` in it from the place `start` on
 -- What the functions over a finder answer and leave, whatever stands in it; with a list that is no finder every word stays, and the list too:
---   ByTable before after      the finder is set up with the house code's table of nearest words
---   ByCodewords sheet k basis before after    it is set up with the codewords, as many rows as count, and the basis
---   Prepared sheet k basis before after    the first for the house code's sheet, the second for any other; `before` is left as it is where it is no finder
---   leftIn finder w           what the rows leave of w
---   ownNearest finder w       the test whether w is its own nearest word: the table's entry is w, or the rows leave nothing
---   searchedIn finder w       the nearest of the listed codewords; w itself where more are told than fit
---   foundWord finder w        the word found: the table's, w itself, w with the leader kept for it, or the one searched for
---   foundFinder finder w      the finder afterwards: with one more leader where one was searched for
-use Prim.Native.Nat.{ℕ, _+_, _*_, _%_, _^_, _≤_, _<_, min}
-use mathlib.Core.Bool.{Bool, true, cond}
+--   powerLeft basis k from b    what the first k rows of the basis, 11 at most, leave of 2^(from + b)
+--   Filled sheet k basis before after    the finder is set up with the tables, the codewords, their number and d, and the leaders stay
+--   Prepared sheet k basis before after    it is so where `before` is a finder, and else left as it is
+--   leftIn finder w      what the rows leave of w, by the tables: the exclusive-or of what they leave of its low and its high half
+--   ownNearest finder w  the test whether w is its own nearest word: the rows leave nothing
+--   slotOf left          the slot for the leader of the words of which the rows leave this
+--   firstSingle finder left    the first b below d such that the rows leave this of 2^b, d where there is none
+--   singleIn finder left that 2^b; 0 where there is none, and where no more than 64 codewords are listed
+--   searchedIn finder w  the nearest of the listed codewords; w itself where more are told than fit
+--   soughtIn finder left w    w with the pattern of a single one put on it, or the word searched for where there is none
+--   foundWord finder w   the word found: w itself, w with the leader kept for it, or the one sought
+--   foundFinder finder w the finder afterwards: with one more leader where one was sought for a word below 2^d
+use Prim.Native.Nat.{ℕ, _+_, _-_, _/_, _%_, _^_, _≤_, _<_, min}
+use mathlib.Core.Bool.{Bool, true, not, cond}
 use mathlib.Core.List.{List, []}
-use mathlib.Core.Logic.{_⊎_}
 use mathlib.Core.Path.{_≡_}
 use lib.Bits.{bitXor}
-use lib.Dec.{eqb, leb}
-use lib.ListN.{length, getD, set, drop}
+use lib.Dec.{eqb, leb, ltb}
+use lib.ListN.{length, getD, set}
+use Rattle.bits.specs.Search.{firstFailing}
+use Rattle.bits.specs.Window.{at}
 use Rattle.inner_code.specs.Reply.{done}
-use Rattle.inner_code.specs.Code.{combination, nearestPattern, nearestWord}
-use Rattle.inner_code.specs.Reduction.{reduced, echelon, reducedBy, searched, Lists}
+use Rattle.inner_code.specs.Code.{combination, nearestPattern}
+use Rattle.inner_code.specs.Reduction.{reduced, reducedBy, searched}
 use Rattle.inner_code.specs.Sheet.{degree, rowCount, rowOf, sheetCheck}
-use Rattle.inner_code.specs.House.{houseSheet, HouseTable}
 
 abbrev pub isFinder : List ℕ → Bool
-isFinder finder = eqb (length finder) 3360
-
-abbrev pub kindIn : List ℕ → ℕ
-kindIn finder = getD finder 0 0
-
-abbrev pub rowsIn : List ℕ → ℕ
-rowsIn finder = getD finder 1 0
+isFinder finder = eqb (length finder) 4640
 
 abbrev pub listedIn : List ℕ → ℕ
-listedIn finder = getD finder 2 0
+listedIn finder = getD finder 0 0
 
-unfoldable pub basisIn : List ℕ → ℕ → ℕ
-basisIn finder i = getD finder (16 + i) 0
+abbrev pub digitsIn : List ℕ → ℕ
+digitsIn finder = min (getD finder 1 0) 16
 
-abbrev pub tableIn : List ℕ → ℕ → ℕ
-tableIn finder w = getD finder (32 + w) 0
+abbrev pub lowIn : List ℕ → ℕ → ℕ
+lowIn finder m = getD finder (32 + m) 0
 
-abbrev pub nameIn : List ℕ → ℕ → ℕ
-nameIn finder s = getD finder (288 + 2 * s) 0
+abbrev pub highIn : List ℕ → ℕ → ℕ
+highIn finder m = getD finder (288 + m) 0
 
 abbrev pub leaderIn : List ℕ → ℕ → ℕ
-leaderIn finder s = getD finder (288 + 2 * s + 1) 0
+leaderIn finder s = getD finder (544 + s) 0
 
 unfoldable pub wordIn : List ℕ → ℕ → ℕ
-wordIn finder m = getD finder (1312 + m) 0
+wordIn finder m = getD finder (2592 + m) 0
 
-pub record Tabled (sheet finder : List ℕ) : Type 0 where
-  pub words-lt : (w : ℕ) → w < 2 ^ degree sheet → w < 256
-  pub table : (w : ℕ) → w < 2 ^ degree sheet → tableIn finder w ≡ nearestWord (rowOf sheet) (rowCount sheet) (degree sheet) w
+unfoldable pub leftIn : List ℕ → ℕ → ℕ
+leftIn finder w = bitXor (lowIn finder (w % 256)) (highIn finder (w / 256))
 
-pub record Searching (sheet finder : List ℕ) : Type 0 where
-  pub rows : rowsIn finder ≡ rowCount sheet
-  pub basis : (i : ℕ) → i < rowCount sheet → basisIn finder i ≡ echelon (rowOf sheet) i
-  pub listed : listedIn finder ≡ 2 ^ rowCount sheet
-  pub words : (m : ℕ) → m < 2 ^ rowCount sheet → wordIn finder m ≡ combination (rowOf sheet) (rowCount sheet) m
-  pub leaders : (s w : ℕ) → s < 512 → w < 2 ^ degree sheet → (nameIn finder s ≡ 0 → ⊥)
-      → nameIn finder s ≡ reduced (rowOf sheet) (rowCount sheet) w
-      → leaderIn finder s ≡ nearestPattern (rowOf sheet) (rowCount sheet) (degree sheet) w
+pub record Leader (sheet : List ℕ) (p : ℕ) : Type 0 where
+  pub below : p < 2 ^ degree sheet
+  pub own : nearestPattern (rowOf sheet) (rowCount sheet) (degree sheet) p ≡ p
 
 pub record Finds (sheet finder : List ℕ) : Type 0 where
-  pub sized : length finder ≡ 3360
+  pub sized : length finder ≡ 4640
   pub accepted : sheetCheck sheet ≡ done []
-  pub tabled : kindIn finder ≡ 1 → Tabled sheet finder
-  pub searching : (kindIn finder ≡ 1 → ⊥) → Searching sheet finder
+  pub digits : digitsIn finder ≡ degree sheet
+  pub left : (w : ℕ) → w < 2 ^ degree sheet → leftIn finder w ≡ reduced (rowOf sheet) (rowCount sheet) w
+  pub listed : listedIn finder ≡ 2 ^ rowCount sheet
+  pub words : (m : ℕ) → m < 2 ^ rowCount sheet → wordIn finder m ≡ combination (rowOf sheet) (rowCount sheet) m
+  pub leaders : (s : ℕ) → s < 2048 → Leader sheet (leaderIn finder s)
 
 pub record Placed (start : ℕ) (part before after : List ℕ) : Type 0 where
   pub sized : length after ≡ length before
@@ -89,55 +81,65 @@ pub record Placed (start : ℕ) (part before after : List ℕ) : Type 0 where
   pub ahead : (i : ℕ) → i < start → getD after i 0 ≡ getD before i 0
   pub behind : (i : ℕ) → start + length part ≤ i → getD after i 0 ≡ getD before i 0
 
-pub record ByTable (before after : List ℕ) : Type 0 where
-  pub table : List ℕ
-  pub house : HouseTable table
-  pub placed : Placed 32 table (set before 0 1) after
+unfoldable pub powerLeft : List ℕ → ℕ → ℕ → ℕ → ℕ
+unfolding reducedBy at
+powerLeft basis k from b = reducedBy (at basis) (min k 11) (2 ^ (from + b))
 
-pub record ByCodewords (sheet : List ℕ) (k : ℕ) (basis before after : List ℕ) : Type 0 where
-  pub count : ℕ
-  pub words : List ℕ
-  pub listing : List ℕ
-  pub lists : Lists (rowOf sheet) k (drop 1312 before) count words
-  pub listed : Placed 1312 words before listing
-  pub placed : Placed 16 basis (set (set listing 1 (min k 11)) 2 count) after
+pub record Filled (sheet : List ℕ) (k : ℕ) (basis before after : List ℕ) : Type 0 where
+  pub sized : length after ≡ length before
+  pub listed : listedIn after ≡ 2 ^ min k 11
+  pub digits : digitsIn after ≡ min (degree sheet) 16
+  pub low : (m : ℕ) → m < 2 ^ 8 → lowIn after m ≡ combination (powerLeft basis k 0) 8 m
+  pub high : (m : ℕ) → m < 2 ^ (min (degree sheet) 16 - 8) → highIn after m ≡ combination (powerLeft basis k 8) (min (degree sheet) 16 - 8) m
+  pub words : (m : ℕ) → m < 2 ^ min k 11 → wordIn after m ≡ combination (rowOf sheet) (min k 11) m
+  pub leaders : (s : ℕ) → s < 2048 → leaderIn after s ≡ leaderIn before s
 
 pub record Prepared (sheet : List ℕ) (k : ℕ) (basis before after : List ℕ) : Type 0 where
-  pub finder : length before ≡ 3360
-      → ((sheet ≡ houseSheet) × ByTable before after) ⊎ ((sheet ≡ houseSheet → ⊥) × ByCodewords sheet k basis before after)
-  pub none : (length before ≡ 3360 → ⊥) → after ≡ before
-
-abbrev pub leftIn : List ℕ → ℕ → ℕ
-leftIn finder w = reducedBy (basisIn finder) (min (rowsIn finder) 11) w
+  pub finder : length before ≡ 4640 → Filled sheet k basis before after
+  pub none : (length before ≡ 4640 → ⊥) → after ≡ before
 
 unfoldable pub ownNearest : List ℕ → ℕ → Bool
-unfolding basisIn reducedBy
-ownNearest finder w =
-    cond (isFinder finder)
-    (cond (eqb (kindIn finder) 1) (eqb (tableIn finder (w % 256)) w)
-    (eqb (leftIn finder w) 0))
-    true
+unfolding leftIn
+ownNearest finder w = cond (isFinder finder) (eqb (leftIn finder w) 0) true
+
+unfoldable pub slotOf : ℕ → ℕ
+slotOf left = bitXor left (left / 32) % 2048
+
+unfoldable pub firstSingle : List ℕ → ℕ → ℕ
+unfolding leftIn firstFailing
+firstSingle finder left = firstFailing (digitsIn finder) (λ b. not (eqb (leftIn finder (2 ^ b)) left))
+
+unfoldable pub singleIn : List ℕ → ℕ → ℕ
+unfolding firstSingle
+singleIn finder left =
+    cond (leb (listedIn finder) 64) 0 (cond (ltb (firstSingle finder left) (digitsIn finder)) (2 ^ firstSingle finder left) 0)
 
 unfoldable pub searchedIn : List ℕ → ℕ → ℕ
 unfolding searched wordIn
 searchedIn finder w = cond (leb (listedIn finder) 2048) (searched (wordIn finder) (listedIn finder) w) w
 
+unfoldable pub soughtIn : List ℕ → ℕ → ℕ → ℕ
+unfolding singleIn searchedIn
+soughtIn finder left w = cond (eqb (singleIn finder left) 0) (searchedIn finder w) (bitXor w (singleIn finder left))
+
 unfoldable pub foundWord : List ℕ → ℕ → ℕ
-unfolding searchedIn basisIn reducedBy
+unfolding leftIn slotOf soughtIn
 foundWord finder w =
+    let left = leftIn finder w in
+    let leader = leaderIn finder (slotOf left) in
     cond (isFinder finder)
-    (cond (eqb (kindIn finder) 1) (tableIn finder (w % 256))
-    (cond (eqb (leftIn finder w) 0) w
-    (cond (eqb (nameIn finder (leftIn finder w % 512)) (leftIn finder w)) (bitXor w (leaderIn finder (leftIn finder w % 512)))
-    (searchedIn finder w))))
+    (cond (eqb left 0) w
+    (cond (eqb (leftIn finder leader) left) (bitXor w leader)
+    (soughtIn finder left w)))
     w
 
 unfoldable pub foundFinder : List ℕ → ℕ → List ℕ
-unfolding searchedIn basisIn reducedBy
+unfolding leftIn slotOf soughtIn
 foundFinder finder w =
+    let left = leftIn finder w in
     cond (isFinder finder)
-    (cond (eqb (kindIn finder) 1) finder
-    (cond (eqb (leftIn finder w) 0) finder
-    (cond (eqb (nameIn finder (leftIn finder w % 512)) (leftIn finder w)) finder
-    (set (set finder (288 + 2 * (leftIn finder w % 512)) (leftIn finder w)) (288 + 2 * (leftIn finder w % 512) + 1) (bitXor w (searchedIn finder w))))))
+    (cond (eqb left 0) finder
+    (cond (eqb (leftIn finder (leaderIn finder (slotOf left))) left) finder
+    (cond (leb (2 ^ digitsIn finder) w) finder
+    (set finder (544 + slotOf left) (bitXor w (soughtIn finder left w))))))
     finder

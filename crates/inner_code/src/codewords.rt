@@ -32,7 +32,7 @@ pub fn list_codewords(sheet: &[u8], k: usize, words: &mut [u16]) -> usize
 }
 
 // Words 0 to count - 1 again, with `row` put on each, behind themselves.
-fn double(words: &mut [u16], count: usize, row: u16)
+pub(crate) fn double(words: &mut [u16], count: usize, row: u16)
     requires { ⌜ 2 * count ≤ length (now words) ⌝ }
     ensures { λ _. ⌜ now (words .exit) ≡ doubled count row count (now (words .entry)) ⌝ }
 {

@@ -2,80 +2,73 @@
 // `prepare_finder`, asked by `is_own_nearest` and `find_nearest`. A slice of any other length than FINDER_WORDS is no finder: nothing is
 // written there, and every word stays.
 use crate::codewords::MAX_CODEWORDS;
+use crate::codewords::double;
 use crate::codewords::list_codewords;
-use crate::house::HouseCode;
+use crate::membership::residue;
 use crate::nearest::Step;
 use crate::nearest::nearest_listed;
 use crate::nearest::put_on;
-ghost use mathlib.Core.Bool.{true, false};
 ghost use mathlib.Core.Path.{_≡_};
-ghost use Prim.Native.Nat.{_+_, _≤_, min};
+ghost use Prim.Native.Nat.{_-_, _≤_, min};
 ghost use lib.ListN.{length};
-ghost use Rattle.inner_code.specs.House.{houseSheet};
-ghost use Rattle.inner_code.specs.Reduction.{stepTo};
-ghost use Rattle.inner_code.specs.Finding.{Placed, Prepared, leftIn, ownNearest, searchedIn, foundWord, foundFinder};
+ghost use Rattle.inner_code.specs.Sheet.{degree};
+ghost use Rattle.inner_code.specs.Reduction.{stepTo, listed};
+ghost use Rattle.inner_code.specs.Finding.{powerLeft, Prepared, digitsIn, leftIn, ownNearest};
+ghost use Rattle.inner_code.specs.Finding.{singleIn, searchedIn, soughtIn, foundWord, foundFinder};
 
 // How many numbers of 16 bits a finder has. Its large parts begin at multiples of 32 numbers, which fill a cache line.
-pub const FINDER_WORDS: usize = 3360;
+pub const FINDER_WORDS: usize = 4640;
 
-// The head of three numbers: which way words are found, TABLED, or 0 for a search; k; and how many codewords are listed.
-const KIND: usize = 0;
+// The head of two numbers: how many codewords are listed, and d.
+const LISTED: usize = 0;
 
-const TABLED: u16 = 1;
+const DEGREE: usize = 1;
 
-const ROWS: usize = 1;
+// What the rows leave of the words below 256, and of 256 times a number below 256: of any word they leave the exclusive-or of what they
+// leave of its two halves.
+const LOW: usize = 32;
 
-const LISTED: usize = 2;
+const HIGH: usize = 288;
 
-// The 11 rows of the echelon form, zeros behind row k - 1.
-const BASIS: usize = 16;
+// One leader a slot: the nearest pattern of the words of its coset, which is its own nearest pattern too. 0 is one, so that no slot is empty.
+const LEADERS: usize = 544;
 
-// The 256 nearest words of the house code.
-const TABLE: usize = 32;
-
-// Slots of two numbers: what the rows leave of a coset's words, which names the coset, and the coset's leader.
-const LEADERS: usize = 288;
-
-const SLOTS: u16 = 512;
+const SLOTS: u16 = 2048;
 
 // The codewords, MAX_CODEWORDS at most.
-const WORDS: usize = 1312;
+const WORDS: usize = 2592;
 
-// Sets a finder of zeros up for an accepted sheet, its k and its echelon form, as `check_sheet` gives them: with the table of nearest words
-// for the house code's sheet, with the codewords of any other. No leader is kept yet: their names stay 0.
+// So few codewords are searched as quickly as the patterns of a single one are tried.
+const FEW: u16 = 64;
+
+// Sets a finder of zeros up for an accepted sheet, its k and its echelon form, as `check_sheet` gives them. No leader but 0 is kept yet.
 pub fn prepare_finder(sheet: &[u8], k: usize, basis: &[u16; 11], finder: &mut [u16])
     ensures { λ _. ⌜ Prepared (now (sheet .entry)) k (now (basis .entry)) (now (finder .entry)) (now (finder .exit)) ⌝ }
 {
     if finder.len() != FINDER_WORDS {
         return;
     }
-    if is_house(sheet) {
-        let table = HouseCode::nearest_words();
-        finder[KIND] = TABLED;
-        place_bytes(finder, TABLE, &table);
-        return;
-    }
+    let d = at_most_sixteen(degree_of(sheet));
+    tabulate(basis, k, 0, 8, &mut finder[LOW..HIGH]);
+    tabulate(basis, k, 8, above_eight(d), &mut finder[HIGH..LEADERS]);
     let count = list_codewords(sheet, k, &mut finder[WORDS..]);
-    finder[ROWS] = at_most_eleven(k) as u16;
     finder[LISTED] = count as u16;
-    place(finder, BASIS, basis);
+    finder[DEGREE] = d as u16;
 }
 
-// Whether a word is its own nearest word, which no search is needed for.
+// Whether a word is its own nearest word: exactly if the rows leave nothing of it.
 pub fn is_own_nearest(finder: &[u16], word: u16) -> bool
     ensures { λ r. ⌜ r ≡ ownNearest (now (finder .entry)) word ⌝ }
 {
     if finder.len() != FINDER_WORDS {
         return true;
     }
-    if finder[KIND] == TABLED {
-        return finder[TABLE + (word % 256) as usize] == word;
-    }
     left_of(finder, word) == 0
 }
 
-// The step to a word's nearest word: the table's, the word itself where the rows leave nothing of it, and else the nearest of the codewords.
-// What the rows leave of a word names its coset: the leader found for a coset is kept beside that name, so that most cosets are searched once.
+// The step to a word's nearest word: the word itself where the rows leave nothing of it, and else what its coset's leader leads to. The rows
+// leave the same of all words of a coset, so the leader kept in the slot is this coset's where they leave the same of it, and most cosets are
+// searched once. A word at or above 2^d is no word of the code, and nothing is kept for it.
 pub fn find_nearest(finder: &mut [u16], word: u16) -> Step
     ensures { λ r. ⌜ r ≡ stepTo word (foundWord (now (finder .entry)) word) ⌝ }
     ensures { λ _. ⌜ now (finder .exit) ≡ foundFinder (now (finder .entry)) word ⌝ }
@@ -83,44 +76,67 @@ pub fn find_nearest(finder: &mut [u16], word: u16) -> Step
     if finder.len() != FINDER_WORDS {
         return put_on(word, 0);
     }
-    if finder[KIND] == TABLED {
-        return put_on(word, word ^ finder[TABLE + (word % 256) as usize]);
-    }
     let left = left_of(finder, word);
     if left == 0 {
         return put_on(word, 0);
     }
-    let slot = LEADERS + 2 * (left % SLOTS) as usize;
-    if finder[slot] == left {
-        return put_on(word, finder[slot + 1]);
+    let slot = LEADERS + ((left ^ left / 32) % SLOTS) as usize;
+    let leader = finder[slot];
+    if left_of(finder, leader) == left {
+        return put_on(word, leader);
     }
-    let nearest = search(finder, word);
-    finder[slot] = left;
-    finder[slot + 1] = word ^ nearest.word;
-    nearest
+    let step = seek(finder, word, left);
+    if 1u32 << digits_in(finder) <= word as u32 {
+        return step;
+    }
+    finder[slot] = word ^ step.word;
+    step
 }
 
 // What the rows leave of a word.
 fn left_of(finder: &[u16], word: u16) -> u16
-    requires { ⌜ length (now finder) ≡ 3360 ⌝ }
+    requires { ⌜ length (now finder) ≡ 4640 ⌝ }
     ensures { λ r. ⌜ r ≡ leftIn (now (finder .entry)) word ⌝ }
 {
-    let rows = at_most_eleven(widened(finder[ROWS]));
-    let mut left = word;
-    let mut i = 0;
-    while i < rows {
-        let put = left ^ finder[BASIS + i];
-        if put < left {
-            left = put;
-        }
-        i += 1;
+    finder[LOW + (word % 256) as usize] ^ finder[HIGH + (word / 256) as usize]
+}
+
+// The step to the nearest word of a word, of which the rows leave `left`, where no leader is at hand.
+fn seek(finder: &[u16], word: u16, left: u16) -> Step
+    requires { ⌜ length (now finder) ≡ 4640 ⌝ }
+    ensures { λ r. ⌜ r ≡ stepTo word (soughtIn (now (finder .entry)) left word) ⌝ }
+{
+    let single = single_pattern(finder, left);
+    if single == 0 {
+        return search(finder, word);
     }
-    left
+    put_on(word, single)
+}
+
+// The smallest pattern of a single one, of d digits, of which the rows leave `left`. It is 0 where there is none, and where the codewords
+// are few, which are searched at once.
+fn single_pattern(finder: &[u16], left: u16) -> u16
+    requires { ⌜ length (now finder) ≡ 4640 ⌝ }
+    ensures { λ r. ⌜ r ≡ singleIn (now (finder .entry)) left ⌝ }
+{
+    if finder[LISTED] <= FEW {
+        return 0;
+    }
+    let digits = digits_in(finder);
+    let mut b = 0;
+    while b < digits {
+        let pattern = 1u16 << b;
+        if left_of(finder, pattern) == left {
+            return pattern;
+        }
+        b += 1;
+    }
+    0
 }
 
 // The step to the nearest of the codewords that are listed.
 fn search(finder: &[u16], word: u16) -> Step
-    requires { ⌜ length (now finder) ≡ 3360 ⌝ }
+    requires { ⌜ length (now finder) ≡ 4640 ⌝ }
     ensures { λ r. ⌜ r ≡ stepTo word (searchedIn (now (finder .entry)) word) ⌝ }
 {
     let count = widened(finder[LISTED]);
@@ -131,6 +147,14 @@ fn search(finder: &[u16], word: u16) -> Step
     nearest_listed(&finder[WORDS..end], word)
 }
 
+// The number of digits of a word, d: no word has more than sixteen.
+fn digits_in(finder: &[u16]) -> usize
+    requires { ⌜ length (now finder) ≡ 4640 ⌝ }
+    ensures { λ r. ⌜ r ≡ digitsIn (now (finder .entry)) ⌝ }
+{
+    at_most_sixteen(widened(finder[DEGREE]))
+}
+
 // A number of the finder as a count.
 fn widened(number: u16) -> usize
     ensures { λ r. ⌜ r ≡ number ⌝ }
@@ -138,55 +162,49 @@ fn widened(number: u16) -> usize
     number as usize
 }
 
-// The number of rows that count: no code has more than eleven.
-fn at_most_eleven(rows: usize) -> usize
-    ensures { λ r. ⌜ r ≡ min rows 11 ⌝ }
+// The number of digits that count.
+fn at_most_sixteen(digits: usize) -> usize
+    ensures { λ r. ⌜ r ≡ min digits 16 ⌝ }
 {
-    if rows < 11 {
-        return rows;
+    if digits < 16 {
+        return digits;
     }
-    11
+    16
 }
 
-// Whether a sheet is the house code's.
-fn is_house(sheet: &[u8]) -> bool
-    ensures { λ r. ⌜ (r ≡ true → now (sheet .entry) ≡ houseSheet) ⌝ }
-    ensures { λ r. ⌜ (r ≡ false → now (sheet .entry) ≡ houseSheet → ⊥) ⌝ }
+// How many digits a word has in its high half.
+fn above_eight(digits: usize) -> usize
+    ensures { λ r. ⌜ r ≡ digits - 8 ⌝ }
 {
-    if sheet.len() != 10 {
-        return false;
+    if digits < 8 {
+        return 0;
     }
-    let house = HouseCode::sheet();
-    let mut i = 0;
-    while i < 10 {
-        if sheet[i] != house[i] {
-            return false;
-        }
-        i += 1;
-    }
-    true
+    digits - 8
 }
 
-// Puts a part into the finder, from the place `start` on.
-fn place(finder: &mut [u16], start: usize, part: &[u16])
-    requires { ⌜ start + length (now part) ≤ length (now finder) ⌝ }
-    ensures { λ _. ⌜ Placed start (now (part .entry)) (now (finder .entry)) (now (finder .exit)) ⌝ }
+// A sheet's d, 0 where it is missing.
+fn degree_of(sheet: &[u8]) -> usize
+    ensures { λ r. ⌜ r ≡ degree (now (sheet .entry)) ⌝ }
 {
-    let mut i = 0;
-    while i < part.len() {
-        finder[start + i] = part[i];
-        i += 1;
+    if sheet.len() == 0 {
+        return 0;
     }
+    sheet[0] as usize
 }
 
-// The same for a part of bytes.
-fn place_bytes(finder: &mut [u16], start: usize, part: &[u8])
-    requires { ⌜ start + length (now part) ≤ length (now finder) ⌝ }
-    ensures { λ _. ⌜ Placed start (now (part .entry)) (now (finder .entry)) (now (finder .exit)) ⌝ }
+// Lists at the front of `table` what the rows leave of the numbers of so many digits, each times 2^from.
+fn tabulate(basis: &[u16; 11], k: usize, from: usize, digits: usize, table: &mut [u16])
+    requires { ⌜ 256 ≤ length (now table) ⌝ }
+    requires { ⌜ from ≤ 8 ⌝ }
+    requires { ⌜ digits ≤ 8 ⌝ }
+    ensures { λ _. ⌜ now (table .exit) ≡ listed (powerLeft (now (basis .entry)) k from) digits (now (table .entry)) ⌝ }
 {
-    let mut i = 0;
-    while i < part.len() {
-        finder[start + i] = part[i] as u16;
-        i += 1;
+    table[0] = 0;
+    let mut count: usize = 1;
+    let mut b = 0;
+    while b < digits {
+        double(table, count, residue(basis, k, 1u16 << (from + b)));
+        count = 2 * count;
+        b += 1;
     }
 }

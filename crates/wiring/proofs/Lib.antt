@@ -2,9 +2,11 @@ pub mod Permutation
 pub mod Edges
 pub mod Blocks
 pub mod VertexWords
+pub mod TurnedBits
 pub mod CodewordBlocks
 pub mod Plans
 pub mod SeenBits
+pub mod EdgeMarks
 pub mod VertexAccess
 pub mod Locating
 pub mod EdgeEnds

@@ -15,9 +15,9 @@
 -- entries below m, `edges-` about the number of edges, `count-` about a number of vertices, `wiring-` about the outcome of the whole check,
 -- `wired` about a wiring that passes it, `fitted-` about a side of it, `place-` and `bit-` about a bit and its entry, `side-` about either side. At the end of a name, `-lt` and `-le`
 -- are bounds, `-once` says that no two entries have one bit, `-passed` leads from a check to the facts and `-back` from the facts to the
--- check, `-tests` writes a check out.
+-- check, `-onto` begins with every edge standing somewhere, `-tests` writes a check out.
 use Prim.Native.Nat.{ℕ, zero, suc, _+_, _*_, _≤_, _<_}
-use mathlib.Core.Bool.{true, false, not, _||_, or-true}
+use mathlib.Core.Bool.{true, false, not, _||_, or-true, true≢false}
 use mathlib.Core.List.{List, []}
 use mathlib.Core.Logic.{⊎-elim}
 use mathlib.Core.Path.{_≡_, refl, sym, ap, _∙_}
@@ -40,7 +40,7 @@ use Rattle.wiring.specs.Wiring.{countFaulty, entryCheck, entriesCheck, w
 use Rattle.wiring.specs.Checking.{Fitted, Permuted, Wired, WiredPlan}
 use Rattle.wiring.specs.declared.side.SideName.{SideName}
 use lib.Arith.{digits-lt}
-use Rattle.bits.proofs.Searches.{none-below, none-below-each, first-at}
+use Rattle.bits.proofs.Searches.{none-below, none-below-each, first-at, first-failed, first-le, first-all-each}
 
 -- ---- the entries' check
 
@@ -107,6 +107,31 @@ pub entries-one-more : (N : ℕ) (edge : ℕ → ℕ) (i : ℕ) → entriesCheck
     → entriesCheck N edge (i + 1) ≡ done []
 unfolding entriesCheck
 entries-one-more N edge i e f = rw add-one (andThen-passed _ _ [] e ∙ f)
+
+-- where each of N edges stands at one of N entries, none stands at two and no other edge at any
+pub entries-onto : (N : ℕ) (edge : ℕ → ℕ) → ((e : ℕ) → e < N → (i : ℕ) × (i < N) × (edge i ≡ e)) → Entries N edge N
+entries-onto N edge onto =
+    record { entry-lt = λ i l. alone i l .0; entry-once = λ i j k l same. sym (alone i k .1) ∙ ap first same ∙ alone j l .1 }
+  where
+    first : ℕ → ℕ
+    first e = firstFailing N (λ i. not (eqb (edge i) e))
+
+    standing : (e : ℕ) → e < N → (first e < N) × (edge (first e) ≡ e)
+    standing e l =
+        let (i, k, q) = onto e l in
+        let low : first e < N =
+        ⊎-elim (λ (end : first e ≡ N). absurd (true≢false (sym (first-all-each N _ end i k) ∙ ap not (eq-eqb (edge i) e q))))
+        (λ (h : first e < N). h) (eq-or-lt-of-le (first-le N _)) in
+        (low, eqb-true _ _ (not-false _ (first-failed N _ low)))
+
+    -- two edges have not the same first entry, so the first entries are all N: each entry is the first of its edge
+    alone : (i : ℕ) → i < N → (edge i < N) × (first (edge i) ≡ i)
+    alone i l =
+        let apart : (a b : ℕ) → a < N → b < N → first a ≡ first b → a ≡ b =
+        λ a b k m q. sym (standing a k .1) ∙ ap edge q ∙ standing b m .1 in
+        let (e, k, q) = injective-onto N first (λ a k. standing a k .0) apart i l in
+        let is : edge i ≡ e = ap edge (sym q) ∙ standing e k .1 in
+        (rw is k, ap first is ∙ q)
 
 -- ---- the wiring's check
 

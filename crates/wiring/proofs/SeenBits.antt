@@ -3,8 +3,8 @@
 --   seenAfter edge i seen  the bits with those set whose edges stand among entries 0 .. i - 1 (specs Access)
 --   masks                  the weights of the bits of a byte, that of its first bit first
 --   entryCheck N edge i    entry i alone: its edge at or above N (9), else seen earlier (10) (specs Wiring)
--- Laws are named by their subject, then by the fact: `mask-` is about a byte and one weight, `seen-` about the bits, `entry-` about
--- the outcome of one entry: `-high` by 9, `-seen` by 10, `-fresh` by neither.
+-- Laws are named by their subject, then by the fact: `mask-` is about a byte and one weight, `zeros-` about a list of zeros, `seen-` about
+-- the bits, `entry-` about the outcome of one entry: `-high` by 9, `-seen` by 10, `-fresh` by neither.
 use Prim.Native.Nat.{ℕ, zero, suc, _+_, _-_, _*_, _/_, _%_, _^_, _≤_, _<_}
 use mathlib.Core.Bool.{Bool, true, false, _||_, or-true, or-false}
 use mathlib.Core.List.{List, [], _∷_}
@@ -54,16 +54,17 @@ mask-and x k =
 
 -- ---- the bits
 
+-- a list of zeros has 0 everywhere, past its end too
+pub zeros-at : (n k : ℕ) → getD {A = ℕ} (replicate n 0) k 0 ≡ 0
+zeros-at n k =
+    elim (decLe n k) [
+      | yes past ↦ List·getD-eq-default {A = ℕ} (replicate n 0) 0 {n = k} (omega (arith, length-replicate {A = ℕ} n 0))
+      | no inside ↦ getD-replicate {A = ℕ} n k 0 0 (omega arith)
+    ]
+
 seen-none : (e : ℕ) → bitAt noneSeen e ≡ 0
 unfolding bitAt noneSeen
-seen-none e = ap (λ (x : ℕ). digit x (7 - e % 8)) (element (e / 8)) ∙ digit-zero (7 - e % 8)
-  where
-    element : (k : ℕ) → getD {A = ℕ} (replicate 4096 0) k 0 ≡ 0
-    element k =
-        elim (decLe 4096 k) [
-          | yes past ↦ List·getD-eq-default {A = ℕ} (replicate 4096 0) 0 {n = k} (omega (arith, length-replicate {A = ℕ} 4096 0))
-          | no inside ↦ getD-replicate {A = ℕ} 4096 k 0 0 (omega arith)
-        ]
+seen-none e = ap (λ (x : ℕ). digit x (7 - e % 8)) (zeros-at 4096 (e / 8)) ∙ digit-zero (7 - e % 8)
 
 length-none : length noneSeen ≡ 4096
 unfolding noneSeen

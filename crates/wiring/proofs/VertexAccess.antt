@@ -1,15 +1,14 @@
--- The word of one vertex as the code reads and writes it: with tests for a vertex that is not inside, which an accepted wiring
+-- The word of one vertex as the code reads it: with tests for a vertex that is not inside, which an accepted wiring
 -- never needs.
 --   inside d wiring v                    vertex v has all its d entries in the wiring, and d and v are in their ranges (specs Access)
 --   wordFrom bit block base d            the word of d digits at the entries from `base` on (specs Access)
 --   readWord side wiring d block v       the word that vertex v of a side reads; 0 where it is not inside (specs Access)
---   writtenWord side wiring d v w block  the block with w put at the entries of vertex v; unchanged where it is not inside (specs Access)
---   vertexWord, withWord                 the same with no tests (specs Block)
+--   vertexWord side block v              the same with no tests (specs Block)
 --   Fitted d n wiring                    a side of an accepted plan: its ranges, and as many entries as the wiring has (specs Checking)
 --   sideBy sheet n wiring name           the side of these parts (specs Plan)
--- Laws are named by their subject, then by the fact: `inside-` and `outside-` are about the tests, `read-` and `write-` about the
--- two ways of access, `word-from-` about a word of which some digits are read. At the end of a name, `-inside` is a vertex of an
--- accepted plan, `-outside` one that the tests turn away, `-one-more` one more digit, `-last` the end of a loop over all digits.
+-- Laws are named by their subject, then by the fact: `inside-` and `outside-` are about the tests, `read-` about the
+-- word that is read, `word-from-` about a word of which some digits are read. At the end of a name, `-inside` is a vertex of an
+-- accepted plan, `-outside` one that the tests turn away, `-one-more` one more digit.
 use Prim.Native.Nat.{ℕ, _+_, _*_, _≤_, _<_, min}
 use mathlib.Core.Bool.{true, false, and-false}
 use mathlib.Core.List.{List}
@@ -26,8 +25,8 @@ use Rattle.bits.proofs.Words.{word-lt, word-one-more}
 use Rattle.bits.proofs.Bytes.{bitAt-lt}
 use Rattle.inner_code.specs.Sheet.{degree}
 use Rattle.wiring.specs.Plan.{edgeOf, left, right, sideBit, sideBy}
-use Rattle.wiring.specs.Block.{vertexWord, scattered, withWord}
-use Rattle.wiring.specs.Access.{inside, wordFrom, readWord, writtenWord}
+use Rattle.wiring.specs.Block.{vertexWord}
+use Rattle.wiring.specs.Access.{inside, wordFrom, readWord}
 use Rattle.wiring.specs.Checking.{Fitted}
 use Rattle.wiring.specs.declared.side.SideName.{SideName}
 use Rattle.wiring.proofs.Permutation.{fitted-vertex}
@@ -89,22 +88,6 @@ module _ (side : SideName) (wiring : List ℕ) (d : ℕ) where
   unfolding readWord
   read-all block v e = rw e
 
-  -- ---- writing
-
-  pub write-outside : (v w : ℕ) (block : List ℕ) → inside d wiring v ≡ false → writtenWord side wiring d v w block ≡ block
-  unfolding writtenWord
-  write-outside v w block e = rw e
-
-  pub write-all : (v w : ℕ) (block : List ℕ) → inside d wiring v ≡ true
-      → writtenWord side wiring d v w block ≡ scattered (sideBit side wiring) d (v * d) w d block
-  unfolding writtenWord
-  write-all v w block e = rw e
-
-  pub write-last : (v w : ℕ) (block : List ℕ) (j : ℕ) (so-far : List ℕ) → inside d wiring v ≡ true
-      → so-far ≡ scattered (sideBit side wiring) d (v * d) w j block → j ≡ d → so-far ≡ writtenWord side wiring d v w block
-  write-last v w block j so-far e s last =
-      s ∙ ap (λ (m : ℕ). scattered (sideBit side wiring) d (v * d) w m block) last ∙ sym (write-all v w block e)
-
 -- ---- a side that fits
 
 module _ (sheet : List ℕ) {n : ℕ} {wiring : List ℕ} (f : Fitted (degree sheet) n wiring) (name : SideName) where
@@ -115,7 +98,3 @@ module _ (sheet : List ℕ) {n : ℕ} {wiring : List ℕ} (f : Fitted (degree sh
       → readWord name wiring (degree sheet) block v ≡ vertexWord (sideBy sheet n wiring name) block v
   unfolding vertexWord wordFrom
   read-inside block v l = read-all name wiring _ block v (inside-fitted v l)
-
-  pub write-inside : (v x : ℕ) (block : List ℕ) → v < n
-      → writtenWord name wiring (degree sheet) v x block ≡ withWord (sideBy sheet n wiring name) v x block
-  write-inside v x block l = write-all name wiring _ v x block (inside-fitted v l)

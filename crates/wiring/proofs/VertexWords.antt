@@ -7,12 +7,11 @@
 --   digit w j                     the binary digit of weight 2^j of the number w (bits specs Bit)
 -- Laws are named by their subject, then by the fact: `vertex-` is about one word that is read, `scattered-` about digits that are
 -- written, `withWord-` about a word that is, `flips-` about the bits in which all words of a side differ. At the end of a name, `-lt` is a bound, `-ext` equality
--- from the bits, `-same` and `-other` what is written to and what is not, `-fixed` a write of what stands there, `-one-more` and `-step` one
--- more digit.
+-- from the bits, `-same` and `-other` what is written to and what is not, `-fixed` a write of what stands there, `-one-more` one more digit.
 use Prim.Native.Nat.{ℕ, zero, suc, _+_, _-_, _*_, _/_, _^_, _≤_, _<_}
 use mathlib.Core.List.{List}
 use mathlib.Core.Logic.{_≢_, ⊎-elim}
-use mathlib.Core.Path.{_≡_, refl, sym, ap, ap₂, _∙_}
+use mathlib.Core.Path.{_≡_, refl, sym, ap, _∙_}
 use native.Mathlib.Omega.{arith}
 use native.Mathlib.Nat.{le-trans, le-step, lt-suc-self, not-suc-le-zero, eq-or-lt-of-le, le-of-suc-le-suc, ne-of-lt}
 use native.Mathlib.Numerals.{add-one}
@@ -67,12 +66,6 @@ module _ (bit : ℕ → ℕ) (d at w : ℕ) where
       → scattered bit d at w (m + 1) block ≡ withBit (scattered bit d at w m block) (bit (at + m)) (digit w (d - 1 - m))
   unfolding scattered
   scattered-one-more m block = rw add-one
-
-  -- the same as a loop makes it: from the block so far, by a write to the bit e
-  pub scattered-step : (m e : ℕ) (block so-far after : List ℕ) → so-far ≡ scattered bit d at w m block → e ≡ bit (at + m)
-      → after ≡ withBit so-far e (digit w (d - 1 - m)) → after ≡ scattered bit d at w (m + 1) block
-  scattered-step m e block so-far after s p r =
-      r ∙ ap₂ (λ (l : List ℕ) (i : ℕ). withBit l i (digit w (d - 1 - m))) s p ∙ sym (scattered-one-more m block)
 
   pub length-scattered : (m : ℕ) (block : List ℕ) → length (scattered bit d at w m block) ≡ length block
   unfolding scattered

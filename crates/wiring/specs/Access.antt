@@ -1,26 +1,28 @@
--- How the code reads, writes and tests the word of one vertex, and marks the edges it has seen: none of this is needed to believe a
--- contract of a service.
+-- How the code reads and tests the word of one vertex, and marks the edges it has seen: none of this is needed to believe a contract of a
+-- service.
 --   inside d wiring v                     vertex v has all its d entries in the wiring, and d and v are in their ranges
 --   wordFrom bit block base d             the word of d digits at the entries from `base` on
 --   readWord side wiring d block v        the word that vertex v of a side reads; 0 where it is not inside
---   writtenWord side wiring d v w block   the block with w put at the entries of vertex v; unchanged where it is not inside
 --   bothCodes left right name             the sides as the code holds them, by name
 --   satisfiedBy code side wiring block v  the code's test of vertex v: the first k rows of the basis leave nothing of its word
 --   unsatisfiedBy code side wiring m block  the first of m vertices of a side that fails it, m where all pass
 --   locatedBy codes wiring block          no value, or the side (0 left, 1 right) and the first vertex that fails it
 --   noneSeen                              one bit for each edge, none set
 --   seenAfter edge i seen                 the bits with those set whose edges stand among entries 0 .. i - 1
+--   noneMarked n                          n bytes, all 0
+--   markedAfter mask edge i marks         the bytes with 1 for each edge that stands among entries 0 .. i - 1, at the number that those of
+--                                         its binary digits make that the mask has too
 use Prim.Native.Nat.{ℕ, zero, suc, _+_, _*_, min}
 use mathlib.Core.List.{List, [], _∷_}
 use mathlib.Core.Bool.{Bool, cond, _&&_}
-use lib.ListN.{length, replicate}
+use lib.Bits.{bitAnd}
+use lib.ListN.{length, replicate, set}
 use lib.Dec.{ltb, leb, eqb}
 use Rattle.bits.specs.Window.{at}
 use Rattle.bits.specs.Bit.{word, bitAt, withBit}
 use Rattle.bits.specs.Search.{firstFailing}
 use Rattle.inner_code.specs.Reduction.{reducedBy}
 use Rattle.wiring.specs.Plan.{left, right, sideBit}
-use Rattle.wiring.specs.Block.{scattered}
 use Rattle.wiring.specs.declared.side.SideCode.{SideCode}
 use Rattle.wiring.specs.declared.side.SideName.{SideName}
 
@@ -34,10 +36,6 @@ wordFrom bit block base d = word d (λ j. bitAt block (bit (base + j)))
 unfoldable pub readWord : SideName → List ℕ → ℕ → List ℕ → ℕ → ℕ
 unfolding inside wordFrom sideBit
 readWord side wiring d block v = cond (inside d wiring v) (wordFrom (sideBit side wiring) block (v * d) d) 0
-
-unfoldable pub writtenWord : SideName → List ℕ → ℕ → ℕ → ℕ → List ℕ → List ℕ
-unfolding inside scattered sideBit
-writtenWord side wiring d v w block = cond (inside d wiring v) (scattered (sideBit side wiring) d (v * d) w d block) block
 
 abbrev pub bothCodes : SideCode → SideCode → SideName → SideCode
 bothCodes l r SideName.Left = l
@@ -65,3 +63,10 @@ unfoldable pub seenAfter : (ℕ → ℕ) → ℕ → List ℕ → List ℕ
 unfolding withBit
 seenAfter edge zero seen = seen
 seenAfter edge (suc i) seen = withBit (seenAfter edge i seen) (edge i) 1
+
+unfoldable pub noneMarked : ℕ → List ℕ
+noneMarked n = replicate n 0
+
+unfoldable pub markedAfter : ℕ → (ℕ → ℕ) → ℕ → List ℕ → List ℕ
+markedAfter mask edge zero marks = marks
+markedAfter mask edge (suc i) marks = set (markedAfter mask edge i marks) (bitAnd (edge i) mask) 1

@@ -1,12 +1,12 @@
-// The word of one vertex, read from a block and written back, on either side by one path.
+// The word of one vertex, read from a block, on either side.
 use crate::plan::MAX_VERTICES;
 use crate::side::SideName;
 use inner_code::MAX_DEGREE;
 ghost use mathlib.Core.Path.{_≡_};
 ghost use Prim.Native.Nat.{_+_, _*_, _≤_, _<_};
 ghost use lib.ListN.{length};
-ghost use Rattle.wiring.specs.Plan.{edgeOf, sideBit};
-ghost use Rattle.wiring.specs.Access.{wordFrom, readWord, writtenWord};
+ghost use Rattle.wiring.specs.Plan.{edgeOf};
+ghost use Rattle.wiring.specs.Access.{wordFrom, readWord};
 
 // The word that vertex v of a side reads, its first edge of the highest weight; 0 for a vertex whose d entries are not all in the
 // wiring, a v of 2,048 or more or a d above 16. A left vertex's bits stand in a row and are read at once.
@@ -42,42 +42,6 @@ fn gathered(wiring: &[u8], base: usize, d: usize, block: &[u8]) -> u16
         j += 1;
     }
     word as u16
-}
-
-// Puts a word at the entries of vertex v, its highest of d digits first; nothing changes where `read_word` would answer 0.
-pub fn write_word(side: SideName, wiring: &[u8], d: usize, v: usize, word: u16, block: &mut [u8])
-    ensures { λ _. ⌜ now (block .exit) ≡ writtenWord side (now (wiring .entry)) d v word (now (block .entry)) ⌝ }
-{
-    if MAX_DEGREE < d {
-        return;
-    }
-    if MAX_VERTICES <= v {
-        return;
-    }
-    let base = v * d;
-    if wiring.len() < 2 * (base + d) {
-        return;
-    }
-    let mut j = 0;
-    while j < d {
-        bits::put_bit(
-            block,
-            bit_of(side, wiring, base + j),
-            (word >> (d - 1 - j)) as u64,
-        );
-        j += 1;
-    }
-}
-
-// The bit of the block at entry i of a side.
-fn bit_of(side: SideName, wiring: &[u8], i: usize) -> usize
-    requires { ⌜ 2 * i + 1 < length (now wiring) ⌝ }
-    ensures { λ r. ⌜ r ≡ sideBit side (now (wiring .entry)) i ⌝ }
-{
-    match side {
-        SideName::Left => i,
-        SideName::Right => edge_at(wiring, i),
-    }
 }
 
 // Entry i of the wiring: the edge that stands there.

@@ -8,7 +8,6 @@ mod plan;
 mod side;
 
 pub use access::read_word;
-pub use access::write_word;
 pub use block::Checked;
 pub use block::check_bits;
 pub use block::check_block;

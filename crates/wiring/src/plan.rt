@@ -6,11 +6,15 @@ use inner_code::CheckedSheet;
 use inner_code::Refusal;
 use inner_code::Sheet;
 use inner_code::refusal;
+ghost use mathlib.Core.Bool.{true};
+ghost use mathlib.Core.List.{[]};
 ghost use mathlib.Core.Path.{_≡_};
-ghost use Prim.Native.Nat.{_*_, _≤_};
+ghost use Prim.Native.Nat.{ℕ, _+_, _*_, _^_, _≤_};
 ghost use lib.ListN.{length};
+ghost use Rattle.inner_code.specs.Reply.{done};
 ghost use Rattle.inner_code.specs.Checking.{SheetChecked};
 ghost use Rattle.wiring.specs.Plan.{planOf, edgeOf};
+ghost use Rattle.wiring.specs.Access.{noneMarked};
 ghost use Rattle.wiring.specs.Wiring.{countFaulty, entriesCheck, wiringCheck};
 ghost use Rattle.wiring.specs.Checking.{PlanChecked, checkReply, refusedPlan};
 
@@ -19,6 +23,9 @@ pub const MAX_VERTICES: usize = 2048;
 
 // The most edges of a plan.
 pub(crate) const MAX_EDGES: usize = MAX_VERTICES * inner_code::MAX_DEGREE;
+
+// A plan with no more edges than this is checked by so many bytes: to clear one for each of MAX_EDGES would cost it more than all else.
+const FEW_EDGES: usize = 1024;
 
 // A checked plan: that it is accepted, with its sides, or its refusal. With a refusal both sides are 0.
 pub struct CheckedPlan {
@@ -142,12 +149,16 @@ fn is_count_faulty(n: usize) -> bool
     MAX_VERTICES < n
 }
 
-// Entries in order, each by 9 and then 10. One bit for each edge tells whether it has stood before.
+// Entries in order, each by 9 and then 10. One bit for each edge tells whether it has stood before. All entries are first passed over
+// with no test at each: an accepted wiring ends there.
 fn check_entries(edges: usize, wiring: &[u8]) -> Checked
     requires { ⌜ edges ≤ 32768 ⌝ }
     requires { ⌜ length (now wiring) ≡ 2 * edges ⌝ }
     ensures { λ r. ⌜ checkReply r ≡ entriesCheck edges (edgeOf (now (wiring .entry))) edges ⌝ }
 {
+    if all_stand(edges, wiring) {
+        return Checked::Passed;
+    }
     let mask: [u8; 8] = [128, 64, 32, 16, 8, 4, 2, 1];
     let mut seen = [0u8; 4096];
     let mut i = 0;
@@ -173,4 +184,53 @@ fn check_entries(edges: usize, wiring: &[u8]) -> Checked
         i += 1;
     }
     Checked::Passed
+}
+
+// True only if every edge below `edges` stands at an entry, by as many bytes as the plan asks for.
+fn all_stand(edges: usize, wiring: &[u8]) -> bool
+    requires { ⌜ edges ≤ 32768 ⌝ }
+    requires { ⌜ length (now wiring) ≡ 2 * edges ⌝ }
+    ensures { λ r. ⌜ (r ≡ true → entriesCheck edges (edgeOf (now (wiring .entry))) edges ≡ done []) ⌝ }
+{
+    if edges <= FEW_EDGES {
+        let mut marks = [0u8; FEW_EDGES];
+        return every_edge_stands(edges, wiring, FEW_EDGES - 1, &mut marks);
+    }
+    let mut marks = [0u8; MAX_EDGES];
+    every_edge_stands(edges, wiring, MAX_EDGES - 1, &mut marks)
+}
+
+// True only if every edge below `edges` stands at an entry: then each stands at one and there is no other, since there are as many
+// entries as edges. One byte for each edge tells it. The mask is one less than the number of bytes, a power of two: an edge past them
+// marks the byte of its low digits and shows in `digits`, the binary digits of all edges. Unlike their maximum these take one step an
+// entry, and so does the mask, where a remainder by a size that is not written here would be a division. No loop ends early, so that
+// loads and stores overlap.
+fn every_edge_stands(edges: usize, wiring: &[u8], mask: usize, marks: &mut [u8]) -> bool
+    requires { ⌜ edges ≤ mask + 1 ⌝ }
+    requires { ⌜ length (now wiring) ≡ 2 * edges ⌝ }
+    requires { ⌜ ((k : ℕ) × (mask + 1 ≡ 2 ^ k)) ⌝ }
+    requires { ⌜ now marks ≡ noneMarked (mask + 1) ⌝ }
+    ensures { λ r. ⌜ (r ≡ true → entriesCheck edges (edgeOf (now (wiring .entry))) edges ≡ done []) ⌝ }
+{
+    let mut digits = 0;
+    let mut i = 0;
+    while i < edges {
+        let edge = edge_at(wiring, i);
+        digits = digits | edge;
+        marks[edge & mask] = 1;
+        i += 1;
+    }
+    if mask < digits {
+        return false;
+    }
+    let mut least = 1u8;
+    let mut e = 0;
+    while e < edges {
+        let mark = marks[e];
+        if mark < least {
+            least = mark;
+        }
+        e += 1;
+    }
+    least == 1
 }

@@ -1,4 +1,5 @@
--- `decoder::decode_checked` meets its contract: each finder is prepared for its side's sheet, and one for both where the sheets are the same.
+-- `decoder::decode_checked` meets its contract: a block of few bits that is a codeword is copied; for any other block each finder is prepared for
+-- its side's sheet, and one for both where the sheets are the same.
 use mathlib.Core.List.{List, []}
 use mathlib.Core.Path.{_≡_, refl, ap}
 use Prim.Native.Nat.{ℕ}
@@ -16,14 +17,14 @@ use Rattle.wiring.specs.Checking.{codeOf}
 use Rattle.wiring.specs.declared.side.SideCode.{SideCode}
 use Rattle.wiring.specs.declared.side.SideName.{SideName}
 use Rattle.wiring.proofs.Plans.{plan-sound}
-use Rattle.decoder.proofs.Copies.{check-means}
+use Rattle.decoder.proofs.Copies.{check-means, copy-codeword}
 use Rattle.decoder.proofs.decoding.decode_checked.Statement.{statement}
 use Rattle.decoder.proofs.decoding.decode_checked.Tie as tie
 
 -- ---- a finder that is prepared for a side finds its nearest words
 
 prepared : (plan : Plan) → planCheck plan ≡ done [] → (name : SideName) (code : SideCode) → code ≡ codeOf plan name
-    → {before after : List ℕ} → Prepared (sheetOf plan name) (code .k) (code .basis) before after → before ≡ replicate 3360 0
+    → {before after : List ℕ} → Prepared (sheetOf plan name) (code .k) (code .basis) before after → before ≡ replicate 4640 0
     → Finds (sheetOf plan name) after
 prepared plan accepted name code held p zeros =
     prepared-finds (sheetOf plan name) (code .k) p zeros (sound-accepted (sheetOf plan name) (plan-sound plan accepted .0 name))
@@ -35,8 +36,29 @@ planIn c = planOf (now (c .args .left)) (now (c .args .right)) (c .args .nl) (c 
 accepted : (c : tie.Start) → planCheck (planIn c) ≡ done []
 accepted c = check-means _ _ _ _ (c .pre .1 .1) .plan-done
 
+is-small-codeword-requires : tie.Need-is-small-codeword-requires
+is-small-codeword-requires c κs = search needs
+
+-- ---- a block of few bits that is a codeword
+
+copy-front-requires : tie.Need-copy-front-requires
+copy-front-requires c κs = check-means _ _ _ _ (c .before .before .before .before .before .before .before .before .pre .1 .1) .room
+
+same-length : tie.Need-same-length
+same-length c = search needs
+
+returns : tie.Need-returns
+returns c =
+    let copied = c .before .before in
+    let small = copied .before .before in
+    let s = c .before .before .before .before .before .before .before .before .before .before .before in
+    copy-codeword (planIn s) _ _ _ (s .pre .1 .1) (s .args .left-code) (s .args .right-code) (s .pre .0) (s .pre .1 .0)
+    (small .before .is-small-codeword .ensures (small .if1 .taken)) (copied .copy-front .ensures)
+
+-- ---- any other
+
 abbrev start : tie.After-prepare-finder → tie.Start
-start c = c .before .before .before .before .before .before .before .before .before
+start c = c .before .before .before .before .before .before .before .before .before .before .before
 
 left-finds : (c : tie.After-prepare-finder) → Finds (now (start c .args .left)) (c .prepare-finder .last .1 .1 .1 .0)
 left-finds c =
@@ -66,16 +88,16 @@ decode-copy-requires c κs =
         plan-done = accepted s;
         left-finds = left-finds first;
         right-finds = λ some. absurd (some refl);
-        shared = λ _. c .before .before .before .before .same .ensures .0 (c .before .before .before .if1 .taken);
+        shared = λ _. c .before .before .before .before .same .ensures .0 (c .before .before .before .if2 .taken);
       },
       s .pre .1 .1,
     )
 
-same-length : tie.Need-same-length
-same-length c = search needs
+same-length-2 : tie.Need-same-length-2
+same-length-2 c = search needs
 
-returns : tie.Need-returns
-returns c = search needs
+returns-2 : tie.Need-returns-2
+returns-2 c = search needs
 
 slice-aggregate-prepare-finder-2 : tie.Need-slice-aggregate-prepare-finder-2
 slice-aggregate-prepare-finder-2 c = search needs
@@ -104,28 +126,32 @@ decode-copy-requires-2 c κs =
       s .pre .1 .1,
     )
 
-same-length-2 : tie.Need-same-length-2
-same-length-2 c = search needs
+same-length-3 : tie.Need-same-length-3
+same-length-3 c = search needs
 
-returns-2 : tie.Need-returns-2
-returns-2 c = search needs
+returns-3 : tie.Need-returns-3
+returns-3 c = search needs
 
 pub decode-checked-spec : {M : Type 1} → statement M
 decode-checked-spec =
     tie.close
     (tie.spec
+    is-small-codeword-requires
+    copy-front-requires
+    same-length
+    returns
     slice-aggregate-prepare-finder
     prepare-finder-requires
     same-requires
     slice-aggregate-decode-copy
     slice-aggregate-decode-copy-2
     decode-copy-requires
-    same-length
-    returns
+    same-length-2
+    returns-2
     slice-aggregate-prepare-finder-2
     prepare-finder-requires-2
     slice-aggregate-decode-copy-3
     slice-aggregate-decode-copy-4
     decode-copy-requires-2
-    same-length-2
-    returns-2)
+    same-length-3
+    returns-3)

@@ -1,56 +1,53 @@
--- `inner_code::prepare_finder` meets its contract: the table is put in for the house code's sheet, and for any other the parts of a search.
-use mathlib.Core.Path.{_≡_, refl, _∙_}
+-- `inner_code::prepare_finder` meets its contract: the tables and the codewords are lent out as parts and come back filled.
+use mathlib.Core.Path.{_≡_, ap, _∙_}
 use mathlib.Core.List.{List, _++_}
-use mathlib.Core.Logic.{inl, inr}
-use Prim.Native.Nat.{ℕ, _-_, _≤_}
+use Prim.Native.Nat.{ℕ, _+_, _-_, _≤_, min}
 use native.Mathlib.Omega.{arith}
 use borrow.Author.Needs.{needs}
 use denote.Ref.{now}
 use lib.ListN.{length, take, drop, length-set, length-drop}
-use lib.Seq.{take-all, length-take-le}
-use Rattle.inner_code.specs.Finding.{Placed}
+use lib.Seq.{length-take-le}
+use Rattle.inner_code.specs.Finding.{Placed, powerLeft}
 use Rattle.inner_code.proofs.Listings.{lists-few}
-use Rattle.inner_code.proofs.Finding.{placed-back}
+use Rattle.inner_code.proofs.Finding.{placed-back, Tabulates, tabulates-listed, filled-parts}
 use Rattle.inner_code.proofs.finder.prepare_finder.Statement.{statement}
 use Rattle.inner_code.proofs.finder.prepare_finder.Tie as tie
 
 returns : tie.Need-returns
-returns c = record { finder = λ size. absurd (c .if1 .taken size); none = λ other. refl }
+returns c = search needs
 
-is-house-requires : tie.Need-is-house-requires
-is-house-requires c κs = search needs
+degree-of-requires : tie.Need-degree-of-requires
+degree-of-requires c κs = search needs
 
-nearest-words-requires : tie.Need-nearest-words-requires
-nearest-words-requires c κs = search needs
+at-most-sixteen-requires : tie.Need-at-most-sixteen-requires
+at-most-sixteen-requires c κs = search needs
 
-slice-write-finder : tie.Need-slice-write-finder
-slice-write-finder c = search needs
+sub-tabulate : tie.Need-sub-tabulate
+sub-tabulate c = search needs
 
-slice-aggregate-place-bytes : tie.Need-slice-aggregate-place-bytes
-slice-aggregate-place-bytes c = search needs
+part-tabulate-start : tie.Need-part-tabulate-start
+part-tabulate-start c = search needs
 
--- the call, from where the sheet is compared with the house one
-abbrev asked : tie.After-is-house → tie.Start
-asked c = c .before .before .before .before
+part-tabulate-end : tie.Need-part-tabulate-end
+part-tabulate-end c = search needs
 
-place-bytes-requires : tie.Need-place-bytes-requires
-place-bytes-requires c κs = simp length-set (omega arith)
+tabulate-requires : tie.Need-tabulate-requires
+tabulate-requires c κs = search needs
 
-same-length : tie.Need-same-length
-same-length c = c .before .before .place-bytes .ensures .sized ∙ simp length-set
+above-eight-requires : tie.Need-above-eight-requires
+above-eight-requires c κs = search needs
 
-returns-2 : tie.Need-returns-2
-returns-2 c =
-    let placed = c .before .before in
-    let named = placed .before .before .before in
-    let housed = named .before .before in
-    record {
-      finder = λ size. inl (
-        housed .is-house .ensures .0 (named .before .if2 .taken),
-        record { table = _; house = named .nearest-words .ensures; placed = placed .place-bytes .ensures },
-      );
-      none = λ other. absurd (other (housed .before .if1 .left));
-    }
+sub-tabulate-2 : tie.Need-sub-tabulate-2
+sub-tabulate-2 c = search needs
+
+part-tabulate-start-2 : tie.Need-part-tabulate-start-2
+part-tabulate-start-2 c = search needs
+
+part-tabulate-end-2 : tie.Need-part-tabulate-end-2
+part-tabulate-end-2 c = search needs
+
+tabulate-requires-2 : tie.Need-tabulate-requires-2
+tabulate-requires-2 c κs = search needs
 
 sub-list-codewords : tie.Need-sub-list-codewords
 sub-list-codewords c = search needs
@@ -64,76 +61,117 @@ part-list-codewords-end c = search needs
 list-codewords-requires : tie.Need-list-codewords-requires
 list-codewords-requires c κs = search needs
 
--- ---- from the listed codewords on
+-- ---- the three parts, one after the other
 
-abbrev start : tie.After-list-codewords → tie.Start
-start c = asked (c .before .before .before)
+part-sized : (start size : ℕ) (l : List ℕ) → start + size ≤ length l → length (take size (drop start l)) ≡ size
+part-sized start size l room = length-take-le size (drop start l) (omega (arith, length-drop start l))
 
--- the finder's last part has room for every code
-part-sized : (finder : List ℕ) → length finder ≡ 3360 → length (take (length finder - 1312) (drop 1312 finder)) ≡ 2048
-part-sized finder size = omega (arith, length-take-le (length finder - 1312) (drop 1312 finder) (omega (arith, length-drop 1312 finder)))
+abbrev start : tie.After-tabulate → tie.Start
+start c = c .before .before .before .before .before .before .before
 
-part-whole : (finder : List ℕ) → take (length finder - 1312) (drop 1312 finder) ≡ drop 1312 finder
-part-whole finder = take-all (length finder - 1312) (drop 1312 finder) (omega (arith, length-drop 1312 finder))
+-- d, from where the first table is filled
+abbrev degreed : tie.After-tabulate → tie.After-at-most-sixteen
+degreed c = c .before .before
 
-few : (c : tie.After-list-codewords) → c .list-codewords .result ≤ 2048
-few c = lists-few _ _ (c .list-codewords .ensures) (omega (arith, part-sized (now (start c .args .finder)) (omega arith)))
+abbrev low : tie.After-tabulate → List ℕ
+low c =
+    let l = now (start c .args .finder) in
+    take 32 l ++ (c .tabulate .last .1 .1 .1 .1 .0 ++ drop 256 (drop 32 l))
 
--- the list that the codewords are back in
-abbrev back : tie.After-list-codewords → List ℕ
-back c =
-    let finder = now (start c .args .finder) in
-    take 1312 finder ++ (c .list-codewords .last .1 .1 .0 ++ drop (length finder - 1312) (drop 1312 finder))
+low-placed : (c : tie.After-tabulate) → Placed 32 (c .tabulate .last .1 .1 .1 .1 .0) (now (start c .args .finder)) (low c)
+low-placed c =
+    let l = now (start c .args .finder) in
+    placed-back 32 256 _ l (omega arith) (c .tabulate .kept .1 .1 .1 .1 .0 ∙ part-sized 32 256 l (omega arith))
 
-placed : (c : tie.After-list-codewords) → Placed 1312 (c .list-codewords .last .1 .1 .0) (now (start c .args .finder)) (back c)
-placed c =
-    let finder = now (start c .args .finder) in
-    placed-back 1312 (length finder - 1312) _ finder (omega arith)
-    (omega (arith, c .list-codewords .kept .1 .1 .0, part-sized finder (omega arith)))
+abbrev first : tie.After-tabulate2 → tie.After-tabulate
+first c = c .before .before .before .before .before
 
-at-most-eleven-requires : tie.Need-at-most-eleven-requires
-at-most-eleven-requires c κs = search needs
+abbrev high : tie.After-tabulate2 → List ℕ
+high c =
+    let l = low (first c) in
+    take 288 l ++ (c .tabulate2 .last .1 .1 .1 .1 .0 ++ drop 256 (drop 288 l))
+
+high-placed : (c : tie.After-tabulate2) → Placed 288 (c .tabulate2 .last .1 .1 .1 .1 .0) (low (first c)) (high c)
+high-placed c =
+    let l = low (first c) in
+    let room : 544 ≤ length l = omega (arith, low-placed (first c) .sized) in
+    placed-back 288 256 _ l room (c .tabulate2 .kept .1 .1 .1 .1 .0 ∙ part-sized 288 256 l room)
+
+low-tabulates : (c : tie.After-tabulate)
+    → Tabulates (powerLeft (now (start c .args .basis)) (start c .args .k) 0) 8 (c .tabulate .last .1 .1 .1 .1 .0)
+low-tabulates c =
+    tabulates-listed _ 8 _ (omega arith) (part-sized 32 256 (now (start c .args .finder)) (omega arith)) (c .tabulate .ensures)
+
+-- how many digits the high halves have, from where their table is filled
+abbrev halved : tie.After-tabulate2 → tie.After-above-eight
+halved c = c .before .before
+
+high-tabulates : (c : tie.After-tabulate2)
+    → Tabulates (powerLeft (now (start (first c) .args .basis)) (start (first c) .args .k) 8) (degreed (first c) .at-most-sixteen .result - 8)
+    (c .tabulate2 .last .1 .1 .1 .1 .0)
+high-tabulates c =
+    let digits = halved c .above-eight .ensures in
+    rw digits at (tabulates-listed _ (halved c .above-eight .result) _ (omega (arith, digits, degreed (first c) .at-most-sixteen .ensures))
+    (part-sized 288 256 (low (first c)) (omega (arith, low-placed (first c) .sized))) (c .tabulate2 .ensures))
+
+abbrev second : tie.After-list-codewords → tie.After-tabulate2
+second c = c .before .before .before .before
+
+abbrev call : tie.After-list-codewords → tie.Start
+call c = start (first (second c))
+
+high-sized : (c : tie.After-list-codewords) → length (high (second c)) ≡ 4640
+high-sized c = high-placed (second c) .sized ∙ low-placed (first (second c)) .sized ∙ omega arith
+
+abbrev words : tie.After-list-codewords → List ℕ
+words c =
+    let l = high (second c) in
+    take 2592 l ++ (c .list-codewords .last .1 .1 .0 ++ drop (length l - 2592) (drop 2592 l))
+
+part : (c : tie.After-list-codewords) → length (take (length (high (second c)) - 2592) (drop 2592 (high (second c)))) ≡ 2048
+part c =
+    let l = high (second c) in
+    part-sized 2592 (length l - 2592) l (omega (arith, high-sized c)) ∙ omega (arith, high-sized c)
+
+words-placed : (c : tie.After-list-codewords) → Placed 2592 (c .list-codewords .last .1 .1 .0) (high (second c)) (words c)
+words-placed c =
+    let l = high (second c) in
+    placed-back 2592 (length l - 2592) _ l (omega (arith, high-sized c))
+    (c .list-codewords .kept .1 .1 .0 ∙ part-sized 2592 (length l - 2592) l (omega (arith, high-sized c)))
+
+words-sized : (c : tie.After-list-codewords) → length (words c) ≡ length (now (call c .args .finder))
+words-sized c = words-placed c .sized ∙ high-placed (second c) .sized ∙ low-placed (first (second c)) .sized
 
 cast-finder : tie.Need-cast-finder
-cast-finder c = search needs
+cast-finder c =
+    let listing = c .before .before in
+    omega (arith, lists-few _ _ (listing .list-codewords .ensures) (omega (arith, part listing)))
 
-slice-write-finder-2 : tie.Need-slice-write-finder-2
-slice-write-finder-2 c = search needs
+slice-write-finder : tie.Need-slice-write-finder
+slice-write-finder c = search needs
 
 cast-finder-2 : tie.Need-cast-finder-2
-cast-finder-2 c = omega (arith, few (c .before .before .before))
+cast-finder-2 c = search needs
 
-slice-write-finder-3 : tie.Need-slice-write-finder-3
-slice-write-finder-3 c = simp length-set (omega (arith, placed (c .before .before .before) .sized))
+slice-write-finder-2 : tie.Need-slice-write-finder-2
+slice-write-finder-2 c = simp length-set (omega (arith, words-sized (c .before .before)))
 
-place-requires : tie.Need-place-requires
-place-requires c κs = simp length-set (omega (arith, placed (c .before .before .before .before .before) .sized))
+same-length : tie.Need-same-length
+same-length c = simp length-set (words-sized (c .before .before))
 
-same-length-2 : tie.Need-same-length-2
-same-length-2 c =
-    let placing = c .before .before in
-    let counted = placing .before .before .before in
-    placing .place .ensures .sized ∙ simp length-set (placed (counted .before .before .before) .sized)
-
-returns-3 : tie.Need-returns-3
-returns-3 c =
-    let placing = c .before .before in
-    let counted = placing .before .before .before in
-    let words = counted .before .before .before in
-    let other = words .before .before in
+returns-2 : tie.Need-returns-2
+returns-2 c =
+    let listing = c .before .before in
+    let args = call listing .args in
+    let known = degreed (first (second listing)) in
     record {
-      finder = λ size. inr (
-        other .before .is-house .ensures .1 (other .if2 .left),
-        record {
-          count = words .list-codewords .result;
-          words = words .list-codewords .last .1 .1 .0;
-          listing = back words;
-          lists = rw (part-whole (now (start words .args .finder))) at (words .list-codewords .ensures);
-          listed = placed words;
-          placed = rw (counted .at-most-eleven .ensures) at (placing .place .ensures);
-        },
-      );
-      none = λ none. absurd (none (other .before .before .if1 .left));
+      finder = λ size.
+          filled-parts (now (args .sheet)) (args .k) _ _ size
+          (known .at-most-sixteen .ensures ∙ ap (λ (n : ℕ). min n 16) (known .before .degree-of .ensures))
+          (low-tabulates (first (second listing))) (low-placed (first (second listing)))
+          (high-tabulates (second listing)) (high-placed (second listing))
+          (omega (arith, part listing)) (listing .list-codewords .ensures) (words-placed listing);
+      none = λ other. absurd (other (known .before .before .if1 .left));
     }
 
 pub prepare-finder-spec : {M : Type 1} → statement M
@@ -141,22 +179,24 @@ prepare-finder-spec =
     tie.close
     (tie.spec
     returns
-    is-house-requires
-    nearest-words-requires
-    slice-write-finder
-    slice-aggregate-place-bytes
-    place-bytes-requires
-    same-length
-    returns-2
+    degree-of-requires
+    at-most-sixteen-requires
+    sub-tabulate
+    part-tabulate-start
+    part-tabulate-end
+    tabulate-requires
+    above-eight-requires
+    sub-tabulate-2
+    part-tabulate-start-2
+    part-tabulate-end-2
+    tabulate-requires-2
     sub-list-codewords
     part-list-codewords-start
     part-list-codewords-end
     list-codewords-requires
-    at-most-eleven-requires
     cast-finder
-    slice-write-finder-2
+    slice-write-finder
     cast-finder-2
-    slice-write-finder-3
-    place-requires
-    same-length-2
-    returns-3)
+    slice-write-finder-2
+    same-length
+    returns-2)

@@ -45,7 +45,7 @@ returns-2 c =
     let start = counted .before .before .before in
     c .nearest-listed .ensures
     ∙ ap (stepTo (start .args .word))
-    (search-part (now (start .args .finder)) _ (1312 + counted .widened .result - 1312) (start .args .word) (omega arith) (omega arith)
+    (search-part (now (start .args .finder)) _ (2592 + counted .widened .result - 2592) (start .args .word) (omega arith) (omega arith)
     ∙ sym (search-few (now (start .args .finder)) (start .args .word) (omega arith)))
 
 pub search-spec : {M : Type 1} → statement M

@@ -1,0 +1,142 @@
+-- The words of the right side that the code keeps, and the places of the edges: how both go with the block.
+--   WordsRead side block words   the list holds the words that the vertices of a side read (specs Visiting)
+--   PlacesNoted plan places      the list holds, at each edge, the entry of the wiring where it stands (specs Visiting)
+--   turned block e b             the block with its bit e turned where b is 1 (bits specs Window)
+-- Laws are named by their subject, then by the fact: `words-` is about the words, `places-` about the places.
+use Prim.Native.Nat.{ℕ, _+_, _-_, _*_, _/_, _%_, _^_, _≤_, _<_}
+use mathlib.Core.List.{List, []}
+use mathlib.Core.Path.{_≡_, sym, ap, _∙_}
+use native.Mathlib.Decide.{ℕ-discrete}
+use native.Mathlib.Nat.{div-add-mod', div-lt-iff-lt-mul, mod-lt}
+use native.Mathlib.Omega.{arith}
+use lib.Bits.{bitXor}
+use lib.ListN.{length, set, length-set}
+use Rattle.bits.specs.Window.{at, turned}
+use Rattle.bits.proofs.Turning.{length-turned}
+use Rattle.inner_code.specs.Reply.{done}
+use Rattle.inner_code.specs.Sheet.{degree}
+use Rattle.wiring.specs.Plan.{Plan, Side, edgeCount, sheetOf, countOf, sideOf, sideBit, left, right}
+use Rattle.wiring.specs.Wiring.{planCheck}
+use Rattle.wiring.specs.Block.{vertexWord, withWord}
+use Rattle.wiring.specs.Checking.{Fitted}
+use Rattle.wiring.specs.declared.side.SideName.{SideName}
+use Rattle.wiring.proofs.EdgeEnds.{at-set-same, at-set-other}
+use Rattle.wiring.proofs.Permutation.{Whole, placeOf, place-lt, bit-place, side-fits, fitted-edges}
+use Rattle.wiring.proofs.Plans.{plan-sound, plan-joined}
+use Rattle.wiring.proofs.TurnedBits.{vertex-turned-same, vertex-turned-other}
+use Rattle.wiring.proofs.VertexWords.{withWord-same, withWord-other, length-scattered}
+use Rattle.decoder.specs.Visiting.{WordsRead, PlacesNoted}
+
+module _ {N : ℕ} {side : Side} (w : Whole N side) {block words : List ℕ} (reads : WordsRead side block words) where
+  -- a bit that is turned in the block is turned in the word of the vertex that reads it
+  pub words-turned : (few : side .n ≤ 2048) (place : ℕ) {e : ℕ} {after told : List ℕ} → place < N → e ≡ side .bit place
+      → after ≡ turned block e 1
+      → told ≡ set words (place / side .d) (bitXor (at words (place / side .d)) (2 ^ (side .d - 1 - place % side .d)))
+      → WordsRead side after told
+  words-turned few place {e} {after} {told} below at-place turns tells =
+      record {
+        sized = ap length tells ∙ length-set words v _ ∙ reads .sized;
+        room = rw (turns, length-turned) (reads .room);
+        each = λ u l. elim (ℕ-discrete u v) [ yes same ↦ rw same here | no apart ↦ there u l apart ];
+      }
+    where
+      v : ℕ
+      v = place / side .d
+
+      j : ℕ
+      j = place % side .d
+
+      v-lt : v < side .n
+      v-lt = div-lt-iff-lt-mul (w .degree-pos) .1 (rw (w .entries) below)
+
+      j-lt : j < side .d
+      j-lt = mod-lt place (w .degree-pos)
+
+      back : v * side .d + j ≡ place
+      back = div-add-mod' place (side .d)
+
+      turned-is : after ≡ turned block (side .bit (v * side .d + j)) 1
+      turned-is = turns ∙ ap (λ (i : ℕ). turned block i 1) (at-place ∙ ap (side .bit) (sym back))
+
+      holds : N ≤ length block * 8
+      holds = rw (w .entries) at (reads .room)
+
+      here : at told v ≡ vertexWord side after v
+      here =
+          ap (λ (l : List ℕ). at l v) tells ∙ at-set-same words v _ (omega (arith, reads .sized, v-lt))
+          ∙ ap (λ (x : ℕ). bitXor x (2 ^ (side .d - 1 - j))) (reads .each v v-lt)
+          ∙ sym (ap (λ (l : List ℕ). vertexWord side l v) turned-is ∙ vertex-turned-same w block holds v j v-lt j-lt)
+
+      there : (u : ℕ) → u < side .n → (u ≡ v → ⊥) → at told u ≡ vertexWord side after u
+      there u l apart =
+          ap (λ (l : List ℕ). at l u) tells ∙ at-set-other words v u _ apart ∙ reads .each u l
+          ∙ sym (ap (λ (l : List ℕ). vertexWord side l u) turned-is ∙ vertex-turned-other w block holds v j v-lt j-lt u l apart)
+
+  -- a vertex that takes another word
+  pub words-put : (few : side .n ≤ 2048) (v x : ℕ) {after told : List ℕ} → v < side .n → x < 2 ^ side .d → after ≡ withWord side v x block
+      → told ≡ set words v x → WordsRead side after told
+  words-put few v x {after} {told} below low puts tells =
+      record {
+        sized = ap length tells ∙ length-set words v x ∙ reads .sized;
+        room = rw (puts, length-scattered) (reads .room);
+        each = λ u l. elim (ℕ-discrete u v) [ yes same ↦ rw same here | no apart ↦ there u l apart ];
+      }
+    where
+      here : at told v ≡ vertexWord side after v
+      here =
+          ap (λ (l : List ℕ). at l v) tells ∙ at-set-same words v x (omega (arith, reads .sized))
+          ∙ sym (ap (λ (l : List ℕ). vertexWord side l v) puts ∙ withWord-same w x block v low (rw (w .entries) at (reads .room)) below)
+
+      there : (u : ℕ) → u < side .n → (u ≡ v → ⊥) → at told u ≡ vertexWord side after u
+      there u l apart =
+          ap (λ (l : List ℕ). at l u) tells ∙ at-set-other words v u x apart ∙ reads .each u l
+          ∙ sym (ap (λ (l : List ℕ). vertexWord side l u) puts ∙ withWord-other w x block u v l below apart)
+
+-- one more word that is fetched
+pub words-more : (side : Side) (block words : List ℕ) (v x : ℕ) {told : List ℕ} → v < length words → told ≡ set words v x
+    → ((u : ℕ) → u < v → at words u ≡ vertexWord side block u) → x ≡ vertexWord side block v
+    → (u : ℕ) → u < v + 1 → at told u ≡ vertexWord side block u
+words-more side block words v x {told} below tells so-far read u l =
+    ap (λ (l : List ℕ). at l u) tells
+    ∙ elim (ℕ-discrete u v) [
+      | yes same ↦ rw same (at-set-same words v x below ∙ read)
+      | no apart ↦ at-set-other words v u x apart ∙ so-far u (omega arith)
+    ]
+
+-- ---- a side of a checked plan
+
+module _ (plan : Plan) (accepted : planCheck plan ≡ done []) where
+  pub plan-fits : (name : SideName) → Fitted (degree (sheetOf plan name)) (countOf plan name) (plan .wiring)
+  plan-fits = side-fits plan (plan-sound plan accepted .1)
+
+  pub plan-whole : (name : SideName) → Whole (edgeCount plan) (sideOf plan name)
+  plan-whole = plan-joined plan accepted .whole
+
+  pub plan-few : edgeCount plan ≤ 32768
+  plan-few = fitted-edges (plan-fits left)
+
+-- an edge stands at its place
+module _ (plan : Plan) (accepted : planCheck plan ≡ done []) {places : List ℕ} (noted : PlacesNoted plan places) (e : ℕ)
+    (below : e < edgeCount plan) where
+  places-edge : at places e ≡ placeOf (edgeCount plan) (sideOf plan right) e
+  unfolding sideBit
+  places-edge =
+      let w = plan-whole plan accepted right in
+      ap (at places) (sym (bit-place w e below)) ∙ noted .each _ (place-lt w e below)
+
+  pub places-lt : at places e < edgeCount plan
+  places-lt = rw places-edge (place-lt (plan-whole plan accepted right) e below)
+
+  pub places-bit : e ≡ sideOf plan right .bit (at places e)
+  places-bit = sym (ap (sideOf plan right .bit) places-edge ∙ bit-place (plan-whole plan accepted right) e below)
+
+-- one more place that is noted
+pub places-more : (edge : ℕ → ℕ) (places : List ℕ) (i e : ℕ) {after : List ℕ} → e ≡ edge i → edge i < length places
+    → ((j : ℕ) → j < i → edge j ≡ edge i → ⊥) → ((j : ℕ) → j < i → at places (edge j) ≡ j)
+    → after ≡ set places e i → (j : ℕ) → j < i + 1 → at after (edge j) ≡ j
+places-more edge places i e {after} is below once so-far noted j l =
+    ap (λ (l : List ℕ). at l (edge j)) (noted ∙ ap (λ (x : ℕ). set places x i) is)
+    ∙ elim (ℕ-discrete j i) [
+      | yes same ↦ rw same (at-set-same places (edge i) i below)
+      | no apart ↦ at-set-other places (edge i) (edge j) i (once j (omega arith)) ∙ so-far j (omega arith)
+    ]

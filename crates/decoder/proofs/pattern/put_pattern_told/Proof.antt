@@ -1,0 +1,211 @@
+-- `decoder::put_pattern_told` meets its contract: each turn puts the highest one of the rest on the block and on the word of the right vertex at
+-- the other end of its edge.
+use Prim.Native.Nat.{ℕ, _+_, _-_, _*_, _/_, _<_}
+use mathlib.Core.List.{[]}
+use mathlib.Core.Path.{_≡_, refl, _∙_}
+use native.Mathlib.Nat.{div-lt-iff-lt-mul}
+use native.Mathlib.Omega.{arith}
+use borrow.Author.Needs.{needs}
+use denote.Ref.{now}
+use lib.Arith.{digits-lt}
+use lib.Pow.{pow-pos}
+use Rattle.bits.specs.Window.{at}
+use Rattle.inner_code.specs.Reply.{done}
+use Rattle.inner_code.specs.Sheet.{degree}
+use Rattle.wiring.specs.Wiring.{planCheck}
+use Rattle.wiring.specs.Plan.{Plan, planOf, sideOf, sideBit, edgeCount, left, right}
+use Rattle.wiring.specs.declared.side.SideName.{SideName}
+use Rattle.wiring.proofs.Plans.{fitted-sheet}
+use Rattle.decoder.specs.Visiting.{patternPut, WordsRead}
+use Rattle.decoder.proofs.Patterns.{Rest, rest-sized, rest-none, rest-high, rest-more, length-pattern}
+use Rattle.decoder.proofs.RightWords.{words-turned, plan-fits, plan-whole, plan-few, places-lt, places-bit}
+use Rattle.decoder.proofs.pattern.put_pattern_told.Statement.{statement}
+use Rattle.decoder.proofs.pattern.put_pattern_told.Tie as tie
+
+abbrev Inv-loop : tie.InvT-loop
+Inv-loop left right nl nr wiring v pattern places words₀ block₀ d dr base rest₀ words block rest =
+    Rest (sideBit SideName.Left wiring) (degree left) (v * degree left)
+    (patternPut (sideBit SideName.Left wiring) (degree left) (v * degree left) pattern (degree left) block₀) block rest
+    × WordsRead (sideOf (planOf left right nl nr wiring) SideName.Right) block words
+
+abbrev μ-loop : tie.MeasureT-loop
+μ-loop left right nl nr wiring v pattern places words₀ block₀ d dr base rest₀ words block rest = rest
+
+-- ---- the call, the loop's head, and the plan
+
+abbrev start : tie.After-shared-slice-known6 Inv-loop μ-loop → tie.Start Inv-loop μ-loop
+start c = c .before .before .before .before .before .before .before
+
+abbrev planIn : tie.Start Inv-loop μ-loop → Plan
+planIn c = planOf (now (c .args .left)) (now (c .args .right)) (c .args .nl) (c .args .nr) (now (c .args .wiring))
+
+accepted : (c : tie.Start Inv-loop μ-loop) → planCheck (planIn c) ≡ done []
+accepted c = c .pre .0
+
+shared-slice-read-d : tie.Need-shared-slice-read-d Inv-loop μ-loop
+shared-slice-read-d c =
+    let first = c .before .before .before .before .before .before in
+    fitted-sheet _ (plan-fits (planIn first) (accepted first) left)
+
+cast-d : tie.Need-cast-d Inv-loop μ-loop
+cast-d c = omega (arith, c .shared-slice-known5 .given 0)
+
+shared-slice-read-dr : tie.Need-shared-slice-read-dr Inv-loop μ-loop
+shared-slice-read-dr c = fitted-sheet _ (plan-fits (planIn (start c)) (accepted (start c)) right)
+
+cast-dr : tie.Need-cast-dr Inv-loop μ-loop
+cast-dr c = omega (arith, c .shared-slice-known6 .given 0)
+
+-- an entry of vertex v
+entry-few : (c : tie.Start Inv-loop μ-loop) (j : ℕ) → j < degree (now (c .args .left))
+    → c .args .v * degree (now (c .args .left)) + j < edgeCount (planIn c)
+entry-few c j l = digits-lt (c .pre .1 .0) l
+
+mul-base : tie.Need-mul-base Inv-loop μ-loop
+unfolding degree
+mul-base c =
+    let fits = plan-fits (planIn (start c)) (accepted (start c)) left in
+    omega (arith, entry-few (start c) 0 (omega (arith, fits .d-low)), plan-few (planIn (start c)) (accepted (start c)))
+
+loop-holds : tie.Need-loop-holds Inv-loop μ-loop
+loop-holds c = (record { low = start c .pre .1 .1 .0; putting = refl }, start c .pre .1 .1 .1 .1)
+
+highest-requires : tie.Need-highest-requires Inv-loop μ-loop
+highest-requires c κs = search needs
+
+abbrev head : tie.After-highest Inv-loop μ-loop → tie.At-loop Inv-loop μ-loop
+head c = c .before .before
+
+abbrev begin : tie.After-highest Inv-loop μ-loop → tie.Start Inv-loop μ-loop
+begin c = start (head c .before)
+
+-- the highest one is within the word, and the edge is one of the plan's
+within : (c : tie.After-highest Inv-loop μ-loop) → c .highest .result < degree (now (begin c .args .left))
+within c = rest-high (head c .loop .inv .0) _ (c .highest .ensures .0) (c .highest .ensures .1)
+
+abbrev edgeIn : tie.After-highest Inv-loop μ-loop → ℕ
+edgeIn c =
+    begin c .args .v * degree (now (begin c .args .left)) + (degree (now (begin c .args .left)) - 1 - c .highest .result)
+
+edge-lt : (c : tie.After-highest Inv-loop μ-loop) → edgeIn c < edgeCount (planIn (begin c))
+edge-lt c = entry-few (begin c) _ (omega (arith, within c))
+
+edge-few : (c : tie.After-highest Inv-loop μ-loop) → edgeIn c < 32768
+edge-few c = omega (arith, edge-lt c, plan-few (planIn (begin c)) (accepted (begin c)))
+
+sub-edge : tie.Need-sub-edge Inv-loop μ-loop
+unfolding degree
+sub-edge c = omega (arith, within c)
+
+sub-edge-2 : tie.Need-sub-edge-2 Inv-loop μ-loop
+unfolding degree
+sub-edge-2 c = omega (arith, within c)
+
+add-edge : tie.Need-add-edge Inv-loop μ-loop
+unfolding degree
+add-edge c = omega (arith, edge-few c)
+
+mul-place : tie.Need-mul-place Inv-loop μ-loop
+unfolding degree
+mul-place c = omega (arith, edge-few c)
+
+shared-slice-read-place : tie.Need-shared-slice-read-place Inv-loop μ-loop
+unfolding degree
+shared-slice-read-place c = omega (arith, edge-few (c .before), begin (c .before) .pre .1 .1 .1 .0 .sized)
+
+cast-place : tie.Need-cast-place Inv-loop μ-loop
+unfolding degree at
+cast-place c =
+    let top = c .before in
+    omega (
+      arith,
+      places-lt (planIn (begin top)) (accepted (begin top)) (begin top .pre .1 .1 .1 .0) (edgeIn top) (edge-lt top),
+      plan-few (planIn (begin top)) (accepted (begin top)),
+    )
+
+turn-bit-requires : tie.Need-turn-bit-requires Inv-loop μ-loop
+turn-bit-requires c κs = search needs
+
+-- ---- the place of the edge
+
+abbrev placeIn : tie.After-highest Inv-loop μ-loop → ℕ
+placeIn c = at (now (begin c .args .places)) (edgeIn c)
+
+place-lt : (c : tie.After-highest Inv-loop μ-loop) → placeIn c < edgeCount (planIn (begin c))
+place-lt c = places-lt (planIn (begin c)) (accepted (begin c)) (begin c .pre .1 .1 .1 .0) (edgeIn c) (edge-lt c)
+
+place-vertex : (c : tie.After-highest Inv-loop μ-loop) → placeIn c / degree (now (begin c .args .right)) < begin c .args .nr
+place-vertex c =
+    let w = plan-whole (planIn (begin c)) (accepted (begin c)) right in
+    div-lt-iff-lt-mul (w .degree-pos) .1 (rw (w .entries) (place-lt c))
+
+turn-word-requires : tie.Need-turn-word-requires Inv-loop μ-loop
+unfolding degree at
+turn-word-requires c κs =
+    let top = c .before .before .before .before .before .before in
+    let fits = plan-fits (planIn (begin top)) (accepted (begin top)) right in
+    ((omega (arith, fits .d-low), fits .d-high), (head top .loop .inv .1 .sized, omega (arith, place-vertex top, fits .n-high)))
+
+power-requires : tie.Need-power-requires Inv-loop μ-loop
+power-requires c κs =
+    let top = c .before .before .before .before .before .before .before in
+    let fits = plan-fits (planIn (begin top)) (accepted (begin top)) left in
+    omega (arith, within top, fits .d-high)
+
+abbrev high : tie.After-power Inv-loop μ-loop → tie.After-highest Inv-loop μ-loop
+high c = c .before .before .before .before .before .before .before .before
+
+sub-rest : tie.Need-sub-rest Inv-loop μ-loop
+sub-rest c = omega (arith, c .power .ensures, high c .highest .ensures .0)
+
+loop-less : tie.Need-loop-less Inv-loop μ-loop
+loop-less c =
+    let some = pow-pos (high c .highest .result) in
+    omega (arith, c .power .ensures, high c .highest .ensures .0)
+
+loop-again : tie.Need-loop-again Inv-loop μ-loop
+unfolding degree at sideBit
+loop-again c =
+    let top = high c in
+    let fits = plan-fits (planIn (begin top)) (accepted (begin top)) right in
+    let turns = c .before .before .before .before .before .turn-bit .ensures in (
+      rest-more (head top .loop .inv .0) _ (top .highest .ensures .0) (top .highest .ensures .1) refl (c .power .ensures) turns,
+      words-turned (plan-whole (planIn (begin top)) (accepted (begin top)) right) (head top .loop .inv .1) (fits .n-high) (placeIn top) (place-lt top)
+          (places-bit (planIn (begin top)) (accepted (begin top)) (begin top .pre .1 .1 .1 .0) (edgeIn top) (edge-lt top))
+          turns
+          (c .before .turn-word .ensures),
+    )
+
+same-length : tie.Need-same-length Inv-loop μ-loop
+same-length c = rest-sized (c .before .loop .inv .0) ∙ length-pattern _ _ _ _ _ _
+
+returns : tie.Need-returns Inv-loop μ-loop
+returns c = (rest-none (c .before .loop .inv .0) (omega arith), c .before .loop .inv .1)
+
+pub put-pattern-told-spec : {M : Type 1} → statement M
+put-pattern-told-spec =
+    tie.close
+    (tie.spec
+    Inv-loop
+    μ-loop
+    shared-slice-read-d
+    cast-d
+    shared-slice-read-dr
+    cast-dr
+    mul-base
+    loop-holds
+    highest-requires
+    sub-edge
+    sub-edge-2
+    add-edge
+    mul-place
+    shared-slice-read-place
+    cast-place
+    turn-bit-requires
+    turn-word-requires
+    power-requires
+    sub-rest
+    loop-less
+    loop-again
+    same-length
+    returns)
