@@ -9,7 +9,7 @@
 -- A law is named by its subject, then by the fact: `bitAt-` is about a bit that is read, `withBit-` about the whole byte
 -- string after a bit is written, `putDigit-` about one number, `pairAt-` about two bytes. At the end of a name, `-same` and `-other` are the place
 -- that is written and any other, `-keeps` a write of what stands there, `-past` what lies past the
--- end, `-ext` equality from the bits, `-front` and `-behind` what stands in one string with another behind it, and in that one.
+-- end, `-zero` a byte string of zeros, `-ext` equality from the bits, `-front` and `-behind` what stands in one string with another behind it, and in that one.
 -- That every byte is below 256 is said as `(k : ℕ) → getD bytes k 0 < 256`.
 use mathlib.Core.Path.{_≡_, refl, sym, ap, ap₂, _∙_}
 use mathlib.Core.Logic.{_≢_}
@@ -22,6 +22,7 @@ use lib.Bits.{bitXor, xor-lt, xor-self, xor-zero-r}
 use lib.ListN.{length, getD, set, length-set, List·getD-append, List·getD-eq-default}
 use lib.Pow.{pow-mono, shl-lt}
 use lib.Seq.{ext-getD, getD-append-add, set-getD, set-out, getD-set-same, getD-set-other}
+use Rattle.bits.specs.Window.{at}
 use Rattle.bits.specs.Bit.{digit, bitAt, putDigit, withBit, pairAt}
 use Rattle.bits.proofs.Xor.{digit-lt, digit-zero, digit-ext, digit-pow-same, digit-pow-other, xor-digit}
 use Rattle.bits.proofs.Xor.{xor-cancel, xor-bits-lt}
@@ -52,6 +53,10 @@ putDigit-keeps x j b e =
 pub bitAt-lt : (bytes : List ℕ) (i : ℕ) → bitAt bytes i < 2
 unfolding bitAt
 bitAt-lt bytes i = digit-lt _ (7 - i % 8)
+
+pub bitAt-zero : (bytes : List ℕ) (i : ℕ) → ((j : ℕ) → at bytes j ≡ 0) → bitAt bytes i ≡ 0
+unfolding bitAt at
+bitAt-zero bytes i zero-bytes = ap (λ (x : ℕ). digit x (7 - i % 8)) (zero-bytes (i / 8)) ∙ digit-zero (7 - i % 8)
 
 pub bitAt-past : (bytes : List ℕ) (i : ℕ) → length bytes * 8 ≤ i → bitAt bytes i ≡ 0
 unfolding bitAt

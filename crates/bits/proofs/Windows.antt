@@ -9,7 +9,7 @@ use native.Mathlib.Nat.{mod-lt}
 use native.Mathlib.Decide.{decLe}
 use native.Mathlib.Omega.{arith}
 use lib.ListN.{getD}
-use lib.Pow.{pow-pos, shl-exact, field, mod-mod-pow, shr-shr, high, low}
+use lib.Pow.{pow-pos, shl-exact, shl-shr, field, mod-mod-pow, shr-shr, high, low}
 use Rattle.bits.specs.Window.{wordAt}
 use Rattle.bits.specs.Bit.{digit, bitAt, pairAt}
 use Rattle.bits.proofs.Words.{word-ext, word-digits}
@@ -32,6 +32,15 @@ digit-above a b k j h = sym (digit-shifted (a * 2 ^ k + b) k j) ∙ ap (λ (y : 
 
 digit-below : (a b k j : ℕ) → b < 2 ^ k → j < k → digit (a * 2 ^ k + b) j ≡ digit b j
 digit-below a b k j h l = sym (digit-low (a * 2 ^ k + b) k j l) ∙ ap (λ (y : ℕ). digit y j) (low a k h)
+
+-- a digit of a byte, moved to weight 128 in a number of w bits
+pub digit-moved : (w x k : ℕ) → 15 ≤ w → x < 256 → k < 8 → (x * 2 ^ k) % 2 ^ w / 128 % 2 ≡ digit x (7 - k)
+unfolding digit
+digit-moved w x k wide small below =
+    let seven : k + (7 - k) ≡ 7 = omega arith in
+    ap (λ (y : ℕ). y / 128 % 2) (shl-exact {a = x} 8 k w small (omega arith))
+    ∙ ap (λ (m : ℕ). x * 2 ^ k / 2 ^ m % 2) (sym seven)
+    ∙ ap (λ (y : ℕ). y % 2) (sym (shr-shr (x * 2 ^ k) k (7 - k)) ∙ ap (λ (y : ℕ). y / 2 ^ (7 - k)) (shl-shr x k))
 
 -- ---- a power of two, as the code makes it in 32 bits
 

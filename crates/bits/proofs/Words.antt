@@ -59,6 +59,11 @@ unfolding word
 word-ext zero f g same = refl
 word-ext (suc d) f g same = ap₂ (λ (x y : ℕ). x * 2 + y) (word-ext d f g (λ j h. same j (omega arith))) (same d (omega arith))
 
+pub word-zero : (d : ℕ) (f : ℕ → ℕ) → ((j : ℕ) → j < d → f j ≡ 0) → word d f ≡ 0
+unfolding word
+word-zero zero f none = refl
+word-zero (suc d) f none = omega (arith, word-zero d f (λ j h. none j (omega arith)), none d (omega arith))
+
 pub word-digit : (d : ℕ) (f : ℕ → ℕ) → ((j : ℕ) → j < d → f j < 2) → (j : ℕ) → j < d → digit (word d f) (d - 1 - j) ≡ f j
 unfolding word
 word-digit zero f bits j h = absurd (omega arith)

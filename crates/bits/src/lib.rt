@@ -1,11 +1,12 @@
 // Bits of byte strings and two-byte numbers, with the laws that every other crate cites.
 ghost use mathlib.Core.Bool.{true, false};
 ghost use mathlib.Core.Path.{_≡_};
-ghost use Prim.Native.Nat.{_%_, _<_, _≤_, min};
+ghost use Prim.Native.Nat.{ℕ, _%_, _<_, _≤_, min};
 ghost use Rattle.bits.specs.Window.{at, wordAt, turned};
 ghost use Rattle.bits.specs.Bit.{bitAt, withBit, pairAt};
 
-// Bit i of a byte string, 0 past its end. Bit 0 has weight 128 in byte 0.
+// Bit i of a byte string, 0 past its end. Bit 0 has weight 128 in byte 0, and every bit is moved there: that takes a step less than moving it to
+// weight 1.
 pub fn bit(bytes: &[u8], i: usize) -> u64
     ensures { λ r. ⌜ r ≡ bitAt (now (bytes .entry)) i ⌝ }
 {
@@ -13,7 +14,7 @@ pub fn bit(bytes: &[u8], i: usize) -> u64
     if bytes.len() <= at {
         return 0;
     }
-    ((bytes[at] >> (7 - i % 8)) % 2) as u64
+    ((bytes[at] as u64) << (i % 8)) / 128 % 2
 }
 
 // Makes bit i of a byte string equal to the last binary digit of b. Nothing is written past the end.
@@ -86,6 +87,21 @@ pub fn same(a: &[u8], b: &[u8]) -> bool
     let mut i = 0;
     while i < a.len() {
         if a[i] != b[i] {
+            return false;
+        }
+        i += 1;
+    }
+    true
+}
+
+// Whether every byte of a byte string is 0.
+pub fn is_zero(bytes: &[u8]) -> bool
+    ensures { λ r. ⌜ (r ≡ true → (i : ℕ) → at (now (bytes .entry)) i ≡ 0) ⌝ }
+    ensures { λ r. ⌜ (r ≡ false → ((i : ℕ) → at (now (bytes .entry)) i ≡ 0) → ⊥) ⌝ }
+{
+    let mut i = 0;
+    while i < bytes.len() {
+        if bytes[i] != 0 {
             return false;
         }
         i += 1;

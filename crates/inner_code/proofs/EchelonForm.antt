@@ -221,6 +221,11 @@ unfolding reducedBy reduced echelon
 reducedBy-echelon basis row zero w h = refl
 reducedBy-echelon basis row (suc n) w h = ap₂ reduceBy (h n (lt-suc-self n)) (reducedBy-echelon basis row n w (λ i l. h i (le-step l)))
 
+pub reducedBy-zero : (basis : ℕ → ℕ) (n : ℕ) → reducedBy basis n 0 ≡ 0
+unfolding reducedBy reduceBy
+reducedBy-zero basis zero = refl
+reducedBy-zero basis (suc n) = rw (reducedBy-zero basis n) (min-eq-left (omega arith))
+
 pub reducedBy-put : (basis : ℕ → ℕ) (n w left : ℕ) → left ≡ reducedBy basis n w → bitXor left (basis n) < left
     → bitXor left (basis n) ≡ reducedBy basis (n + 1) w
 unfolding reducedBy reduceBy

@@ -440,7 +440,7 @@ pub filled-parts : (sheet : List ℕ) (k d count : ℕ) {basis before low-table 
     → length before ≡ 4640 → d ≡ min (degree sheet) 16
     → Tabulates (powerLeft basis k 0) 8 low-table → Placed 32 low-table before low
     → Tabulates (powerLeft basis k 8) (d - 8) high-table → Placed 288 high-table low high
-    → 2048 ≤ length words-part → Lists (rowOf sheet) k words-part count words → Placed 2592 words high after
+    → 2 ^ min k 11 ≤ length words-part → Lists (rowOf sheet) k words-part count words → Placed 2592 words high after
     → Filled sheet k basis before (set (set after 0 count) 1 d)
 unfolding wordIn
 filled-parts sheet k d count {basis} {before} {low-table} {low} {high-table} {high} {words-part} {words} {after}

@@ -1,7 +1,7 @@
 -- The codewords as the code lists them, by doubling: behind the words of the first i rows come the same words with row i put on.
 --   doubled n r m l   the list l with r put on its words 0 .. m - 1, at the places n .. n + m - 1
 --   listed row k l    the list l with the codewords of k rows at its places 0 .. 2^k - 1
---   Lists row k l r m the list m is l with the codewords of k rows listed, and r is how many they are, where l has room for every code
+--   Lists row k l r m the list m is l with the codewords of k rows listed, of 11 at most, and r is how many they are, where l has room
 -- Laws are named by their subject, then by the fact; `lists-` is about what the code has listed, `front-` about the part of it that holds
 -- the codewords.
 use mathlib.Core.Path.{_≡_, refl, sym, ap, _∙_}
@@ -93,20 +93,22 @@ unfolding listed
 listed-again row zero l = set-set l 0 0 0
 listed-again row (suc i) l = ap (doubled (2 ^ i) (row i) (2 ^ i)) (listed-again row i l)
 
--- ---- what the code has listed, where there is room for every code
+-- no code has more words than eleven rows make
+pub words-most : (k : ℕ) → 2 ^ min k 11 ≤ 2048
+words-most k = pow-mono {j = 11} (min-le-right k 11)
 
-module _ (row : ℕ → ℕ) (k : ℕ) {before words : List ℕ} {count : ℕ} (lists : Lists row k before count words) (room : 2048 ≤ length before) where
-  lists-room : 2 ^ min k 11 ≤ length before
-  lists-room = omega (arith, pow-mono {j = 11} (min-le-right k 11))
+-- ---- what the code has listed, where there is room
 
+module _ (row : ℕ → ℕ) (k : ℕ) {before words : List ℕ} {count : ℕ} (lists : Lists row k before count words)
+    (room : 2 ^ min k 11 ≤ length before) where
   pub lists-few : count ≤ 2048
-  lists-few = omega (arith, lists .room room .0, pow-mono {j = 11} (min-le-right k 11))
+  lists-few = omega (arith, lists .room room .0, words-most k)
 
   pub lists-fits : count ≤ length words
-  lists-fits = omega (arith, lists-few, ap length (lists .room room .1), length-listed row (min k 11) before)
+  lists-fits = omega (arith, lists .room room .0, ap length (lists .room room .1), length-listed row (min k 11) before)
 
   pub lists-word : (m : ℕ) → m < 2 ^ min k 11 → getD words m 0 ≡ combination row (min k 11) m
-  lists-word m h = ap (λ (l : List ℕ). getD l m 0) (lists .room room .1) ∙ listed-word row (min k 11) before lists-room m h
+  lists-word m h = ap (λ (l : List ℕ). getD l m 0) (lists .room room .1) ∙ listed-word row (min k 11) before room m h
 
   -- the words as a part that is lent on
 

@@ -12,7 +12,7 @@
 --   doubled n r m l       the list l with r put on its words 0 .. m - 1, at the places n .. n + m - 1
 --   listed row k l        the list l with the codewords of k rows at its places 0 .. 2^k - 1, by doubling
 --   Lists row k l r m     the list m is l with the codewords of k rows listed, of 11 at most, and r is how many they are; where l has no
---                         room for 2^11 words, m is l and r is 0
+--                         room for them, m is l and r is 0
 use Prim.Native.Nat.{ℕ, zero, suc, _+_, _%_, _^_, _≤_, _<_, min}
 use mathlib.Core.Bool.{cond}
 use mathlib.Core.List.{List}
@@ -75,5 +75,5 @@ listed row zero l = set l 0 0
 listed row (suc i) l = doubled (2 ^ i) (row i) (2 ^ i) (listed row i l)
 
 pub record Lists (row : ℕ → ℕ) (k : ℕ) (before : List ℕ) (r : ℕ) (after : List ℕ) : Type 0 where
-  pub room : 2048 ≤ length before → (r ≡ 2 ^ min k 11) × (after ≡ listed row (min k 11) before)
-  pub short : length before < 2048 → (r ≡ 0) × (after ≡ before)
+  pub room : 2 ^ min k 11 ≤ length before → (r ≡ 2 ^ min k 11) × (after ≡ listed row (min k 11) before)
+  pub short : length before < 2 ^ min k 11 → (r ≡ 0) × (after ≡ before)

@@ -1,6 +1,6 @@
 // The codewords as a list, and the inner distance.
 ghost use mathlib.Core.Path.{_≡_};
-ghost use Prim.Native.Nat.{_*_, _≤_};
+ghost use Prim.Native.Nat.{_*_, _≤_, min};
 ghost use lib.ListN.{length};
 ghost use Rattle.bits.specs.Window.{at};
 ghost use Rattle.inner_code.specs.Sheet.{rowOf};
@@ -10,25 +10,33 @@ ghost use Rattle.inner_code.specs.Reduction.{Lists, doubled, fewestOnes}
 pub const MAX_CODEWORDS: usize = 2048;
 
 // Lists the codewords that the sheet's first k rows make at the front of `words` and answers how many there are, 2^k. A k
-// above 11 counts as 11. The rest of `words` stays as it was. Room for fewer than 2,048 words is left as it was, and the answer is 0.
+// above 11 counts as 11. The rest of `words` stays as it was. Room for fewer words is left as it was, and the answer is 0.
 pub fn list_codewords(sheet: &[u8], k: usize, words: &mut [u16]) -> usize
     ensures { λ r. ⌜ Lists (rowOf (now (sheet .entry))) k (now (words .entry)) r (now (words .exit)) ⌝ }
 {
-    if words.len() < MAX_CODEWORDS {
+    let rows = at_most_eleven(k);
+    if words.len() < 1usize << rows {
         return 0;
     }
     words[0] = 0;
     let mut count: usize = 1;
     let mut i = 0;
-    while i < k {
-        if i == 11 {
-            return count;
-        }
+    while i < rows {
         double(words, count, bits::pair(sheet, 2 + 2 * i));
         count = 2 * count;
         i += 1;
     }
     count
+}
+
+// The number of rows that count.
+fn at_most_eleven(k: usize) -> usize
+    ensures { λ r. ⌜ r ≡ min k 11 ⌝ }
+{
+    if k < 11 {
+        return k;
+    }
+    11
 }
 
 // Words 0 to count - 1 again, with `row` put on each, behind themselves.

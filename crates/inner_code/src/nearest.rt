@@ -6,7 +6,7 @@ use crate::refusal::Refusal;
 use crate::sheet::Sheet;
 use crate::sheet::check_sheet;
 ghost use mathlib.Core.Path.{_≡_};
-ghost use Prim.Native.Nat.{_^_, min};
+ghost use Prim.Native.Nat.{_^_, _≤_, min};
 ghost use lib.Bits.{bitXor};
 ghost use lib.ListN.{length};
 ghost use Rattle.bits.specs.Window.{at};
@@ -14,6 +14,11 @@ ghost use Rattle.inner_code.specs.Answer.{nearestAnswer, nearestReply};
 ghost use Rattle.inner_code.specs.Sheet.{rowOf};
 ghost use Rattle.inner_code.specs.Code.{combination};
 ghost use Rattle.inner_code.specs.Reduction.{searched, stepTo};
+
+// Where the rows are few there is room for their codewords alone: clearing room for every code costs more than searching so few words.
+const FEW_ROWS: usize = 5;
+
+const FEW_CODEWORDS: usize = 32;
 
 // The nearest codeword and how many bits it changes, or the refusal.
 pub enum Nearest {
@@ -53,12 +58,24 @@ pub fn nearest_word(sheet: &[u8], word: u64) -> Nearest
     }
 }
 
-// The codewords of the first k rows are listed and searched.
+// The step to the nearest codeword of the first k rows; a k above 11 counts as 11.
 fn nearest_of_rows(sheet: &[u8], k: usize, word: u16) -> Step
     ensures { λ r. ⌜ r ≡ stepTo word (searched (combination (rowOf (now (sheet .entry))) (min k 11)) (2 ^ min k 11) word) ⌝ }
 {
+    if k <= FEW_ROWS {
+        let mut few = [0u16; FEW_CODEWORDS];
+        return list_and_search(sheet, k, word, &mut few);
+    }
     let mut words = [0u16; MAX_CODEWORDS];
-    let count = list_codewords(sheet, k, &mut words);
+    list_and_search(sheet, k, word, &mut words)
+}
+
+// The same, where `words` has room for the codewords: they are listed there and searched.
+fn list_and_search(sheet: &[u8], k: usize, word: u16, words: &mut [u16]) -> Step
+    requires { ⌜ 2 ^ min k 11 ≤ length (now words) ⌝ }
+    ensures { λ r. ⌜ r ≡ stepTo word (searched (combination (rowOf (now (sheet .entry))) (min k 11)) (2 ^ min k 11) word) ⌝ }
+{
+    let count = list_codewords(sheet, k, words);
     nearest_listed(&words[0..count], word)
 }
 

@@ -4,7 +4,7 @@
 --   numbersOf plan, inOrder p    a plan's nine numbers, and such numbers in the order in which they are answered (specs Answer)
 -- Laws are named by their subject, then by the fact: `-refused` and `-answered` are the outcomes of a service, `-known` and
 -- `-turned-back` lead from its answer back to the plan.
-use Prim.Native.Nat.{ℕ, _≤_, min}
+use Prim.Native.Nat.{ℕ, _^_, _≤_, min}
 use mathlib.Core.List.{List, [], _∷_}
 use mathlib.Core.Path.{_≡_, sym, ap, _∙_}
 use native.Mathlib.Nat.{min-eq-left}
@@ -32,7 +32,8 @@ use Rattle.radius.specs.declared.numbers.PlanNumbers.{PlanNumbers}
 use Rattle.radius.proofs.Answers.{spread-done}
 
 -- the fewest ones of the listed codewords are the code's distance
-pub listed-distance : (row : ℕ → ℕ) (k : ℕ) {before words : List ℕ} {count : ℕ} → Lists row k before count words → 2048 ≤ length before
+pub listed-distance : (row : ℕ → ℕ) (k : ℕ) {before words : List ℕ} {count : ℕ} → Lists row k before count words
+    → 2 ^ min k 11 ≤ length before
     → fewestOnes (at (take count words)) (length (take count words)) ≡ distance row (min k 11)
 listed-distance row k {words = words} {count = count} lists room =
     ap (fewestOnes (at (take count words))) (front-length row k lists room)

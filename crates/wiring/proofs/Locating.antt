@@ -10,7 +10,7 @@
 -- vertex of a side as a loop finds it, `located-` about both sides, `answer-` about the service. At the end of a name, `-residue` and `-by`
 -- say that the code's test is the definition's.
 use Prim.Native.Nat.{ℕ, _+_, _*_, _≤_, _<_, min}
-use mathlib.Core.Bool.{Bool}
+use mathlib.Core.Bool.{Bool, true}
 use mathlib.Core.List.{List, [], _∷_}
 use mathlib.Core.Path.{_≡_, refl, sym, ap, ap₂, _∙_}
 use native.Mathlib.Nat.{min-eq-left}
@@ -19,13 +19,13 @@ use lib.Dec.{eqb}
 use lib.ListN.{replicate}
 use borrow.Author.Tests.{lt-ltb, le-ltb, eq-eqb, ne-eqb}
 use Rattle.bits.specs.Window.{at}
-use Rattle.bits.proofs.Searches.{first-zero, first-one-more, first-at, first-all-each, first-ext}
+use Rattle.bits.proofs.Searches.{first-zero, first-one-more, first-at, first-all, first-all-each, first-ext}
 use Rattle.inner_code.specs.Reply.{Reply, done, refused, andThen}
 use Rattle.inner_code.specs.Code.{isCodeword}
 use Rattle.inner_code.specs.Reduction.{reducedBy, withEchelon}
 use Rattle.inner_code.specs.Sheet.{rowCount, rowOf}
 use Rattle.inner_code.proofs.Replies.{andThen-passed, andThen-refused}
-use Rattle.inner_code.proofs.EchelonForm.{codeword-test, reducedBy-stored}
+use Rattle.inner_code.proofs.EchelonForm.{codeword-test, reducedBy-zero, reducedBy-stored}
 use Rattle.wiring.specs.Plan.{Plan, left, right, sheetOf, countOf, sideOf}
 use Rattle.wiring.specs.Wiring.{planCheck}
 use Rattle.wiring.specs.Block.{blockCheck, satisfied, firstUnsatisfied, located}
@@ -36,7 +36,7 @@ use Rattle.wiring.specs.declared.plan.CheckedPlan.{CheckedPlan}
 use Rattle.wiring.specs.declared.side.SideCode.{SideCode}
 use Rattle.wiring.specs.declared.side.SideName.{SideName}
 use Rattle.wiring.proofs.Permutation.{side-fits}
-use Rattle.wiring.proofs.VertexAccess.{read-inside}
+use Rattle.wiring.proofs.VertexAccess.{read-zero, read-inside}
 use Rattle.wiring.proofs.Plans.{PlanAccepted, accepted-edges}
 
 -- ---- one side, vertex by vertex: `word` is what the code reads, `left` what the basis leaves of it
@@ -83,6 +83,25 @@ module _ (codes : SideName → SideCode) (wiring block : List ℕ) where
   unfolding locatedBy
   located-nowhere l r =
       rw (l, r, le-ltb (codes left .n) (codes left .n) (omega arith), le-ltb (codes right .n) (codes right .n) (omega arith))
+
+-- ---- the zero block, of which nothing is left at any vertex
+
+module _ (code : SideCode) (side : SideName) (wiring block : List ℕ) (zero-block : (i : ℕ) → at block i ≡ 0) where
+  satisfied-zero : (v : ℕ) → satisfiedBy code side wiring block v ≡ true
+  unfolding satisfiedBy
+  satisfied-zero v =
+      let rows = at (code .basis) in
+      let k = min (code .k) 11 in
+      eq-eqb _ 0 (ap (reducedBy rows k) (read-zero side wiring (code .d) block v zero-block) ∙ reducedBy-zero rows k)
+
+  unsatisfied-zero : (n : ℕ) → unsatisfiedBy code side wiring n block ≡ n
+  unfolding unsatisfiedBy
+  unsatisfied-zero n = first-all n _ (λ v _. satisfied-zero v)
+
+pub located-zero : (codes : SideName → SideCode) (wiring block : List ℕ) → ((i : ℕ) → at block i ≡ 0) → locatedBy codes wiring block ≡ []
+located-zero codes wiring block zero-block =
+    located-nowhere codes wiring block (unsatisfied-zero (codes left) left wiring block zero-block (codes left .n))
+    (unsatisfied-zero (codes right) right wiring block zero-block (codes right .n))
 
 -- ---- the code's test is the definition's
 

@@ -8,9 +8,9 @@
 --   sideBy sheet n wiring name           the side of these parts (specs Plan)
 -- Laws are named by their subject, then by the fact: `inside-` and `outside-` are about the tests, `read-` about the
 -- word that is read, `word-from-` about a word of which some digits are read. At the end of a name, `-inside` is a vertex of an
--- accepted plan, `-outside` one that the tests turn away, `-one-more` one more digit.
+-- accepted plan, `-outside` one that the tests turn away, `-one-more` one more digit, `-zero` the zero block.
 use Prim.Native.Nat.{ℕ, _+_, _*_, _≤_, _<_, min}
-use mathlib.Core.Bool.{true, false, and-false}
+use mathlib.Core.Bool.{Bool, true, false, cond, and-false}
 use mathlib.Core.List.{List}
 use mathlib.Core.Path.{_≡_, refl, sym, ap, ap₂, _∙_}
 use native.Mathlib.Nat.{min-eq-left}
@@ -19,10 +19,10 @@ use lib.Dec.{ltb, leb}
 use lib.ListN.{length}
 use lib.Pow.{pow-mono}
 use borrow.Author.Tests.{lt-ltb, le-ltb, le-leb, lt-leb}
-use Rattle.bits.specs.Window.{wordAt}
+use Rattle.bits.specs.Window.{at, wordAt}
 use Rattle.bits.specs.Bit.{word, bitAt}
-use Rattle.bits.proofs.Words.{word-lt, word-one-more}
-use Rattle.bits.proofs.Bytes.{bitAt-lt}
+use Rattle.bits.proofs.Words.{word-lt, word-one-more, word-zero}
+use Rattle.bits.proofs.Bytes.{bitAt-lt, bitAt-zero}
 use Rattle.inner_code.specs.Sheet.{degree}
 use Rattle.wiring.specs.Plan.{edgeOf, left, right, sideBit, sideBy}
 use Rattle.wiring.specs.Block.{vertexWord}
@@ -87,6 +87,18 @@ module _ (side : SideName) (wiring : List ℕ) (d : ℕ) where
   pub read-all : (block : List ℕ) (v : ℕ) → inside d wiring v ≡ true → readWord side wiring d block v ≡ wordFrom (sideBit side wiring) block (v * d) d
   unfolding readWord
   read-all block v e = rw e
+
+-- ---- the zero block
+
+pub read-zero : (side : SideName) (wiring : List ℕ) (d : ℕ) (block : List ℕ) (v : ℕ) → ((i : ℕ) → at block i ≡ 0)
+    → readWord side wiring d block v ≡ 0
+unfolding readWord wordFrom
+read-zero side wiring d block v zero-block =
+    ap (λ (x : ℕ). cond (inside d wiring v) x 0) (word-zero d _ (λ j _. bitAt-zero block _ zero-block)) ∙ either (inside d wiring v)
+  where
+    either : (b : Bool) → cond {A = ℕ} b 0 0 ≡ 0
+    either true = refl
+    either false = refl
 
 -- ---- a side that fits
 

@@ -1,4 +1,4 @@
--- `decoder::decode_checked` meets its contract: a block of few bits that is a codeword is copied; for any other block each finder is prepared for
+-- `decoder::decode_checked` meets its contract: a block that is plainly a codeword is copied; for any other block each finder is prepared for
 -- its side's sheet, and one for both where the sheets are the same.
 use mathlib.Core.List.{List, []}
 use mathlib.Core.Path.{_≡_, refl, ap}
@@ -36,10 +36,10 @@ planIn c = planOf (now (c .args .left)) (now (c .args .right)) (c .args .nl) (c 
 accepted : (c : tie.Start) → planCheck (planIn c) ≡ done []
 accepted c = check-means _ _ _ _ (c .pre .1 .1) .plan-done
 
-is-small-codeword-requires : tie.Need-is-small-codeword-requires
-is-small-codeword-requires c κs = search needs
+is-plain-codeword-requires : tie.Need-is-plain-codeword-requires
+is-plain-codeword-requires c κs = search needs
 
--- ---- a block of few bits that is a codeword
+-- ---- a block that is plainly a codeword
 
 copy-front-requires : tie.Need-copy-front-requires
 copy-front-requires c κs = check-means _ _ _ _ (c .before .before .before .before .before .before .before .before .pre .1 .1) .room
@@ -53,7 +53,7 @@ returns c =
     let small = copied .before .before in
     let s = c .before .before .before .before .before .before .before .before .before .before .before in
     copy-codeword (planIn s) _ _ _ (s .pre .1 .1) (s .args .left-code) (s .args .right-code) (s .pre .0) (s .pre .1 .0)
-    (small .before .is-small-codeword .ensures (small .if1 .taken)) (copied .copy-front .ensures)
+    (small .before .is-plain-codeword .ensures (small .if1 .taken)) (copied .copy-front .ensures)
 
 -- ---- any other
 
@@ -136,7 +136,7 @@ pub decode-checked-spec : {M : Type 1} → statement M
 decode-checked-spec =
     tie.close
     (tie.spec
-    is-small-codeword-requires
+    is-plain-codeword-requires
     copy-front-requires
     same-length
     returns

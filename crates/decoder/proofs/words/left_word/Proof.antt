@@ -1,11 +1,11 @@
 -- `decoder::left_word` meets its contract: eight bits from the first of a byte on are the byte, and sixteen are two of them.
-use Prim.Native.Nat.{ℕ, _*_, _/_, _%_, _<_, min}
+use Prim.Native.Nat.{ℕ, _*_, _/_, _<_, min}
 use mathlib.Core.List.{List}
-use mathlib.Core.Path.{_≡_, sym, ap, ap₂, _∙_}
+use mathlib.Core.Path.{_≡_, sym, ap, _∙_}
 use native.Mathlib.Omega.{arith}
 use borrow.Author.Needs.{needs}
 use denote.Ref.{now}
-use lib.ListN.{length, getD, List·getD-eq-default}
+use lib.ListN.{getD, List·getD-eq-default}
 use Rattle.bits.specs.Bit.{pairAt}
 use Rattle.bits.specs.Window.{wordAt}
 use Rattle.bits.proofs.Windows.{wordAt-byte, wordAt-pair}

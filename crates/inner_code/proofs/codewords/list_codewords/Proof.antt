@@ -1,63 +1,64 @@
 -- `inner_code::list_codewords` meets its contract: after i turns the codewords of the first i rows are listed.
 use mathlib.Core.Path.{_≡_, refl, sym, ap, ap₂, _∙_}
 use mathlib.Core.List.{List}
-use Prim.Native.Nat.{ℕ, _*_, _≤_, _<_, _-_, _^_, min}
+use Prim.Native.Nat.{ℕ, suc, _*_, _≤_, _-_, _%_, _^_, min}
 use borrow.Author.Needs.{needs}
 use native.Mathlib.Omega.{arith}
 use native.Mathlib.Nat.{pow-suc}
 use native.Mathlib.Numerals.{add-one}
 use denote.Ref.{now}
 use lib.ListN.{length, set, length-set}
-use lib.Pow.{pow-mono}
+use lib.Pow.{pow-mono, pow-pos}
 use lib.Seq.{set-set}
 use Rattle.inner_code.specs.Sheet.{rowOf}
-use Rattle.inner_code.specs.Reduction.{doubled, listed, Lists}
-use Rattle.inner_code.proofs.Listings.{length-doubled, listed-one-more, listed-again}
+use Rattle.inner_code.specs.Reduction.{doubled, listed}
+use Rattle.inner_code.proofs.Finding.{shifted-one}
+use Rattle.inner_code.proofs.Listings.{length-doubled, listed-one-more, listed-again, words-most}
 use Rattle.inner_code.proofs.codewords.list_codewords.Statement.{statement}
 use Rattle.inner_code.proofs.codewords.list_codewords.Tie as tie
 
 abbrev Inv-loop : tie.InvT-loop
-Inv-loop sheet k words₀ count₀ i₀ words count i =
-    (i ≤ k) × (i ≤ 11) × (count ≡ 2 ^ i) × (words ≡ listed (rowOf sheet) i words₀) × (length words ≡ length words₀)
+Inv-loop sheet k words₀ rows count₀ i₀ words count i =
+    (i ≤ rows) × (count ≡ 2 ^ i) × (words ≡ listed (rowOf sheet) i words₀) × (length words ≡ length words₀)
 
 abbrev μ-loop : tie.MeasureT-loop
-μ-loop sheet k words₀ count₀ i₀ words count i = k - i
+μ-loop sheet k words₀ rows count₀ i₀ words count i = rows - i
+
+at-most-eleven-requires : tie.Need-at-most-eleven-requires Inv-loop μ-loop
+at-most-eleven-requires c κs = search needs
+
+shl-if1 : tie.Need-shl-if1 Inv-loop μ-loop
+shl-if1 c = search needs
+
+-- the number of words that are listed
+limit : (c : tie.After-at-most-eleven Inv-loop μ-loop)
+    → (1 * 2 ^ c .at-most-eleven .result) % 2 ^ 64 ≡ 2 ^ min (c .before .before .before .args .k) 11
+limit c =
+    let rows = c .at-most-eleven .ensures in
+    shifted-one (c .at-most-eleven .result) 64 (omega (arith, rows)) ∙ ap (λ (j : ℕ). 2 ^ j) rows
 
 returns : tie.Need-returns Inv-loop μ-loop
-returns c = record { room = λ h. absurd (omega arith); short = λ h. (refl, refl) }
+returns c = record { room = λ h. absurd (omega (arith, limit (c .before))); short = λ h. (refl, refl) }
+
+-- past the test they have room
+room : (c : tie.Else1 Inv-loop μ-loop)
+    → 2 ^ min (c .before .before .before .before .args .k) 11 ≤ length (now (c .before .before .before .before .args .words))
+room c = omega (arith, limit (c .before))
 
 slice-write-words : tie.Need-slice-write-words Inv-loop μ-loop
-slice-write-words c = search needs
+slice-write-words c = omega (arith, room c, pow-pos (min (c .before .before .before .before .args .k) 11))
 
 loop-holds : tie.Need-loop-holds Inv-loop μ-loop
 unfolding listed
-loop-holds c = (search needs, search needs, refl, sym (set-set (now (c .before .before .before .args .words)) 0 0 0), refl)
+loop-holds c = (search needs, refl, sym (set-set (now (c .before .before .before .before .args .words)) 0 0 0), refl)
 
 -- ---- from the loop on
 
 abbrev start : tie.At-loop Inv-loop μ-loop → tie.Start Inv-loop μ-loop
-start c = c .before .before .before .before
+start c = c .before .before .before .before .before
 
 sized : (c : tie.At-loop Inv-loop μ-loop) → length (c .loop .words) ≡ length (now (start c .args .words))
-sized c = c .loop .inv .4 ∙ length-set (now (start c .args .words)) 0 0
-
--- at either way out the rows are all listed, or eleven of them
-at-last : (k i count : ℕ) (words : List ℕ) (row : ℕ → ℕ) (l : List ℕ) → 2048 ≤ length l → i ≡ min k 11 → count ≡ 2 ^ i
-    → words ≡ listed row i (set l 0 0) → Lists row k l count words
-at-last k i count words row l size e c w = record {
-  room = λ h. (c ∙ ap (λ (j : ℕ). 2 ^ j) e, w ∙ listed-again row i l ∙ ap (λ (j : ℕ). listed row j l) e);
-  short = λ h. absurd (omega arith);
-}
-
-same-length : tie.Need-same-length Inv-loop μ-loop
-same-length c = sized (c .before .before)
-
-returns-2 : tie.Need-returns-2 Inv-loop μ-loop
-returns-2 c =
-    let before = c .before .before .loop in
-    let args = start (c .before .before) .args in
-    at-last (args .k) (before .i) (before .count) (before .words) (rowOf (now (args .sheet))) (now (args .words)) (omega arith) (omega arith)
-    (before .inv .2) (before .inv .3)
+sized c = c .loop .inv .3 ∙ length-set (now (start c .args .words)) 0 0
 
 mul-pair : tie.Need-mul-pair Inv-loop μ-loop
 mul-pair c = search needs
@@ -68,25 +69,24 @@ add-pair c = search needs
 pair-requires : tie.Need-pair-requires Inv-loop μ-loop
 pair-requires c κs = search needs
 
--- below 11 rows there is room for as many words again
-count-fits : (i count : ℕ) → i < 11 → count ≡ 2 ^ i → 2 * count ≤ 2048
-count-fits i count h e = omega (arith, e, pow-mono {i = i} {j = 10} (omega arith))
-
-abbrev head : tie.After-pair Inv-loop μ-loop → tie.At-loop Inv-loop μ-loop
-head c = c .before .before .before .before
+-- before the last row is reached there are to be as many words again
+count-fits : (c : tie.In-loop Inv-loop μ-loop) → 2 * c .before .loop .count ≤ 2 ^ min (start (c .before) .args .k) 11
+count-fits c =
+    let before = c .before .loop in
+    let k = start (c .before) .args .k in
+    let more : suc (before .i) ≤ min k 11 = omega (arith, c .before .before .before .at-most-eleven .ensures) in
+    omega (arith, before .inv .1, pow-suc 2 (before .i), pow-mono {i = suc (before .i)} {j = min k 11} more)
 
 double-requires : tie.Need-double-requires Inv-loop μ-loop
 double-requires c κs =
-    let here = head c in
-    omega (arith, count-fits (here .loop .i) (here .loop .count) (omega arith) (here .loop .inv .2), sized here)
+    let turn = c .before .before in
+    omega (arith, count-fits turn, room (turn .before .before), sized (turn .before))
 
-abbrev turn : tie.After-slice-known2 Inv-loop μ-loop → tie.At-loop Inv-loop μ-loop
-turn c = head (c .before .before .before)
+abbrev head : tie.After-slice-known2 Inv-loop μ-loop → tie.In-loop Inv-loop μ-loop
+head c = c .before .before .before .before .before
 
 mul-count : tie.Need-mul-count Inv-loop μ-loop
-mul-count c =
-    let before = turn c .loop in
-    omega (arith, count-fits (before .i) (before .count) (omega arith) (before .inv .2))
+mul-count c = omega (arith, count-fits (head c), words-most (start (head c .before) .args .k))
 
 add-i : tie.Need-add-i Inv-loop μ-loop
 add-i c = search needs
@@ -97,31 +97,37 @@ loop-less c = search needs
 loop-again : tie.Need-loop-again Inv-loop μ-loop
 unfolding rowOf
 loop-again c =
-    let before = turn c .loop in
-    let args = start (turn c) .args in
+    let before = head c .before .loop in
+    let args = start (head c .before) .args in
     let pair = c .before .before .before .pair in
     let doubling = c .before .before .double in
-    let count = before .inv .2 in (
-      search needs,
+    let count = before .inv .1 in (
       search needs,
       rw add-one (omega (arith, count, pow-suc 2 (before .i))),
       doubling .ensures
-          ∙ ap₂ (λ (n : ℕ) (l : List ℕ). doubled n (pair .result) n l) count (before .inv .3)
+          ∙ ap₂ (λ (n : ℕ) (l : List ℕ). doubled n (pair .result) n l) count (before .inv .2)
           ∙ ap (λ (r : ℕ). doubled (2 ^ before .i) r (2 ^ before .i) (listed (rowOf (now (args .sheet))) (before .i) (set (now (args .words)) 0 0)))
           (pair .ensures)
           ∙ sym (listed-one-more (rowOf (now (args .sheet))) (before .i) (set (now (args .words)) 0 0)),
-      ap length (doubling .ensures) ∙ length-doubled _ _ _ _ ∙ before .inv .4,
+      ap length (doubling .ensures) ∙ length-doubled _ _ _ _ ∙ before .inv .3,
     )
 
-same-length-2 : tie.Need-same-length-2 Inv-loop μ-loop
-same-length-2 c = sized (c .before)
+same-length : tie.Need-same-length Inv-loop μ-loop
+same-length c = sized (c .before)
 
-returns-3 : tie.Need-returns-3 Inv-loop μ-loop
-returns-3 c =
+returns-2 : tie.Need-returns-2 Inv-loop μ-loop
+returns-2 c =
     let before = c .before .loop in
     let args = start (c .before) .args in
-    at-last (args .k) (before .i) (before .count) (before .words) (rowOf (now (args .sheet))) (now (args .words)) (omega arith) (omega arith)
-    (before .inv .2) (before .inv .3)
+    let row = rowOf (now (args .sheet)) in
+    let all : before .i ≡ min (args .k) 11 = omega (arith, c .before .before .before .at-most-eleven .ensures) in
+    record {
+      room = λ h. (
+        before .inv .1 ∙ ap (λ (j : ℕ). 2 ^ j) all,
+        before .inv .2 ∙ listed-again row (before .i) (now (args .words)) ∙ ap (λ (j : ℕ). listed row j (now (args .words))) all,
+      );
+      short = λ h. absurd (omega (arith, room (c .before .before)));
+    }
 
 pub list-codewords-spec : {M : Type 1} → statement M
 list-codewords-spec =
@@ -129,11 +135,11 @@ list-codewords-spec =
     (tie.spec
     Inv-loop
     μ-loop
+    at-most-eleven-requires
+    shl-if1
     returns
     slice-write-words
     loop-holds
-    same-length
-    returns-2
     mul-pair
     add-pair
     pair-requires
@@ -142,5 +148,5 @@ list-codewords-spec =
     add-i
     loop-less
     loop-again
-    same-length-2
-    returns-3)
+    same-length
+    returns-2)

@@ -1,14 +1,14 @@
 -- `inner_code::prepare_finder` meets its contract: the tables and the codewords are lent out as parts and come back filled.
 use mathlib.Core.Path.{_≡_, ap, _∙_}
 use mathlib.Core.List.{List, _++_}
-use Prim.Native.Nat.{ℕ, _+_, _-_, _≤_, min}
+use Prim.Native.Nat.{ℕ, _+_, _-_, _^_, _≤_, min}
 use native.Mathlib.Omega.{arith}
 use borrow.Author.Needs.{needs}
 use denote.Ref.{now}
 use lib.ListN.{length, take, drop, length-set, length-drop}
 use lib.Seq.{length-take-le}
 use Rattle.inner_code.specs.Finding.{Placed, powerLeft}
-use Rattle.inner_code.proofs.Listings.{lists-few}
+use Rattle.inner_code.proofs.Listings.{words-most, lists-few}
 use Rattle.inner_code.proofs.Finding.{placed-back, Tabulates, tabulates-listed, filled-parts}
 use Rattle.inner_code.proofs.finder.prepare_finder.Statement.{statement}
 use Rattle.inner_code.proofs.finder.prepare_finder.Tie as tie
@@ -128,10 +128,12 @@ words c =
     let l = high (second c) in
     take 2592 l ++ (c .list-codewords .last .1 .1 .0 ++ drop (length l - 2592) (drop 2592 l))
 
-part : (c : tie.After-list-codewords) → length (take (length (high (second c)) - 2592) (drop 2592 (high (second c)))) ≡ 2048
-part c =
+-- the last part has room for every code
+room : (c : tie.After-list-codewords)
+    → 2 ^ min (call c .args .k) 11 ≤ length (take (length (high (second c)) - 2592) (drop 2592 (high (second c))))
+room c =
     let l = high (second c) in
-    part-sized 2592 (length l - 2592) l (omega (arith, high-sized c)) ∙ omega (arith, high-sized c)
+    omega (arith, part-sized 2592 (length l - 2592) l (omega (arith, high-sized c)), high-sized c, words-most (call c .args .k))
 
 words-placed : (c : tie.After-list-codewords) → Placed 2592 (c .list-codewords .last .1 .1 .0) (high (second c)) (words c)
 words-placed c =
@@ -145,7 +147,7 @@ words-sized c = words-placed c .sized ∙ high-placed (second c) .sized ∙ low-
 cast-finder : tie.Need-cast-finder
 cast-finder c =
     let listing = c .before .before in
-    omega (arith, lists-few _ _ (listing .list-codewords .ensures) (omega (arith, part listing)))
+    omega (arith, lists-few _ _ (listing .list-codewords .ensures) (room listing))
 
 slice-write-finder : tie.Need-slice-write-finder
 slice-write-finder c = search needs
@@ -170,7 +172,7 @@ returns-2 c =
           (known .at-most-sixteen .ensures ∙ ap (λ (n : ℕ). min n 16) (known .before .degree-of .ensures))
           (low-tabulates (first (second listing))) (low-placed (first (second listing)))
           (high-tabulates (second listing)) (high-placed (second listing))
-          (omega (arith, part listing)) (listing .list-codewords .ensures) (words-placed listing);
+          (room listing) (listing .list-codewords .ensures) (words-placed listing);
       none = λ other. absurd (other (known .before .before .if1 .left));
     }
 

@@ -1,60 +1,36 @@
--- `inner_code::nearest_of_rows` meets its contract: the listed words are the codewords.
-use mathlib.Core.Path.{_≡_, ap, _∙_}
-use Prim.Native.Nat.{ℕ, _-_, _≤_}
+-- `inner_code::nearest_of_rows` meets its contract: either array has room for the codewords that are listed there.
 use borrow.Author.Needs.{needs}
 use native.Mathlib.Omega.{arith}
-use denote.Ref.{now}
-use lib.ListN.{length, take, replicate, length-replicate}
-use Rattle.bits.specs.Window.{at}
-use Rattle.inner_code.specs.Sheet.{rowOf}
-use Rattle.inner_code.specs.Reduction.{searched, stepTo}
-use Rattle.inner_code.proofs.Listings.{lists-fits, front-searched}
+use lib.Pow.{pow-mono}
+use Rattle.inner_code.proofs.Listings.{words-most}
 use Rattle.inner_code.proofs.nearest.nearest_of_rows.Statement.{statement}
 use Rattle.inner_code.proofs.nearest.nearest_of_rows.Tie as tie
 
-slice-aggregate-list-codewords : tie.Need-slice-aggregate-list-codewords
-slice-aggregate-list-codewords c = search needs
+slice-aggregate-list-and-search : tie.Need-slice-aggregate-list-and-search
+slice-aggregate-list-and-search c = search needs
 
-list-codewords-requires : tie.Need-list-codewords-requires
-list-codewords-requires c κs = search needs
-
-sub-nearest-listed : tie.Need-sub-nearest-listed
-sub-nearest-listed c = search needs
-
-part-nearest-listed-start : tie.Need-part-nearest-listed-start
-part-nearest-listed-start c = search needs
-
--- the array has room for every code
-room : 2048 ≤ length (replicate {A = ℕ} 2048 0)
-room = omega (arith, length-replicate {A = ℕ} 2048 0)
-
-part-nearest-listed-end : tie.Need-part-nearest-listed-end
-part-nearest-listed-end c =
-    let listing = c .before .before .list-codewords in
-    omega (arith, lists-fits _ _ (listing .ensures) room)
-
-nearest-listed-requires : tie.Need-nearest-listed-requires
-nearest-listed-requires c κs = search needs
+list-and-search-requires : tie.Need-list-and-search-requires
+list-and-search-requires c κs = pow-mono {j = 5} (omega arith)
 
 returns : tie.Need-returns
-returns c =
-    let listed = c .before .before .before .before in
-    let args = listed .before .before .before .args in
-    let words = listed .list-codewords .last .1 .1 .0 in
-    let all : listed .list-codewords .result - 0 ≡ listed .list-codewords .result = omega arith in
-    c .nearest-listed .ensures
-    ∙ ap (stepTo (args .word))
-    (ap (λ (n : ℕ). searched (at (take n words)) (length (take n words)) (args .word)) all
-    ∙ front-searched (rowOf (now (args .sheet))) (args .k) (listed .list-codewords .ensures) room (args .word))
+returns c = search needs
+
+slice-aggregate-list-and-search-2 : tie.Need-slice-aggregate-list-and-search-2
+slice-aggregate-list-and-search-2 c = search needs
+
+list-and-search-requires-2 : tie.Need-list-and-search-requires-2
+list-and-search-requires-2 c κs = words-most (c .before .before .before .args .k)
+
+returns-2 : tie.Need-returns-2
+returns-2 c = search needs
 
 pub nearest-of-rows-spec : {M : Type 1} → statement M
 nearest-of-rows-spec =
     tie.close
     (tie.spec
-    slice-aggregate-list-codewords
-    list-codewords-requires
-    sub-nearest-listed
-    part-nearest-listed-start
-    part-nearest-listed-end
-    nearest-listed-requires
-    returns)
+    slice-aggregate-list-and-search
+    list-and-search-requires
+    returns
+    slice-aggregate-list-and-search-2
+    list-and-search-requires-2
+    returns-2)

@@ -1,14 +1,14 @@
 -- `radius::measured_distance` meets its contract: the listed words are the codewords, and the fewest ones of these are the distance.
 use mathlib.Core.Path.{_≡_, ap, _∙_}
-use Prim.Native.Nat.{ℕ, _-_, _≤_}
+use Prim.Native.Nat.{ℕ, _-_}
 use borrow.Author.Needs.{needs}
 use native.Mathlib.Omega.{arith}
 use denote.Ref.{now}
-use lib.ListN.{length, take, replicate, length-replicate}
+use lib.ListN.{length, take}
 use Rattle.bits.specs.Window.{at}
 use Rattle.inner_code.specs.Reduction.{fewestOnes}
 use Rattle.inner_code.specs.Sheet.{rowOf}
-use Rattle.inner_code.proofs.Listings.{lists-fits}
+use Rattle.inner_code.proofs.Listings.{words-most, lists-fits}
 use Rattle.radius.proofs.PlanNumbers.{listed-distance}
 use Rattle.radius.proofs.numbers.measured_distance.Statement.{statement}
 use Rattle.radius.proofs.numbers.measured_distance.Tie as tie
@@ -25,12 +25,8 @@ sub-distance c = search needs
 part-distance-start : tie.Need-part-distance-start
 part-distance-start c = search needs
 
--- the array has room for every code
-room : 2048 ≤ length (replicate {A = ℕ} 2048 0)
-room = omega (arith, length-replicate {A = ℕ} 2048 0)
-
 part-distance-end : tie.Need-part-distance-end
-part-distance-end c = omega (arith, lists-fits _ _ (c .before .before .list-codewords .ensures) room)
+part-distance-end c = omega (arith, lists-fits _ _ (c .before .before .list-codewords .ensures) (words-most _))
 
 distance-requires : tie.Need-distance-requires
 distance-requires c κs = search needs
@@ -46,7 +42,7 @@ returns c =
     let all : listed .list-codewords .result - 0 ≡ listed .list-codewords .result = omega arith in
     c .distance .ensures
     ∙ ap (λ (m : ℕ). fewestOnes (at (take m words)) (length (take m words))) all
-    ∙ listed-distance (rowOf (now (args .sheet))) (args .k) (listed .list-codewords .ensures) room
+    ∙ listed-distance (rowOf (now (args .sheet))) (args .k) (listed .list-codewords .ensures) (words-most (args .k))
 
 pub measured-distance-spec : {M : Type 1} → statement M
 measured-distance-spec =
