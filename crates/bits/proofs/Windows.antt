@@ -1,7 +1,7 @@
 -- Windows: a few bits in a row, read out of the three bytes that hold them.
 --   wordAt bytes i d   the number that the d bits from bit i on make, bit i of the highest weight (specs Window)
 -- Laws are named by their subject, then by the fact: `digit-` is about one binary digit of a number that is cut or put together,
--- `power-` about a power of two in a number of 32 bits.
+-- `shifted-` about a 1 that the code shifts.
 use mathlib.Core.Path.{_≡_, sym, ap, ap₂, _∙_}
 use Prim.Native.Nat.{ℕ, _+_, _-_, _*_, _/_, _%_, _^_, _≤_, _<_}
 use mathlib.Core.List.{List}
@@ -42,10 +42,10 @@ digit-moved w x k wide small below =
     ∙ ap (λ (m : ℕ). x * 2 ^ k / 2 ^ m % 2) (sym seven)
     ∙ ap (λ (y : ℕ). y % 2) (sym (shr-shr (x * 2 ^ k) k (7 - k)) ∙ ap (λ (y : ℕ). y / 2 ^ (7 - k)) (shl-shr x k))
 
--- ---- a power of two, as the code makes it in 32 bits
+-- ---- a power of two, as the code makes it: a 1 that is shifted inside a number of w bits
 
-pub power-held : (d : ℕ) → d ≤ 16 → (1 * 2 ^ d) % 4294967296 ≡ 2 ^ d
-power-held d h = shl-exact {a = 1} 1 d 32 (omega arith) (omega arith) ∙ omega arith
+pub shifted-one : (b w : ℕ) → b < w → (1 * 2 ^ b) % 2 ^ w ≡ 2 ^ b
+shifted-one b w h = shl-exact {a = 1} 1 b w (omega arith) (omega arith) ∙ omega arith
 
 -- ---- three bytes
 

@@ -113,7 +113,7 @@ fn decode_checked(
     ensures { λ r. ⌜ r .sums ≡ decodeSums (planOf (now (left .entry)) (now (right .entry)) nl nr (now (wiring .entry))) (now (received .entry)) (now (output .entry)) limit ⌝ }
     ensures { λ _. ⌜ now (output .exit) ≡ decodeOutput (planOf (now (left .entry)) (now (right .entry)) nl nr (now (wiring .entry))) (now (received .entry)) (now (output .entry)) limit ⌝ }
 {
-    if is_plain_codeword(left_code, right_code, wiring, received) {
+    if is_codeword_at_sight(left_code, right_code, wiring, received) {
         copy_front(received, output);
         return Decoding {
             outcome: Decoded::Settled(0),
@@ -218,7 +218,7 @@ fn refuse(refusal: Refusal) -> Decoding
 
 // Whether a block is found to be a codeword with no finder set up: one of zeros, which is a codeword of every plan, or one of few bits, by the
 // rows of each side. Of any other block nothing is said. Setting up a finder costs more than testing so few vertices by the rows.
-fn is_plain_codeword(left: SideCode, right: SideCode, wiring: &[u8], block: &[u8]) -> bool
+fn is_codeword_at_sight(left: SideCode, right: SideCode, wiring: &[u8], block: &[u8]) -> bool
     ensures { λ r. ⌜ (r ≡ true → locatedBy (bothCodes left right) (now (wiring .entry)) (now (block .entry)) ≡ []) ⌝ }
 {
     if bits::is_zero(block) {

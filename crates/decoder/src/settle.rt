@@ -5,7 +5,7 @@ use crate::sweep::sweep_left;
 use crate::sweep::sweep_right;
 use crate::words::note_places;
 use crate::words::read_words;
-use inner_code::MAX_DEGREE;
+use wiring::MAX_EDGES;
 use wiring::MAX_VERTICES;
 ghost use mathlib.Core.List.{[]};
 ghost use mathlib.Core.Path.{_≡_};
@@ -20,9 +20,6 @@ ghost use Rattle.decoder.specs.Visiting.{Ready, BothSwept, WordsRead, Pl
 
 // The sweeps whose sums are told.
 pub const SUMS: usize = 64;
-
-// The most edges of a plan.
-const MAX_EDGES: usize = MAX_VERTICES * MAX_DEGREE;
 
 // After how many sweeps a block settled, one more than the limit where it did not, and how many bits each sweep up to there changed.
 pub(crate) struct Settling {

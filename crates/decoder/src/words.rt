@@ -60,22 +60,22 @@ pub(crate) fn read_words(
 }
 
 // The word at the d entries of the wiring from `base` on, bit by bit. A bit is moved to weight 128 and not to weight 1, which takes two steps
-// fewer: 128 times the word is put together.
+// fewer: `scaled` is 128 times the word.
 fn gathered(wiring: &[u8], base: usize, d: usize, block: &[u8]) -> u16
     requires { ⌜ d ≤ 16 ⌝ }
     requires { ⌜ 2 * (base + d) ≤ length (now wiring) ⌝ }
     requires { ⌜ ((j : ℕ) → j < d → edgeOf (now wiring) (base + j) < length (now block) * 8) ⌝ }
     ensures { λ r. ⌜ r ≡ wordFrom (edgeOf (now (wiring .entry))) (now (block .entry)) base d ⌝ }
 {
-    let mut times: u32 = 0;
+    let mut scaled: u32 = 0;
     let mut j = 0;
     while j < d {
         let edge = edge_at(wiring, base + j);
         let moved = (block[edge / 8] as u32) << (edge % 8);
-        times = times * 2 + moved / 128 % 2 * 128;
+        scaled = scaled * 2 + moved / 128 % 2 * 128;
         j += 1;
     }
-    (times / 128) as u16
+    (scaled / 128) as u16
 }
 
 // Notes at each edge the entry of the wiring where it stands.

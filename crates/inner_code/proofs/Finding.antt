@@ -1,25 +1,27 @@
 -- The finder of nearest words: what its parts hold, how they come to stand there, and that the word found is the nearest word.
---   Placed start part before after   `after` is `before` with `part` in it from `start` on (specs Finding)
+--   Placed start part before after   `after` is `before` with `part` in it from `start` on
 --   Finds sheet finder               the finder finds the sheet's nearest words (specs Finding)
---   Filled, Prepared, leftIn, ownNearest, singleIn, searchedIn, soughtIn, foundWord, foundFinder
+--   filledFinder, preparedFinder, leftIn, ownNearest, singleIn, searchedIn, soughtIn, foundWord, foundFinder
 --                                    what the code answers and leaves (specs Finding)
+--   Filled sheet k basis before after    what stands in the finder that is filled: the tables, the codewords, their number, d, and the leaders of
+--                                    before
 --   otherLeft finder left b          the test whether the rows leave something else of 2^b
 --   Single finder left r             r is the smallest pattern of a single one of which the rows leave `left`
 --   Sought finder left w             what is answered and left for w where no leader is at hand
---   Tabulates row n table            the table's first 2^n numbers are the combinations of n rows
+--   ListedIn row n start size before after    the combinations of n rows stand in the part of `size` numbers from `start` on
 --   OwnNearest finder w r            r tells whether w is its own nearest word
 --   Leads before w x after           x is the nearest word of w, and what finds before finds after
 --   Found before w r after           r is the step to the nearest word of w, and what finds before finds after
 -- Laws are named by their subject, then by the fact: `placed-` is about a part put into a list, `single-` about the patterns of a single one
 -- (-met: one is found, -none: all are tried in vain, -few: none is tried), `search-` about the nearest of the listed codewords, `sought-`
 -- about the word sought, `left-` about what the rows leave of a word, `leader-` about the leaders kept, `own-` and `found-` about what the
--- code answers by the case that it takes (-none: the list is no finder), and what it means (-means), and `tabulates-`, `filled-` and
+-- code answers by the case that it takes (-none: the list is no finder), and what it means (-means), and `listed-`, `filled-` and
 -- `prepared-` lead to a Finds.
-use Prim.Native.Nat.{ℕ, _+_, _-_, _*_, _/_, _%_, _^_, _≤_, _<_, min}
+use Prim.Native.Nat.{ℕ, _+_, _-_, _/_, _%_, _^_, _≤_, _<_, min}
 use mathlib.Core.Bool.{Bool, true, false, not, true≢false}
 use mathlib.Core.List.{List, [], _++_}
 use mathlib.Core.Path.{_≡_, refl, sym, ap, ap₂, _∙_, subst}
-use native.Mathlib.Nat.{le-dest, min-eq-left, one-mul, mod-eq-of-lt}
+use native.Mathlib.Nat.{le-dest, min-eq-left}
 use native.Mathlib.Decide.{ℕ-discrete, decLt}
 use native.Mathlib.Omega.{arith}
 use borrow.Author.Tests.{eqb-true, eqb-false, eq-eqb, ne-eqb, le-leb, lt-leb, lt-ltb, le-ltb, not-false}
@@ -35,22 +37,31 @@ use Rattle.bits.proofs.Searches.{first-passed, first-failed, first-at, first-al
 use Rattle.bits.proofs.Xor.{xor-cancel}
 use Rattle.inner_code.specs.Reply.{done}
 use Rattle.inner_code.specs.Code.{combination, isCodeword, nearestPattern, nearestWord, bitsChanged}
-use Rattle.inner_code.specs.Reduction.{reduced, reducedBy, withEchelon, searched, stepTo, listed, Lists}
+use Rattle.inner_code.specs.Reduction.{reduced, reducedBy, withEchelon, searched, stepTo, listed}
 use Rattle.inner_code.specs.declared.nearest.Step.{Step}
 use Rattle.inner_code.specs.Sheet.{degree, rowCount, rowOf, sheetCheck}
-use Rattle.inner_code.specs.Finding.{isFinder, listedIn, digitsIn, leaderIn, wordIn, leftIn, Leader, Finds, Placed}
-use Rattle.inner_code.specs.Finding.{powerLeft, Filled, Prepared, ownNearest, slotOf, firstSingle, singleIn, searchedIn, soughtIn}
-use Rattle.inner_code.specs.Finding.{foundWord, foundFinder}
+use Rattle.inner_code.specs.Finding.{isFinder, listedIn, digitsIn, lowIn, highIn, leaderIn, wordIn, leftIn, Leader, Finds, powerLeft}
+use Rattle.inner_code.specs.Finding.{withPart, filledFinder, preparedFinder, ownNearest, slotOf, firstSingle, singleIn, searchedIn}
+use Rattle.inner_code.specs.Finding.{soughtIn, foundWord, foundFinder}
 use Rattle.inner_code.proofs.NearestWord.{searched-ext, nearest-codeword, nearest-fixed, nearest-searched, nearest-pattern-lt}
 use Rattle.inner_code.proofs.NearestWord.{step-word, step-changed, changed-ones}
 use Rattle.inner_code.proofs.EchelonForm.{codeword-reduced, reduced-codeword, reduced-powers, reduced-halves, reducedBy-stored}
 use Rattle.inner_code.proofs.Cosets.{coset-pattern, leader-own, leader-zero, leader-single}
-use Rattle.inner_code.proofs.Listings.{length-listed, listed-word, lists-fits, lists-word}
+use Rattle.inner_code.proofs.Listings.{length-listed, listed-word, words-most}
 use Rattle.inner_code.proofs.SheetChecks.{Sound, sound}
 
 -- ---- a part put into a list: one that was lent as a slice of its own and comes back
 
-pub placed-back : (start k : ℕ) (part before : List ℕ) → start + k ≤ length before → length part ≡ k
+record Placed (start : ℕ) (part before after : List ℕ) : Type 0 where
+  sized : length after ≡ length before
+  inside : (i : ℕ) → i < length part → getD after (start + i) 0 ≡ getD part i 0
+  ahead : (i : ℕ) → i < start → getD after i 0 ≡ getD before i 0
+  behind : (i : ℕ) → start + length part ≤ i → getD after i 0 ≡ getD before i 0
+
+pub part-sized : (start size : ℕ) (l : List ℕ) → start + size ≤ length l → length (take size (drop start l)) ≡ size
+part-sized start size l room = length-take-le size (drop start l) (omega (arith, length-drop start l))
+
+placed-back : (start k : ℕ) (part before : List ℕ) → start + k ≤ length before → length part ≡ k
     → Placed start part before (take start before ++ (part ++ drop k (drop start before)))
 placed-back start k part before room size = record { sized = sized; inside = inside; ahead = ahead; behind = behind }
   where
@@ -80,11 +91,11 @@ placed-back start k part before room size = record { sized = sized; inside = ins
         ∙ getD-append-add part rest t 0 ∙ getD-drop k (drop start before) t 0 ∙ getD-drop start before (k + t) 0
         ∙ ap (λ (j : ℕ). getD before j 0) (sym near)
 
--- ---- the patterns of a single one
+pub placed-length : (start size : ℕ) (part l : List ℕ) → start + size ≤ length l → length part ≡ size
+    → length (take start l ++ (part ++ drop size (drop start l))) ≡ length l
+placed-length start size part l room kept = placed-back start size part l room kept .sized
 
--- a shifted 1 that fits is a power of 2
-pub shifted-one : (b width : ℕ) → b < width → (1 * 2 ^ b) % 2 ^ width ≡ 2 ^ b
-shifted-one b width b-lt = ap (λ (x : ℕ). x % 2 ^ width) (one-mul (2 ^ b)) ∙ mod-eq-of-lt (pow-lt b-lt)
+-- ---- the patterns of a single one
 
 -- whether the rows leave something else of 2^b
 abbrev otherLeft : List ℕ → ℕ → ℕ → Bool
@@ -422,58 +433,86 @@ found-means finder w step-is after-is =
 
 -- ---- a finder set up
 
--- a table of 256 numbers, the first 2^n of them the combinations of n rows
-pub record Tabulates (row : ℕ → ℕ) (n : ℕ) (table : List ℕ) : Type 0 where
-  sized : length table ≡ 256
-  entry : (m : ℕ) → m < 2 ^ n → getD table m 0 ≡ combination row n m
+record Filled (sheet : List ℕ) (k : ℕ) (basis before after : List ℕ) : Type 0 where
+  sized : length after ≡ length before
+  listed : listedIn after ≡ 2 ^ min k 11
+  digits : digitsIn after ≡ min (degree sheet) 16
+  low : (m : ℕ) → m < 2 ^ 8 → lowIn after m ≡ combination (powerLeft basis k 0) 8 m
+  high : (m : ℕ) → m < 2 ^ (min (degree sheet) 16 - 8) → highIn after m ≡ combination (powerLeft basis k 8) (min (degree sheet) 16 - 8) m
+  words : (m : ℕ) → m < 2 ^ min k 11 → wordIn after m ≡ combination (rowOf sheet) (min k 11) m
+  leaders : (s : ℕ) → s < 2048 → leaderIn after s ≡ leaderIn before s
 
-pub tabulates-listed : (row : ℕ → ℕ) (n : ℕ) (part : List ℕ) {table : List ℕ} → n ≤ 8 → length part ≡ 256 → table ≡ listed row n part
-    → Tabulates row n table
-tabulates-listed row n part n-high size is =
-    rw is (record {
-      sized = length-listed row n part ∙ size;
-      entry = listed-word row n part (omega (arith, size, pow-mono n-high));
-    })
+-- combinations of n rows, listed in a part of a list
+record ListedIn (row : ℕ → ℕ) (n start size : ℕ) (before after : List ℕ) : Type 0 where
+  sized : length after ≡ length before
+  entry : (m : ℕ) → m < 2 ^ n → getD after (start + m) 0 ≡ combination row n m
+  ahead : (i : ℕ) → i < start → getD after i 0 ≡ getD before i 0
+  behind : (i : ℕ) → start + size ≤ i → getD after i 0 ≡ getD before i 0
 
--- the tables and the codewords are put in one after the other, then the head
-pub filled-parts : (sheet : List ℕ) (k d count : ℕ) {basis before low-table low high-table high words-part words after : List ℕ}
-    → length before ≡ 4640 → d ≡ min (degree sheet) 16
-    → Tabulates (powerLeft basis k 0) 8 low-table → Placed 32 low-table before low
-    → Tabulates (powerLeft basis k 8) (d - 8) high-table → Placed 288 high-table low high
-    → 2 ^ min k 11 ≤ length words-part → Lists (rowOf sheet) k words-part count words → Placed 2592 words high after
-    → Filled sheet k basis before (set (set after 0 count) 1 d)
-unfolding wordIn
-filled-parts sheet k d count {basis} {before} {low-table} {low} {high-table} {high} {words-part} {words} {after}
-    size d-is low-is in-low high-is in-high room lists in-words =
+listed-in : (row : ℕ → ℕ) (n start size : ℕ) (l : List ℕ) → start + size ≤ length l → 2 ^ n ≤ size
+    → ListedIn row n start size l (withPart start size (listed row n) l)
+unfolding withPart
+listed-in row n start size l room few =
+    let part = take size (drop start l) in
+    let all = part-sized start size l room in
+    let kept : length (listed row n part) ≡ size = length-listed row n part ∙ all in
+    let placed = placed-back start size (listed row n part) l room kept in
     record {
-      sized = length-set (set after 0 count) 1 d ∙ length-set after 0 count ∙ sized;
-      listed = getD-set-other (set after 0 count) 1 0 d 0 (λ e. omega arith) ∙ getD-set-same after 0 count 0 (omega (arith, sized))
-          ∙ lists .room room .0;
-      digits = ap (λ (n : ℕ). min n 16) (getD-set-same (set after 0 count) 1 d 0 (omega (arith, length-set after 0 count, sized)) ∙ d-is)
+      sized = placed .sized;
+      entry = λ m h. placed .inside m (omega (arith, kept)) ∙ listed-word row n part (omega (arith, all)) m h;
+      ahead = placed .ahead;
+      behind = λ i h. placed .behind i (omega (arith, kept));
+    }
+
+filled : (sheet : List ℕ) (k : ℕ) (basis finder : List ℕ) → length finder ≡ 4640 → Filled sheet k basis finder (filledFinder sheet k basis finder)
+unfolding filledFinder wordIn
+filled sheet k basis finder size =
+    record {
+      sized = length-set (set words 0 count) 1 d ∙ length-set words 0 count ∙ sized;
+      listed = getD-set-other (set words 0 count) 1 0 d 0 (λ e. omega arith) ∙ getD-set-same words 0 count 0 (omega (arith, sized));
+      digits = ap (λ (n : ℕ). min n 16) (getD-set-same (set words 0 count) 1 d 0 (omega (arith, length-set words 0 count, sized)))
           ∙ omega arith;
-      low = λ m h.
-          ahead (32 + m) (omega arith) (omega arith) ∙ in-high .ahead (32 + m) (omega arith)
-          ∙ in-low .inside m (omega (arith, low-is .sized)) ∙ low-is .entry m h;
-      high = λ m h.
-          let m-lt : m < 2 ^ (d - 8) = rw d-is h in
-          let few : 2 ^ (d - 8) ≤ 256 = pow-mono {i = d - 8} {j = 8} (omega arith) in
-          ahead (288 + m) (omega arith) (omega arith) ∙ in-high .inside m (omega (arith, high-is .sized)) ∙ high-is .entry m m-lt
-          ∙ ap (λ (n : ℕ). combination (powerLeft basis k 8) (n - 8) m) d-is;
-      words = λ m h.
-          beside (2592 + m) (omega arith) ∙ in-words .inside m (omega (arith, lists-fits (rowOf sheet) k lists room, lists .room room .0))
-          ∙ lists-word (rowOf sheet) k lists room m h;
+      low = λ m h. ahead (32 + m) (omega arith) (omega arith) ∙ in-high .ahead (32 + m) (omega arith) ∙ in-low .entry m h;
+      high = λ m h. ahead (288 + m) (omega arith) (omega (arith, few)) ∙ in-high .entry m h;
+      words = λ m h. beside (2592 + m) (omega arith) ∙ in-words .entry m h;
       leaders = λ t h.
-          ahead (544 + t) (omega arith) (omega arith) ∙ in-high .behind (544 + t) (omega (arith, high-is .sized))
-          ∙ in-low .behind (544 + t) (omega (arith, low-is .sized));
+          ahead (544 + t) (omega arith) (omega arith) ∙ in-high .behind (544 + t) (omega arith) ∙ in-low .behind (544 + t) (omega arith);
     }
   where
-    sized : length after ≡ length before
+    d : ℕ
+    d = min (degree sheet) 16
+
+    count : ℕ
+    count = 2 ^ min k 11
+
+    low : List ℕ
+    low = withPart 32 256 (listed (powerLeft basis k 0) 8) finder
+
+    high : List ℕ
+    high = withPart 288 256 (listed (powerLeft basis k 8) (d - 8)) low
+
+    words : List ℕ
+    words = withPart 2592 2048 (listed (rowOf sheet) (min k 11)) high
+
+    few : 2 ^ (d - 8) ≤ 256
+    few = pow-mono {i = d - 8} {j = 8} (omega arith)
+
+    in-low : ListedIn (powerLeft basis k 0) 8 32 256 finder low
+    in-low = listed-in (powerLeft basis k 0) 8 32 256 finder (omega arith) (omega arith)
+
+    in-high : ListedIn (powerLeft basis k 8) (d - 8) 288 256 low high
+    in-high = listed-in (powerLeft basis k 8) (d - 8) 288 256 low (omega (arith, in-low .sized)) few
+
+    in-words : ListedIn (rowOf sheet) (min k 11) 2592 2048 high words
+    in-words = listed-in (rowOf sheet) (min k 11) 2592 2048 high (omega (arith, in-high .sized, in-low .sized)) (words-most k)
+
+    sized : length words ≡ length finder
     sized = in-words .sized ∙ in-high .sized ∙ in-low .sized
 
-    beside : (j : ℕ) → 2 ≤ j → getD (set (set after 0 count) 1 d) j 0 ≡ getD after j 0
-    beside j h = getD-set-other (set after 0 count) 1 j d 0 (λ e. omega arith) ∙ getD-set-other after 0 j count 0 (λ e. omega arith)
+    beside : (j : ℕ) → 2 ≤ j → getD (set (set words 0 count) 1 d) j 0 ≡ getD words j 0
+    beside j h = getD-set-other (set words 0 count) 1 j d 0 (λ e. omega arith) ∙ getD-set-other words 0 j count 0 (λ e. omega arith)
 
-    ahead : (j : ℕ) → 2 ≤ j → j < 2592 → getD (set (set after 0 count) 1 d) j 0 ≡ getD high j 0
+    ahead : (j : ℕ) → 2 ≤ j → j < 2592 → getD (set (set words 0 count) 1 d) j 0 ≡ getD high j 0
     ahead j two h = beside j two ∙ in-words .ahead j h
 
 -- the high half of a word has as many digits as the word has above eight
@@ -532,8 +571,20 @@ filled-finds sheet k {basis} {before} {after} p zeros accepted k-is stored =
         (p .high (w / 256) high-lt ∙ reduced-powers (rowOf sheet) (rowCount sheet) 8 _ (power 8) _ (w / 256) high-lt)
         ∙ reduced-halves (rowOf sheet) (rowCount sheet) w
 
+module _ (sheet : List ℕ) (k : ℕ) (basis finder : List ℕ) where
+  pub prepared-filled : length finder ≡ 4640 → filledFinder sheet k basis finder ≡ preparedFinder sheet k basis finder
+  unfolding preparedFinder
+  prepared-filled size = rw (eq-eqb (length finder) 4640 size)
+
+  pub prepared-none : (length finder ≡ 4640 → ⊥) → finder ≡ preparedFinder sheet k basis finder
+  unfolding preparedFinder
+  prepared-none other = rw (ne-eqb (length finder) 4640 other)
+
 -- what `prepare_finder` leaves of a finder of zeros
-pub prepared-finds : (sheet : List ℕ) (k : ℕ) {basis before after : List ℕ} → Prepared sheet k basis before after → before ≡ replicate 4640 0
-    → sheetCheck sheet ≡ done [] → k ≡ rowCount sheet → basis ≡ withEchelon (rowOf sheet) (rowCount sheet) (replicate 11 0) → Finds sheet after
-prepared-finds sheet k {before = before} p zeros accepted k-is stored =
-    filled-finds sheet k (p .finder (ap length zeros ∙ length-replicate {A = ℕ} 4640 0)) zeros accepted k-is stored
+pub prepared-finds : (sheet : List ℕ) (k : ℕ) {basis before after : List ℕ} → after ≡ preparedFinder sheet k basis before
+    → before ≡ replicate 4640 0 → sheetCheck sheet ≡ done [] → k ≡ rowCount sheet
+    → basis ≡ withEchelon (rowOf sheet) (rowCount sheet) (replicate 11 0) → Finds sheet after
+prepared-finds sheet k {basis} {before} {after} p zeros accepted k-is stored =
+    let size = ap length zeros ∙ length-replicate {A = ℕ} 4640 0 in
+    let is = p ∙ sym (prepared-filled sheet k basis before size) in
+    filled-finds sheet k (subst (Filled sheet k basis before) (sym is) (filled sheet k basis before size)) zeros accepted k-is stored

@@ -10,11 +10,11 @@
 -- What holds of a finder and of the functions over it:
 --   Leader sheet p       p is the nearest pattern of the words of its coset: it is below 2^d, and its own nearest pattern
 --   Finds sheet finder   the sheet is accepted, and all that the finder holds is the sheet's
---   Placed start part before after    the list `after` is `before` with `part` in it from the place `start` on
 -- What the functions over a finder answer and leave, whatever stands in it; with a list that is no finder every word stays, and the list too:
 --   powerLeft basis k from b    what the first k rows of the basis, 11 at most, leave of 2^(from + b)
---   Filled sheet k basis before after    the finder is set up with the tables, the codewords, their number and d, and the leaders stay
---   Prepared sheet k basis before after    it is so where `before` is a finder, and else left as it is
+--   withPart start size f l     the list l with its `size` numbers from the place `start` on sent through f
+--   filledFinder sheet k basis finder    the finder with both tables, the codewords, their number and d put in; all else stays
+--   preparedFinder sheet k basis finder    that where it is a finder, and else the list as it is
 --   leftIn finder w      what the rows leave of w, by the tables: the exclusive-or of what they leave of its low and its high half
 --   ownNearest finder w  the test whether w is its own nearest word: the rows leave nothing
 --   slotOf left          the slot for the leader of the words of which the rows leave this
@@ -24,18 +24,18 @@
 --   soughtIn finder left w    w with the pattern of a single one put on it, or the word searched for where there is none
 --   foundWord finder w   the word found: w itself, w with the leader kept for it, or the one sought
 --   foundFinder finder w the finder afterwards: with one more leader where one was sought for a word below 2^d
-use Prim.Native.Nat.{ℕ, _+_, _-_, _/_, _%_, _^_, _≤_, _<_, min}
+use Prim.Native.Nat.{ℕ, _+_, _-_, _/_, _%_, _^_, _<_, min}
 use mathlib.Core.Bool.{Bool, true, not, cond}
-use mathlib.Core.List.{List, []}
+use mathlib.Core.List.{List, [], _++_}
 use mathlib.Core.Path.{_≡_}
 use lib.Bits.{bitXor}
 use lib.Dec.{eqb, leb, ltb}
-use lib.ListN.{length, getD, set}
+use lib.ListN.{length, getD, set, take, drop}
 use Rattle.bits.specs.Search.{firstFailing}
 use Rattle.bits.specs.Window.{at}
 use Rattle.inner_code.specs.Reply.{done}
 use Rattle.inner_code.specs.Code.{combination, nearestPattern}
-use Rattle.inner_code.specs.Reduction.{reduced, reducedBy, searched}
+use Rattle.inner_code.specs.Reduction.{reduced, reducedBy, listed, searched}
 use Rattle.inner_code.specs.Sheet.{degree, rowCount, rowOf, sheetCheck}
 
 abbrev pub isFinder : List ℕ → Bool
@@ -75,28 +75,25 @@ pub record Finds (sheet finder : List ℕ) : Type 0 where
   pub words : (m : ℕ) → m < 2 ^ rowCount sheet → wordIn finder m ≡ combination (rowOf sheet) (rowCount sheet) m
   pub leaders : (s : ℕ) → s < 2048 → Leader sheet (leaderIn finder s)
 
-pub record Placed (start : ℕ) (part before after : List ℕ) : Type 0 where
-  pub sized : length after ≡ length before
-  pub inside : (i : ℕ) → i < length part → getD after (start + i) 0 ≡ getD part i 0
-  pub ahead : (i : ℕ) → i < start → getD after i 0 ≡ getD before i 0
-  pub behind : (i : ℕ) → start + length part ≤ i → getD after i 0 ≡ getD before i 0
-
 unfoldable pub powerLeft : List ℕ → ℕ → ℕ → ℕ → ℕ
 unfolding reducedBy at
 powerLeft basis k from b = reducedBy (at basis) (min k 11) (2 ^ (from + b))
 
-pub record Filled (sheet : List ℕ) (k : ℕ) (basis before after : List ℕ) : Type 0 where
-  pub sized : length after ≡ length before
-  pub listed : listedIn after ≡ 2 ^ min k 11
-  pub digits : digitsIn after ≡ min (degree sheet) 16
-  pub low : (m : ℕ) → m < 2 ^ 8 → lowIn after m ≡ combination (powerLeft basis k 0) 8 m
-  pub high : (m : ℕ) → m < 2 ^ (min (degree sheet) 16 - 8) → highIn after m ≡ combination (powerLeft basis k 8) (min (degree sheet) 16 - 8) m
-  pub words : (m : ℕ) → m < 2 ^ min k 11 → wordIn after m ≡ combination (rowOf sheet) (min k 11) m
-  pub leaders : (s : ℕ) → s < 2048 → leaderIn after s ≡ leaderIn before s
+unfoldable pub withPart : ℕ → ℕ → (List ℕ → List ℕ) → List ℕ → List ℕ
+withPart start size f l = take start l ++ (f (take size (drop start l)) ++ drop size (drop start l))
 
-pub record Prepared (sheet : List ℕ) (k : ℕ) (basis before after : List ℕ) : Type 0 where
-  pub finder : length before ≡ 4640 → Filled sheet k basis before after
-  pub none : (length before ≡ 4640 → ⊥) → after ≡ before
+unfoldable pub filledFinder : List ℕ → ℕ → List ℕ → List ℕ → List ℕ
+unfolding withPart listed powerLeft
+filledFinder sheet k basis finder =
+    let d : ℕ = min (degree sheet) 16 in
+    let low : List ℕ = withPart 32 256 (listed (powerLeft basis k 0) 8) finder in
+    let high : List ℕ = withPart 288 256 (listed (powerLeft basis k 8) (d - 8)) low in
+    let words : List ℕ = withPart 2592 2048 (listed (rowOf sheet) (min k 11)) high in
+    set (set words 0 (2 ^ min k 11)) 1 d
+
+unfoldable pub preparedFinder : List ℕ → ℕ → List ℕ → List ℕ → List ℕ
+unfolding filledFinder
+preparedFinder sheet k basis finder = cond (isFinder finder) (filledFinder sheet k basis finder) finder
 
 unfoldable pub ownNearest : List ℕ → ℕ → Bool
 unfolding leftIn

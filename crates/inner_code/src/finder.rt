@@ -13,7 +13,7 @@ ghost use Prim.Native.Nat.{_-_, _≤_, min};
 ghost use lib.ListN.{length};
 ghost use Rattle.inner_code.specs.Sheet.{degree};
 ghost use Rattle.inner_code.specs.Reduction.{stepTo, listed};
-ghost use Rattle.inner_code.specs.Finding.{powerLeft, Prepared, digitsIn, leftIn, ownNearest};
+ghost use Rattle.inner_code.specs.Finding.{powerLeft, preparedFinder, digitsIn, leftIn, ownNearest};
 ghost use Rattle.inner_code.specs.Finding.{singleIn, searchedIn, soughtIn, foundWord, foundFinder};
 
 // How many numbers of 16 bits a finder has. Its large parts begin at multiples of 32 numbers, which fill a cache line.
@@ -43,7 +43,7 @@ const FEW: u16 = 64;
 
 // Sets a finder of zeros up for an accepted sheet, its k and its echelon form, as `check_sheet` gives them. No leader but 0 is kept yet.
 pub fn prepare_finder(sheet: &[u8], k: usize, basis: &[u16; 11], finder: &mut [u16])
-    ensures { λ _. ⌜ Prepared (now (sheet .entry)) k (now (basis .entry)) (now (finder .entry)) (now (finder .exit)) ⌝ }
+    ensures { λ _. ⌜ now (finder .exit) ≡ preparedFinder (now (sheet .entry)) k (now (basis .entry)) (now (finder .entry)) ⌝ }
 {
     if finder.len() != FINDER_WORDS {
         return;
@@ -51,7 +51,7 @@ pub fn prepare_finder(sheet: &[u8], k: usize, basis: &[u16; 11], finder: &mut [u
     let d = at_most_sixteen(degree_of(sheet));
     tabulate(basis, k, 0, 8, &mut finder[LOW..HIGH]);
     tabulate(basis, k, 8, above_eight(d), &mut finder[HIGH..LEADERS]);
-    let count = list_codewords(sheet, k, &mut finder[WORDS..]);
+    let count = list_codewords(sheet, k, &mut finder[WORDS..FINDER_WORDS]);
     finder[LISTED] = count as u16;
     finder[DEGREE] = d as u16;
 }

@@ -12,14 +12,13 @@ use Prim.Native.Nat.{ℕ, zero, suc, _+_, _*_, _/_, _%_, _^_, _≤_, _<_}
 use mathlib.Core.List.{List}
 use mathlib.Core.Logic.{⊎-elim, _≢_}
 use mathlib.Core.Path.{_≡_, refl, sym, ap, _∙_}
-use native.Mathlib.Nat.{eq-or-lt-of-le, le-of-suc-le-suc, not-suc-le-zero, lt-suc-self, le-step, one-mul, mod-eq-of-lt}
+use native.Mathlib.Nat.{eq-or-lt-of-le, le-of-suc-le-suc, not-suc-le-zero, lt-suc-self, le-step, one-mul}
 use native.Mathlib.Decide.{ℕ-discrete}
 use native.Mathlib.Numerals.{add-one}
 use native.Mathlib.Omega.{arith}
 use lib.Bits.{bitXor}
 use lib.Dec.{eqb}
 use lib.ListN.{length, getD, set, length-set, length-replicate}
-use lib.Pow.{pow-lt}
 use lib.Seq.{getD-set-same, getD-set-other}
 use Rattle.bits.specs.Bit.{digit}
 use Rattle.bits.specs.Sum.{flag}
@@ -166,10 +165,6 @@ module _ (p : ℕ) (columns : List ℕ) (inside : p < 512) (u : Units p columns)
             ⊎-elim (λ (z : e ≡ p). rw z (last q l)) (λ (b : e < p). earlier q e l b) (eq-or-lt-of-le (le-of-suc-le-suc (rw add-one at k)));
         clear = λ i l. getD-set-other columns (8 * p + p / 64) i word 0 (λ z. omega arith) ∙ u .clear i (omega arith);
       }
-
--- a 1 that is shifted inside a word
-pub shifted-one : (width k : ℕ) → k < width → 1 * 2 ^ k % 2 ^ width ≡ 2 ^ k
-shifted-one width k l = ap (λ (x : ℕ). x % 2 ^ width) (one-mul (2 ^ k)) ∙ mod-eq-of-lt (pow-lt l)
 
 pub units-stored : (N p : ℕ) (columns : List ℕ) → Units p columns → p ≡ N → Stores N (start N) columns
 unfolding start

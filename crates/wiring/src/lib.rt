@@ -17,6 +17,7 @@ pub use locator::first_unsatisfied;
 pub use locator::locate;
 pub use piece::piece_of;
 pub use plan::CheckedPlan;
+pub use plan::MAX_EDGES;
 pub use plan::MAX_VERTICES;
 pub use plan::check_plan;
 pub use side::SideCode;

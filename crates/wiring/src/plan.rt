@@ -22,7 +22,7 @@ ghost use Rattle.wiring.specs.Checking.{PlanChecked, checkReply, refused
 pub const MAX_VERTICES: usize = 2048;
 
 // The most edges of a plan.
-pub(crate) const MAX_EDGES: usize = MAX_VERTICES * inner_code::MAX_DEGREE;
+pub const MAX_EDGES: usize = MAX_VERTICES * inner_code::MAX_DEGREE;
 
 // A plan with no more edges than this is checked by so many bytes: to clear one for each of MAX_EDGES would cost it more than all else.
 const FEW_EDGES: usize = 1024;

@@ -6,7 +6,7 @@ use native.Mathlib.Omega.{arith}
 use denote.Ref.{now}
 use lib.Pow.{pow-pos, pow-mono}
 use Rattle.bits.specs.Window.{at}
-use Rattle.bits.proofs.Windows.{power-held, wordAt-window}
+use Rattle.bits.proofs.Windows.{shifted-one, wordAt-window}
 use borrow.Author.Needs.{needs}
 use Rattle.bits.proofs.cut.Statement.{statement}
 use Rattle.bits.proofs.cut.Tie as tie
@@ -58,10 +58,12 @@ shl-result c = search needs
 
 -- what a mask of d bits leaves
 masked-lt : (x d : ℕ) → d ≤ 16 → x % ((1 * 2 ^ d) % 4294967296) < 65536
-masked-lt x d h = rw (power-held d h) (omega (arith, mod-lt x (pow-pos d), pow-mono {j = 16} h))
+masked-lt x d h = rw (shifted-one d 32 (omega arith)) (omega (arith, mod-lt x (pow-pos d), pow-mono {j = 16} h))
 
 rem-result : tie.Need-rem-result
-rem-result c = omega (arith, power-held (c .before .before .before .before .args .d) (omega arith), pow-pos (c .before .before .before .before .args .d))
+rem-result c =
+    let d = c .before .before .before .before .args .d in
+    omega (arith, shifted-one d 32 (omega arith), pow-pos d)
 
 cast-result-3 : tie.Need-cast-result-3
 cast-result-3 c =
@@ -78,7 +80,7 @@ returns c =
     let second = c .before .byte2 .ensures in
     let third = c .byte3 .ensures in
     ap₂ (λ (x y : ℕ). x / 2 ^ (24 - args .i % 8 - args .d) % y)
-    (omega (arith, first .0, second .0, third .0)) (power-held (args .d) (omega arith))
+    (omega (arith, first .0, second .0, third .0)) (shifted-one (args .d) 32 (omega arith))
     ∙ wordAt-window bytes (args .i) (args .d) (omega arith) (omega (arith, second .0, second .1)) (omega (arith, third .0, third .1))
 
 pub cut-spec : {M : Type 1} → statement M

@@ -1,4 +1,4 @@
--- `decoder::decode_checked` meets its contract: a block that is plainly a codeword is copied; for any other block each finder is prepared for
+-- `decoder::decode_checked` meets its contract: a block that is a codeword at sight is copied; for any other block each finder is prepared for
 -- its side's sheet, and one for both where the sheets are the same.
 use mathlib.Core.List.{List, []}
 use mathlib.Core.Path.{_≡_, refl, ap}
@@ -8,7 +8,7 @@ use borrow.Author.Needs.{needs}
 use denote.Ref.{now}
 use lib.ListN.{replicate}
 use Rattle.inner_code.specs.Reply.{done}
-use Rattle.inner_code.specs.Finding.{Prepared, Finds}
+use Rattle.inner_code.specs.Finding.{preparedFinder, Finds}
 use Rattle.inner_code.proofs.SheetChecks.{sound-accepted}
 use Rattle.inner_code.proofs.Finding.{prepared-finds}
 use Rattle.wiring.specs.Plan.{Plan, planOf, left, right, sheetOf}
@@ -24,7 +24,7 @@ use Rattle.decoder.proofs.decoding.decode_checked.Tie as tie
 -- ---- a finder that is prepared for a side finds its nearest words
 
 prepared : (plan : Plan) → planCheck plan ≡ done [] → (name : SideName) (code : SideCode) → code ≡ codeOf plan name
-    → {before after : List ℕ} → Prepared (sheetOf plan name) (code .k) (code .basis) before after → before ≡ replicate 4640 0
+    → {before after : List ℕ} → after ≡ preparedFinder (sheetOf plan name) (code .k) (code .basis) before → before ≡ replicate 4640 0
     → Finds (sheetOf plan name) after
 prepared plan accepted name code held p zeros =
     prepared-finds (sheetOf plan name) (code .k) p zeros (sound-accepted (sheetOf plan name) (plan-sound plan accepted .0 name))
@@ -36,10 +36,10 @@ planIn c = planOf (now (c .args .left)) (now (c .args .right)) (c .args .nl) (c 
 accepted : (c : tie.Start) → planCheck (planIn c) ≡ done []
 accepted c = check-means _ _ _ _ (c .pre .1 .1) .plan-done
 
-is-plain-codeword-requires : tie.Need-is-plain-codeword-requires
-is-plain-codeword-requires c κs = search needs
+is-codeword-at-sight-requires : tie.Need-is-codeword-at-sight-requires
+is-codeword-at-sight-requires c κs = search needs
 
--- ---- a block that is plainly a codeword
+-- ---- a block that is a codeword at sight
 
 copy-front-requires : tie.Need-copy-front-requires
 copy-front-requires c κs = check-means _ _ _ _ (c .before .before .before .before .before .before .before .before .pre .1 .1) .room
@@ -53,7 +53,7 @@ returns c =
     let small = copied .before .before in
     let s = c .before .before .before .before .before .before .before .before .before .before .before in
     copy-codeword (planIn s) _ _ _ (s .pre .1 .1) (s .args .left-code) (s .args .right-code) (s .pre .0) (s .pre .1 .0)
-    (small .before .is-plain-codeword .ensures (small .if1 .taken)) (copied .copy-front .ensures)
+    (small .before .is-codeword-at-sight .ensures (small .if1 .taken)) (copied .copy-front .ensures)
 
 -- ---- any other
 
@@ -136,7 +136,7 @@ pub decode-checked-spec : {M : Type 1} → statement M
 decode-checked-spec =
     tie.close
     (tie.spec
-    is-plain-codeword-requires
+    is-codeword-at-sight-requires
     copy-front-requires
     same-length
     returns

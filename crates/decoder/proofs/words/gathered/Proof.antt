@@ -1,4 +1,4 @@
--- `decoder::gathered` meets its contract: after j turns `times` is 128 times the bits of the first j entries, and every bit is in the block.
+-- `decoder::gathered` meets its contract: after j turns `scaled` is 128 times the bits of the first j entries, and every bit is in the block.
 use mathlib.Core.Path.{_≡_, refl, sym, ap, _∙_}
 use Prim.Native.Nat.{ℕ, _-_, _*_, _/_, _%_, _≤_, _<_}
 use native.Mathlib.Omega.{arith}
@@ -14,10 +14,10 @@ use Rattle.decoder.proofs.words.gathered.Statement.{statement}
 use Rattle.decoder.proofs.words.gathered.Tie as tie
 
 abbrev Inv-loop : tie.InvT-loop
-Inv-loop wiring base d block times₀ j₀ times j = (j ≤ d) × (times ≡ wordFrom (edgeOf wiring) block base j * 128)
+Inv-loop wiring base d block scaled₀ j₀ scaled j = (j ≤ d) × (scaled ≡ wordFrom (edgeOf wiring) block base j * 128)
 
 abbrev μ-loop : tie.MeasureT-loop
-μ-loop wiring base d block times₀ j₀ times j = d - j
+μ-loop wiring base d block scaled₀ j₀ scaled j = d - j
 
 loop-holds : tie.Need-loop-holds Inv-loop μ-loop
 loop-holds c = (search needs, ap (λ (x : ℕ). x * 128) (sym (word-from-none _ _ _)))
@@ -51,14 +51,14 @@ cast-moved-2 c = search needs
 shl-moved : tie.Need-shl-moved Inv-loop μ-loop
 shl-moved c = search needs
 
-mul-times : tie.Need-mul-times Inv-loop μ-loop
-mul-times c = let turn = c .before .before .before in omega (arith, turn .loop .inv .1, word-lt turn)
+mul-scaled : tie.Need-mul-scaled Inv-loop μ-loop
+mul-scaled c = let turn = c .before .before .before in omega (arith, turn .loop .inv .1, word-lt turn)
 
-mul-times-2 : tie.Need-mul-times-2 Inv-loop μ-loop
-mul-times-2 c = search needs
+mul-scaled-2 : tie.Need-mul-scaled-2 Inv-loop μ-loop
+mul-scaled-2 c = search needs
 
-add-times : tie.Need-add-times Inv-loop μ-loop
-add-times c = let turn = c .before .before .before in omega (arith, turn .loop .inv .1, word-lt turn)
+add-scaled : tie.Need-add-scaled Inv-loop μ-loop
+add-scaled c = let turn = c .before .before .before in omega (arith, turn .loop .inv .1, word-lt turn)
 
 add-j : tie.Need-add-j Inv-loop μ-loop
 add-j c = search needs
@@ -106,9 +106,9 @@ gathered-spec =
     cast-moved
     cast-moved-2
     shl-moved
-    mul-times
-    mul-times-2
-    add-times
+    mul-scaled
+    mul-scaled-2
+    add-scaled
     add-j
     loop-less
     loop-again

@@ -12,7 +12,7 @@ use lib.Pow.{pow-mono, pow-pos}
 use lib.Seq.{set-set}
 use Rattle.inner_code.specs.Sheet.{rowOf}
 use Rattle.inner_code.specs.Reduction.{doubled, listed}
-use Rattle.inner_code.proofs.Finding.{shifted-one}
+use Rattle.bits.proofs.Windows.{shifted-one}
 use Rattle.inner_code.proofs.Listings.{length-doubled, listed-one-more, listed-again, words-most}
 use Rattle.inner_code.proofs.codewords.list_codewords.Statement.{statement}
 use Rattle.inner_code.proofs.codewords.list_codewords.Tie as tie

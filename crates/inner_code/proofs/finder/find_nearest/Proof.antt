@@ -9,7 +9,8 @@ use lib.ListN.{set}
 use Rattle.inner_code.specs.Reduction.{stepTo}
 use Rattle.inner_code.specs.Finding.{digitsIn, slotOf, foundWord}
 use Rattle.inner_code.proofs.NearestWord.{step-word}
-use Rattle.inner_code.proofs.Finding.{shifted-one, found-none, found-codeword, found-leader, Sought, found-sought}
+use Rattle.bits.proofs.Windows.{shifted-one}
+use Rattle.inner_code.proofs.Finding.{found-none, found-codeword, found-leader, Sought, found-sought}
 use Rattle.inner_code.proofs.finder.find_nearest.Statement.{statement}
 use Rattle.inner_code.proofs.finder.find_nearest.Tie as tie
 

@@ -1,20 +1,21 @@
 -- `inner_code::prepare_finder` meets its contract: the tables and the codewords are lent out as parts and come back filled.
-use mathlib.Core.Path.{_≡_, ap, _∙_}
+use mathlib.Core.Path.{_≡_, sym, ap, _∙_}
 use mathlib.Core.List.{List, _++_}
-use Prim.Native.Nat.{ℕ, _+_, _-_, _^_, _≤_, min}
+use Prim.Native.Nat.{ℕ, _-_, _^_, _≤_, min}
 use native.Mathlib.Omega.{arith}
 use borrow.Author.Needs.{needs}
 use denote.Ref.{now}
-use lib.ListN.{length, take, drop, length-set, length-drop}
-use lib.Seq.{length-take-le}
-use Rattle.inner_code.specs.Finding.{Placed, powerLeft}
+use lib.ListN.{length, set, take, drop, length-set}
+use Rattle.inner_code.specs.Finding.{powerLeft, withPart, filledFinder}
+use Rattle.inner_code.specs.Reduction.{listed}
+use Rattle.inner_code.specs.Sheet.{degree, rowOf}
 use Rattle.inner_code.proofs.Listings.{words-most, lists-few}
-use Rattle.inner_code.proofs.Finding.{placed-back, Tabulates, tabulates-listed, filled-parts}
+use Rattle.inner_code.proofs.Finding.{part-sized, placed-length, prepared-filled, prepared-none}
 use Rattle.inner_code.proofs.finder.prepare_finder.Statement.{statement}
 use Rattle.inner_code.proofs.finder.prepare_finder.Tie as tie
 
 returns : tie.Need-returns
-returns c = search needs
+returns c = prepared-none _ _ _ _ (c .if1 .taken)
 
 degree-of-requires : tie.Need-degree-of-requires
 degree-of-requires c κs = search needs
@@ -63,9 +64,6 @@ list-codewords-requires c κs = search needs
 
 -- ---- the three parts, one after the other
 
-part-sized : (start size : ℕ) (l : List ℕ) → start + size ≤ length l → length (take size (drop start l)) ≡ size
-part-sized start size l room = length-take-le size (drop start l) (omega (arith, length-drop start l))
-
 abbrev start : tie.After-tabulate → tie.Start
 start c = c .before .before .before .before .before .before .before
 
@@ -78,10 +76,19 @@ low c =
     let l = now (start c .args .finder) in
     take 32 l ++ (c .tabulate .last .1 .1 .1 .1 .0 ++ drop 256 (drop 32 l))
 
-low-placed : (c : tie.After-tabulate) → Placed 32 (c .tabulate .last .1 .1 .1 .1 .0) (now (start c .args .finder)) (low c)
-low-placed c =
+low-sized : (c : tie.After-tabulate) → length (low c) ≡ 4640
+low-sized c =
     let l = now (start c .args .finder) in
-    placed-back 32 256 _ l (omega arith) (c .tabulate .kept .1 .1 .1 .1 .0 ∙ part-sized 32 256 l (omega arith))
+    let size : length l ≡ 4640 = omega arith in
+    placed-length 32 256 (c .tabulate .last .1 .1 .1 .1 .0) l (omega arith) (c .tabulate .kept .1 .1 .1 .1 .0 ∙ part-sized 32 256 l (omega arith)) ∙ size
+
+low-is : (c : tie.After-tabulate)
+    → let args = start c .args in
+    low c ≡ withPart 32 256 (listed (powerLeft (now (args .basis)) (args .k) 0) 8) (now (args .finder))
+unfolding withPart
+low-is c =
+    let l = now (start c .args .finder) in
+    ap (λ (part : List ℕ). take 32 l ++ (part ++ drop 256 (drop 32 l))) (c .tabulate .ensures)
 
 abbrev first : tie.After-tabulate2 → tie.After-tabulate
 first c = c .before .before .before .before .before
@@ -91,28 +98,24 @@ high c =
     let l = low (first c) in
     take 288 l ++ (c .tabulate2 .last .1 .1 .1 .1 .0 ++ drop 256 (drop 288 l))
 
-high-placed : (c : tie.After-tabulate2) → Placed 288 (c .tabulate2 .last .1 .1 .1 .1 .0) (low (first c)) (high c)
-high-placed c =
+high-sized : (c : tie.After-tabulate2) → length (high c) ≡ 4640
+high-sized c =
     let l = low (first c) in
-    let room : 544 ≤ length l = omega (arith, low-placed (first c) .sized) in
-    placed-back 288 256 _ l room (c .tabulate2 .kept .1 .1 .1 .1 .0 ∙ part-sized 288 256 l room)
+    let room : 544 ≤ length l = omega (arith, low-sized (first c)) in
+    placed-length 288 256 (c .tabulate2 .last .1 .1 .1 .1 .0) l room (c .tabulate2 .kept .1 .1 .1 .1 .0 ∙ part-sized 288 256 l room) ∙ low-sized (first c)
 
-low-tabulates : (c : tie.After-tabulate)
-    → Tabulates (powerLeft (now (start c .args .basis)) (start c .args .k) 0) 8 (c .tabulate .last .1 .1 .1 .1 .0)
-low-tabulates c =
-    tabulates-listed _ 8 _ (omega arith) (part-sized 32 256 (now (start c .args .finder)) (omega arith)) (c .tabulate .ensures)
-
--- how many digits the high halves have, from where their table is filled
-abbrev halved : tie.After-tabulate2 → tie.After-above-eight
-halved c = c .before .before
-
-high-tabulates : (c : tie.After-tabulate2)
-    → Tabulates (powerLeft (now (start (first c) .args .basis)) (start (first c) .args .k) 8) (degreed (first c) .at-most-sixteen .result - 8)
-    (c .tabulate2 .last .1 .1 .1 .1 .0)
-high-tabulates c =
-    let digits = halved c .above-eight .ensures in
-    rw digits at (tabulates-listed _ (halved c .above-eight .result) _ (omega (arith, digits, degreed (first c) .at-most-sixteen .ensures))
-    (part-sized 288 256 (low (first c)) (omega (arith, low-placed (first c) .sized))) (c .tabulate2 .ensures))
+high-is : (c : tie.After-tabulate2)
+    → let args = start (first c) .args in
+    high c ≡ withPart 288 256 (listed (powerLeft (now (args .basis)) (args .k) 8) (min (degree (now (args .sheet))) 16 - 8)) (low (first c))
+unfolding withPart
+high-is c =
+    let args = start (first c) .args in
+    let l = low (first c) in
+    let known = degreed (first c) in
+    let d = known .at-most-sixteen .ensures ∙ ap (λ (n : ℕ). min n 16) (known .before .degree-of .ensures) in
+    let digits = c .before .before .above-eight .ensures ∙ ap (λ (n : ℕ). n - 8) d in
+    ap (λ (part : List ℕ). take 288 l ++ (part ++ drop 256 (drop 288 l)))
+    (c .tabulate2 .ensures ∙ ap (λ (n : ℕ). listed (powerLeft (now (args .basis)) (args .k) 8) n (take 256 (drop 288 l))) digits)
 
 abbrev second : tie.After-list-codewords → tie.After-tabulate2
 second c = c .before .before .before .before
@@ -120,29 +123,30 @@ second c = c .before .before .before .before
 abbrev call : tie.After-list-codewords → tie.Start
 call c = start (first (second c))
 
-high-sized : (c : tie.After-list-codewords) → length (high (second c)) ≡ 4640
-high-sized c = high-placed (second c) .sized ∙ low-placed (first (second c)) .sized ∙ omega arith
-
 abbrev words : tie.After-list-codewords → List ℕ
 words c =
     let l = high (second c) in
-    take 2592 l ++ (c .list-codewords .last .1 .1 .0 ++ drop (length l - 2592) (drop 2592 l))
+    take 2592 l ++ (c .list-codewords .last .1 .1 .0 ++ drop 2048 (drop 2592 l))
 
 -- the last part has room for every code
-room : (c : tie.After-list-codewords)
-    → 2 ^ min (call c .args .k) 11 ≤ length (take (length (high (second c)) - 2592) (drop 2592 (high (second c))))
-room c =
-    let l = high (second c) in
-    omega (arith, part-sized 2592 (length l - 2592) l (omega (arith, high-sized c)), high-sized c, words-most (call c .args .k))
+part-all : (c : tie.After-list-codewords) → length (take 2048 (drop 2592 (high (second c)))) ≡ 2048
+part-all c = part-sized 2592 2048 (high (second c)) (omega (arith, high-sized (second c)))
 
-words-placed : (c : tie.After-list-codewords) → Placed 2592 (c .list-codewords .last .1 .1 .0) (high (second c)) (words c)
-words-placed c =
-    let l = high (second c) in
-    placed-back 2592 (length l - 2592) _ l (omega (arith, high-sized c))
-    (c .list-codewords .kept .1 .1 .0 ∙ part-sized 2592 (length l - 2592) l (omega (arith, high-sized c)))
+room : (c : tie.After-list-codewords) → 2 ^ min (call c .args .k) 11 ≤ length (take 2048 (drop 2592 (high (second c))))
+room c = omega (arith, part-all c, words-most (call c .args .k))
 
-words-sized : (c : tie.After-list-codewords) → length (words c) ≡ length (now (call c .args .finder))
-words-sized c = words-placed c .sized ∙ high-placed (second c) .sized ∙ low-placed (first (second c)) .sized
+words-sized : (c : tie.After-list-codewords) → length (words c) ≡ 4640
+words-sized c =
+    let l = high (second c) in
+    placed-length 2592 2048 (c .list-codewords .last .1 .1 .0) l (omega (arith, high-sized (second c))) (c .list-codewords .kept .1 .1 .0 ∙ part-all c) ∙ high-sized (second c)
+
+words-is : (c : tie.After-list-codewords)
+    → let args = call c .args in
+    words c ≡ withPart 2592 2048 (listed (rowOf (now (args .sheet))) (min (args .k) 11)) (high (second c))
+unfolding withPart
+words-is c =
+    let l = high (second c) in
+    ap (λ (part : List ℕ). take 2592 l ++ (part ++ drop 2048 (drop 2592 l))) (c .list-codewords .ensures .room (room c) .1)
 
 cast-finder : tie.Need-cast-finder
 cast-finder c =
@@ -150,7 +154,7 @@ cast-finder c =
     omega (arith, lists-few _ _ (listing .list-codewords .ensures) (room listing))
 
 slice-write-finder : tie.Need-slice-write-finder
-slice-write-finder c = search needs
+slice-write-finder c = omega (arith, words-sized (c .before .before))
 
 cast-finder-2 : tie.Need-cast-finder-2
 cast-finder-2 c = search needs
@@ -159,22 +163,27 @@ slice-write-finder-2 : tie.Need-slice-write-finder-2
 slice-write-finder-2 c = simp length-set (omega (arith, words-sized (c .before .before)))
 
 same-length : tie.Need-same-length
-same-length c = simp length-set (words-sized (c .before .before))
+same-length c =
+    let size : length (now (call (c .before .before) .args .finder)) ≡ 4640 = omega arith in
+    simp length-set (words-sized (c .before .before) ∙ sym size)
+
+headed : {a b : List ℕ} {m n d e : ℕ} → a ≡ b → m ≡ n → d ≡ e → set (set a 0 m) 1 d ≡ set (set b 0 n) 1 e
+headed list count digits = rw (list, count, digits)
 
 returns-2 : tie.Need-returns-2
+unfolding filledFinder
 returns-2 c =
     let listing = c .before .before in
+    let filled = second listing in
     let args = call listing .args in
-    let known = degreed (first (second listing)) in
-    record {
-      finder = λ size.
-          filled-parts (now (args .sheet)) (args .k) _ _ size
-          (known .at-most-sixteen .ensures ∙ ap (λ (n : ℕ). min n 16) (known .before .degree-of .ensures))
-          (low-tabulates (first (second listing))) (low-placed (first (second listing)))
-          (high-tabulates (second listing)) (high-placed (second listing))
-          (room listing) (listing .list-codewords .ensures) (words-placed listing);
-      none = λ other. absurd (other (known .before .before .if1 .left));
-    }
+    let known = degreed (first filled) in
+    let halves = listed (powerLeft (now (args .basis)) (args .k) 8) (min (degree (now (args .sheet))) 16 - 8) in
+    let codewords = listed (rowOf (now (args .sheet))) (min (args .k) 11) in
+    headed
+    (words-is listing ∙ ap (withPart 2592 2048 codewords) (high-is filled ∙ ap (withPart 288 256 halves) (low-is (first filled))))
+    (listing .list-codewords .ensures .room (room listing) .0)
+    (known .at-most-sixteen .ensures ∙ ap (λ (n : ℕ). min n 16) (known .before .degree-of .ensures))
+    ∙ prepared-filled (now (args .sheet)) (args .k) (now (args .basis)) (now (args .finder)) (omega arith)
 
 pub prepare-finder-spec : {M : Type 1} → statement M
 prepare-finder-spec =

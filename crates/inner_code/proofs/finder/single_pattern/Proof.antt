@@ -6,7 +6,8 @@ use borrow.Author.Needs.{needs}
 use native.Mathlib.Omega.{arith}
 use denote.Ref.{now}
 use Rattle.inner_code.specs.Finding.{leftIn, digitsIn}
-use Rattle.inner_code.proofs.Finding.{shifted-one, single-few, single-met, single-none}
+use Rattle.bits.proofs.Windows.{shifted-one}
+use Rattle.inner_code.proofs.Finding.{single-few, single-met, single-none}
 use Rattle.inner_code.proofs.finder.single_pattern.Statement.{statement}
 use Rattle.inner_code.proofs.finder.single_pattern.Tie as tie
 

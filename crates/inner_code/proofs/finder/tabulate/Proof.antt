@@ -13,7 +13,7 @@ use lib.Seq.{set-set}
 use Rattle.bits.specs.Window.{at}
 use Rattle.inner_code.specs.Reduction.{reducedBy, doubled, listed}
 use Rattle.inner_code.specs.Finding.{powerLeft}
-use Rattle.inner_code.proofs.Finding.{shifted-one}
+use Rattle.bits.proofs.Windows.{shifted-one}
 use Rattle.inner_code.proofs.Listings.{length-doubled, listed-one-more, listed-again}
 use Rattle.inner_code.proofs.finder.tabulate.Statement.{statement}
 use Rattle.inner_code.proofs.finder.tabulate.Tie as tie

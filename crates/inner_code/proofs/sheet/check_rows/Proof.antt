@@ -8,7 +8,7 @@ use native.Mathlib.Nat.{min-eq-left}
 use denote.Ref.{now}
 use lib.ListN.{replicate, set}
 use Rattle.bits.specs.Window.{at}
-use Rattle.bits.proofs.Windows.{power-held}
+use Rattle.bits.proofs.Windows.{shifted-one}
 use Rattle.inner_code.specs.Reply.{done}
 use Rattle.inner_code.specs.Sheet.{rowOf, rowsCheck}
 use Rattle.inner_code.specs.Reduction.{withEchelon, echelon, reducedBy}
@@ -45,7 +45,7 @@ shl-limit c = search needs
 
 loop-holds : tie.Need-loop-holds Inv-loop μ-loop
 unfolding rowsCheck withEchelon
-loop-holds c = (search needs, search needs, power-held (c .before .args .d) (search needs), refl, refl)
+loop-holds c = (search needs, search needs, shifted-one (c .before .args .d) 32 (omega arith), refl, refl)
 
 mul-pair : tie.Need-mul-pair Inv-loop μ-loop
 mul-pair c = search needs

@@ -4,7 +4,8 @@ use Prim.Native.Nat.{_-_, _≤_}
 use native.Mathlib.Omega.{arith}
 use borrow.Author.Needs.{needs}
 use lib.ListN.{length}
-use Rattle.messages.proofs.StoredRows.{Units, units-none, units-one-more, shifted-one, units-stored, length-noColumns}
+use Rattle.bits.proofs.Windows.{shifted-one}
+use Rattle.messages.proofs.StoredRows.{Units, units-none, units-one-more, units-stored, length-noColumns}
 use Rattle.messages.proofs.columns.unit_columns.Statement.{statement}
 use Rattle.messages.proofs.columns.unit_columns.Tie as tie
 
@@ -41,7 +42,7 @@ loop-less c = search needs
 loop-again : tie.Need-loop-again Inv-loop μ-loop
 loop-again c =
     let before = c .before .loop in
-    (search needs, units-one-more (before .p) (before .columns) (omega arith) (before .inv .1) _ (shifted-one 64 _ (omega arith)))
+    (search needs, units-one-more (before .p) (before .columns) (omega arith) (before .inv .1) _ (shifted-one _ 64 (omega arith)))
 
 same-length : tie.Need-same-length Inv-loop μ-loop
 same-length c = c .before .loop .inv .1 .sized ∙ sym (ap length (c .before .before .pre .1) ∙ length-noColumns)

@@ -6,7 +6,7 @@ use borrow.Author.Needs.{needs}
 use lib.ListN.{length, getD, length-set}
 use Rattle.bits.specs.Window.{at}
 use Rattle.inner_code.specs.Reduction.{reducedBy}
-use Rattle.messages.proofs.StoredRows.{shifted-one}
+use Rattle.bits.proofs.Windows.{shifted-one}
 use Rattle.messages.proofs.Solving.{residues-one-more, residues-last}
 use denote.Ref.{now}
 use Rattle.messages.proofs.solver.unit_residues.Statement.{statement}
@@ -56,7 +56,7 @@ loop-again c =
       search needs,
       simp length-set (before .inv .1),
       residues-one-more (now (args .basis)) (args .k) (args .d) (before .i) _ (c .residue .result) (before .residues) (before .inv .2) (omega arith)
-          (shifted-one 16 (args .d - 1 - before .i) (omega arith)) (c .residue .ensures),
+          (shifted-one (args .d - 1 - before .i) 16 (omega arith)) (c .residue .ensures),
     )
 
 same-length : tie.Need-same-length Inv-loop μ-loop

@@ -1,12 +1,12 @@
--- `decoder::is_plain_codeword` meets its contract: of zeros nothing is left, and the test by the rows finds no vertex exactly where it answers
+-- `decoder::is_codeword_at_sight` meets its contract: of zeros nothing is left, and the test by the rows finds no vertex exactly where it answers
 -- nowhere.
 use mathlib.Core.Bool.{true≢false}
 use mathlib.Core.Path.{sym, ap, _∙_}
 use Rattle.wiring.specs.Answer.{locateReply}
 use Rattle.wiring.proofs.Locating.{located-zero}
 use borrow.Author.Needs.{needs}
-use Rattle.decoder.proofs.decoding.is_plain_codeword.Statement.{statement}
-use Rattle.decoder.proofs.decoding.is_plain_codeword.Tie as tie
+use Rattle.decoder.proofs.decoding.is_codeword_at_sight.Statement.{statement}
+use Rattle.decoder.proofs.decoding.is_codeword_at_sight.Tie as tie
 
 is-zero-requires : tie.Need-is-zero-requires
 is-zero-requires c κs = search needs
@@ -40,8 +40,8 @@ returns-4 c e = absurd (true≢false (sym e))
 returns-5 : tie.Need-returns-5
 returns-5 c e = absurd (true≢false (sym e))
 
-pub is-plain-codeword-spec : {M : Type 1} → statement M
-is-plain-codeword-spec =
+pub is-codeword-at-sight-spec : {M : Type 1} → statement M
+is-codeword-at-sight-spec =
     tie.close
     (tie.spec
     is-zero-requires
