@@ -1,7 +1,6 @@
 // The services as a C host calls them: numbers and byte slices in, one struct out by value. A slice is a pointer and a length in C;
 // include/lembikat.h is the other side. Nothing is kept between calls.
 use decoder::Decoded;
-use decoder::Reported;
 use decoder::SUMS;
 use inner_code::Nearest;
 use inner_code::Refusal;
@@ -9,6 +8,7 @@ use messages::Encoded;
 use messages::Taken;
 use radius::Margin;
 use radius::Spread;
+use report::Reported;
 use wiring::Located;
 use wiring::SideName;
 ghost use mathlib.Core.List.{[], _∷_};
@@ -17,7 +17,8 @@ ghost use Rattle.inner_code.specs.Reply.{done, refused};
 ghost use Rattle.inner_code.specs.Answer.{nearestAnswer};
 ghost use Rattle.wiring.specs.Plan.{planOf};
 ghost use Rattle.wiring.specs.Answer.{locateAnswer, sideNumber};
-ghost use Rattle.decoder.specs.Answer.{decodeAnswer, decodeSums, decodeOutput, reportAnswer, reportList};
+ghost use Rattle.decoder.specs.Answer.{decodeAnswer, decodeSums, decodeOutput};
+ghost use Rattle.report.specs.Answer.{reportAnswer, reportList};
 ghost use Rattle.radius.specs.Answer.{spreadAnswer, marginAnswer};
 ghost use Rattle.messages.specs.Answer.{encodeAnswer, encodeOutput, readAnswer, readOutput};
 ghost use Rattle.c_api.specs.Answer.{told, toldWord, toldDecode, toldPlace};
@@ -145,7 +146,7 @@ pub extern "C" fn lembikat_report(
     ensures { λ r. ⌜ r ≡ told (reportAnswer (planOf (now (left .entry)) (now (right .entry)) nl nr (now (wiring .entry))) (now (received .entry)) (now (settled .entry)) (now (list .entry))) ⌝ }
     ensures { λ _. ⌜ now (list .exit) ≡ reportList (planOf (now (left .entry)) (now (right .entry)) nl nr (now (wiring .entry))) (now (received .entry)) (now (settled .entry)) (now (list .entry)) ⌝ }
 {
-    match decoder::report_runs(left, right, nl, nr, wiring, received, settled, list) {
+    match report::report_runs(left, right, nl, nr, wiring, received, settled, list) {
         Reported::Pairs(pairs) => done(pairs as u64),
         Reported::Refused(r) => refused(r),
     }

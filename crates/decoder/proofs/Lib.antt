@@ -5,8 +5,4 @@ pub mod RightWords
 pub mod Visiting
 pub mod Passes
 pub mod Copies
-pub mod Runs
-pub mod Reporting
-pub mod Lengths
 pub mod SweepSums
-pub mod FirstSum

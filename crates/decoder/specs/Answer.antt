@@ -1,10 +1,9 @@
--- What the services of this layer answer, and what they leave in the lent buffers.
+-- What the decoder answers, and what it leaves in the lent output.
 --   decodeCheck ..               what stops a decoder call before it decodes: 1 to 10, 23, 11 to 14
 --   decodeAnswer, decodeOutput   the decoder: these, 15, or the sweep count; its output at exit has the trial's block at the front
 --   decodeSums ..                the 64 sums that it tells beside: the trial's, and zeros where it is stopped before it decodes
---   reportAnswer, reportList     the report: 1 to 10, 23, 11, 12, 16, or the number of pairs; its list at exit has the runs at the front
---   decodeReply, reportReply     the paper's number, place and values for each case of an answer in the code
-use Prim.Native.Nat.{ℕ, _+_, _*_}
+--   decodeReply r                the paper's number, place and values for each case of the decoder's answer in the code
+use Prim.Native.Nat.{ℕ}
 use mathlib.Core.List.{List, [], _∷_}
 use mathlib.Core.Bool.{not}
 use lib.ListN.{length, replicate}
@@ -15,9 +14,7 @@ use Rattle.wiring.specs.Plan.{Plan, edgeCount}
 use Rattle.wiring.specs.Wiring.{planCheck}
 use Rattle.wiring.specs.Block.{blockBytes, blockCheck}
 use Rattle.decoder.specs.Decode.{trial}
-use Rattle.decoder.specs.Report.{differsAt, runCount, runBytes}
 use Rattle.decoder.specs.declared.decoding.Decoded.{Decoded}
-use Rattle.decoder.specs.declared.report.Reported.{Reported}
 
 unfoldable pub decodeCheck : Plan → List ℕ → List ℕ → ℕ → Reply
 unfolding andThen refuseIf planCheck blockBytes
@@ -40,25 +37,6 @@ unfoldable pub decodeSums : Plan → List ℕ → List ℕ → ℕ → List ℕ
 unfolding ifDone decodeCheck trial
 decodeSums plan received output H = ifDone (decodeCheck plan received output H) (trial plan received H .sums) (replicate 64 0)
 
--- no bit after N - 1 is set in either block, so every run has ended before N + 1
-unfoldable pub reportAnswer : Plan → List ℕ → List ℕ → List ℕ → Reply
-unfolding andThen refuseIf planCheck runCount differsAt
-reportAnswer plan received settled list =
-    andThen (planCheck plan)
-    (andThen (blockCheck (edgeCount plan) received)
-    (andThen (blockCheck (edgeCount plan) settled)
-    (refuseIf (ltb (length list) (4 * runCount (differsAt received settled) (edgeCount plan + 1))) 16 0
-    (done (runCount (differsAt received settled) (edgeCount plan + 1) ∷ [])))))
-
-unfoldable pub reportList : Plan → List ℕ → List ℕ → List ℕ → List ℕ
-unfolding ifDone written reportAnswer runBytes differsAt
-reportList plan received settled list =
-    ifDone (reportAnswer plan received settled list) (written (runBytes (differsAt received settled) (edgeCount plan + 1)) list) list
-
 abbrev pub decodeReply : Decoded → Reply
 decodeReply (Decoded.Settled count) = done (count ∷ [])
 decodeReply (Decoded.Refused r) = refused (r .number) (r .place)
-
-abbrev pub reportReply : Reported → Reply
-reportReply (Reported.Pairs m) = done (m ∷ [])
-reportReply (Reported.Refused r) = refused (r .number) (r .place)

@@ -1,5 +1,5 @@
 -- Sweeps restore a codeword block from a block that differs from it in few bits.
---   differsAt a b i               bit i of two blocks differs (decoder specs Report)
+--   differsAt a b i               bit i of two blocks differs (report specs Report)
 --   flips N a b                   the number of bits 0 .. N - 1 in which two blocks differ (bits specs Bit)
 --   wrongAt side wrong v          how many bits of vertex v are wrong (Convergence)
 --   sweep, afterSweeps            the block after a sweep, and after i sweeps (decoder specs Sweep)
@@ -29,9 +29,9 @@ use Rattle.wiring.proofs.VertexWords.{vertex-lt, vertex-bits, vertex-differing}
 use Rattle.wiring.proofs.CodewordBlocks.{codeword-block-each}
 use Rattle.decoder.specs.Visiting.{nearestOf}
 use Rattle.decoder.specs.Sweep.{sweep, turn, afterSweeps}
-use Rattle.decoder.specs.Report.{differsAt}
-use Rattle.decoder.proofs.Runs.{differs-flag, differs-agree, differs-none, flips-differ}
 use Rattle.decoder.proofs.Sweeping.{Mends, sweep-word, after-block, after-bytes}
+use Rattle.report.specs.Report.{differsAt}
+use Rattle.report.proofs.Runs.{differs-flag, differs-agree, differs-none, flips-differ}
 use Rattle.radius.specs.Margin.{sweepsNamed}
 use Rattle.radius.proofs.Convergence.{measuresOn, wrongAt, converges}
 

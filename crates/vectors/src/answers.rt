@@ -2,12 +2,12 @@
 use crate::input;
 use crate::output;
 use decoder::Decoded;
-use decoder::Reported;
 use inner_code::Nearest;
 use messages::Encoded;
 use messages::Taken;
 use radius::Margin;
 use radius::Spread;
+use report::Reported;
 use wiring::Located;
 use wiring::SideName;
 
@@ -174,7 +174,7 @@ fn report_into(
     settled: &[u8],
     list: &mut [u8],
 ) {
-    match decoder::report_runs(left, right, nl, nr, wiring, received, settled, list) {
+    match report::report_runs(left, right, nl, nr, wiring, received, settled, list) {
         Reported::Pairs(pairs) => {
             output::text(b"ok ");
             output::number(pairs as u64);

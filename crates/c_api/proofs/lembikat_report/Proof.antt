@@ -1,6 +1,6 @@
 -- `c_api::lembikat_report` meets its contract: what is told of each case of the service's answer is told of the defined reply.
 use borrow.Author.Needs.{needs}
-use Rattle.decoder.specs.Answer.{reportReply}
+use Rattle.report.specs.Answer.{reportReply}
 use Rattle.c_api.specs.Answer.{told}
 use Rattle.c_api.proofs.Telling.{telling}
 use Rattle.c_api.proofs.lembikat_report.Statement.{statement}

@@ -41,8 +41,8 @@ use Rattle.inner_code.proofs.Replies.{refuse-taken, refuse-passed, andThen-pass
 use Rattle.wiring.specs.Wiring.{planCheck}
 use Rattle.wiring.specs.Block.{blockCheck}
 use Rattle.wiring.proofs.Blocks.{block-clear}
-use Rattle.decoder.specs.Report.{differsAt, runStart, endsAt, runCount, pairBytes, runBytes}
-use Rattle.decoder.specs.Answer.{reportAnswer, reportList}
+use Rattle.report.specs.Report.{differsAt, runStart, endsAt, runCount, pairBytes, runBytes}
+use Rattle.report.specs.Answer.{reportAnswer, reportList}
 use Rattle.wiring.specs.Plan.{Plan, edgeCount}
 
 pub holds-or-not : (b : Bool) → (b ≡ true) ⊎ (b ≡ false)

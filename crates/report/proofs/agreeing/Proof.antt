@@ -1,10 +1,10 @@
--- `decoder::agreeing` meets its contract: equal bytes have equal bits, and otherwise bit i alone decides.
+-- `report::agreeing` meets its contract: equal bytes have equal bits, and otherwise bit i alone decides.
 use borrow.Author.Needs.{needs}
 use native.Mathlib.Omega.{arith}
 use denote.Ref.{now}
-use Rattle.decoder.proofs.Reporting.{agreeing-byte, agreeing-bit, agreeing-none}
-use Rattle.decoder.proofs.report.agreeing.Statement.{statement}
-use Rattle.decoder.proofs.report.agreeing.Tie as tie
+use Rattle.report.proofs.Reporting.{agreeing-byte, agreeing-bit, agreeing-none}
+use Rattle.report.proofs.agreeing.Statement.{statement}
+use Rattle.report.proofs.agreeing.Tie as tie
 
 -- ---- the call, from where both lengths are known, from where a byte of each block is read, and from where a bit of the first is
 

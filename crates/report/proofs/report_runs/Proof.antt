@@ -1,4 +1,4 @@
--- `decoder::report_runs` meets its contract: each return is the outcome of the first place that refuses, and the runs are counted before
+-- `report::report_runs` meets its contract: each return is the outcome of the first place that refuses, and the runs are counted before
 -- the first is written, so a list that is too short stays as it is.
 use borrow.Author.Needs.{needs}
 use Prim.Native.Nat.{ℕ, _+_, _*_}
@@ -11,12 +11,12 @@ use Rattle.wiring.specs.Block.{blockCheck}
 use Rattle.wiring.specs.Plan.{Plan, planOf}
 use Rattle.wiring.specs.Checking.{checkReply}
 use Rattle.wiring.proofs.Plans.{PlanAccepted, plan-accepted, plan-refused}
-use Rattle.decoder.specs.Report.{differsAt}
-use Rattle.decoder.specs.Agreement.{Held}
-use Rattle.decoder.proofs.Runs.{runCount-le}
-use Rattle.decoder.proofs.Reporting.{blocks-held, edges-few, outcome-plan, outcome-received, outcome-settled, outcome-short, outcome-done}
-use Rattle.decoder.proofs.report.report_runs.Statement.{statement}
-use Rattle.decoder.proofs.report.report_runs.Tie as tie
+use Rattle.report.specs.Report.{differsAt}
+use Rattle.report.specs.Agreement.{Held}
+use Rattle.report.proofs.Runs.{runCount-le}
+use Rattle.report.proofs.Reporting.{blocks-held, edges-few, outcome-plan, outcome-received, outcome-settled, outcome-short, outcome-done}
+use Rattle.report.proofs.report_runs.Statement.{statement}
+use Rattle.report.proofs.report_runs.Tie as tie
 
 check-plan-requires : tie.Need-check-plan-requires
 check-plan-requires c κs = search needs

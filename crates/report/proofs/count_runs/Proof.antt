@@ -1,4 +1,4 @@
--- `decoder::count_runs` meets its contract: at bit i `start` is where the run that is open there begins, i where none is, and `count` is the
+-- `report::count_runs` meets its contract: at bit i `start` is where the run that is open there begins, i where none is, and `count` is the
 -- number of runs that have ended. A stretch that agrees ends the open run and begins none.
 use borrow.Author.Needs.{needs}
 use mathlib.Core.Logic.{⊎-elim}
@@ -6,11 +6,11 @@ use mathlib.Core.Path.{_≡_, sym, ap, _∙_}
 use Prim.Native.Nat.{_+_, _-_, _≤_, _<_}
 use native.Mathlib.Omega.{arith}
 use denote.Ref.{now}
-use Rattle.decoder.specs.Report.{differsAt, runStart, runCount}
-use Rattle.decoder.proofs.Runs.{start-zero, start-one-more-inside, runCount-zero, runCount-le}
-use Rattle.decoder.proofs.Reporting.{inside-count, stretch-start, stretch-count-ends, stretch-count-none}
-use Rattle.decoder.proofs.report.count_runs.Statement.{statement}
-use Rattle.decoder.proofs.report.count_runs.Tie as tie
+use Rattle.report.specs.Report.{differsAt, runStart, runCount}
+use Rattle.report.proofs.Runs.{start-zero, start-one-more-inside, runCount-zero, runCount-le}
+use Rattle.report.proofs.Reporting.{inside-count, stretch-start, stretch-count-ends, stretch-count-none}
+use Rattle.report.proofs.count_runs.Statement.{statement}
+use Rattle.report.proofs.count_runs.Tie as tie
 
 abbrev Inv-loop : tie.InvT-loop
 Inv-loop received settled edges count₀ start₀ i₀ count start i =

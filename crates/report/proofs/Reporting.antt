@@ -30,14 +30,14 @@ use Rattle.wiring.specs.declared.plan.CheckedPlan.{CheckedPlan}
 use Rattle.wiring.proofs.Permutation.{fitted-edges}
 use Rattle.wiring.proofs.Plans.{PlanAccepted, accepted-edges}
 use Rattle.wiring.proofs.Blocks.{block-sized}
-use Rattle.decoder.specs.Report.{differsAt, runStart, endsAt, runCount, pairBytes, runBytes}
-use Rattle.decoder.specs.Answer.{reportAnswer, reportList}
+use Rattle.report.specs.Report.{differsAt, runStart, endsAt, runCount, pairBytes, runBytes}
+use Rattle.report.specs.Answer.{reportAnswer, reportList}
 use Rattle.wiring.specs.Plan.{Plan, edgeCount}
-use Rattle.decoder.specs.Agreement.{Held, Agreeing}
+use Rattle.report.specs.Agreement.{Held, Agreeing}
 use Rattle.bits.proofs.Fronts.{length-written, written-more}
-use Rattle.decoder.proofs.Runs.{start-one-more-outside, ends-back, ends-inside, ends-empty, differs-bits, differs-agree, runCount-mono, length-runBytes}
-use Rattle.decoder.proofs.Runs.{runCount-one-more-ends, runCount-one-more-none, runBytes-one-more-ends, runBytes-one-more-none}
-use Rattle.decoder.proofs.Runs.{Reported, report-plan, report-received, report-settled-block, report-short, report-done}
+use Rattle.report.proofs.Runs.{start-one-more-outside, ends-back, ends-inside, ends-empty, differs-bits, differs-agree, runCount-mono, length-runBytes}
+use Rattle.report.proofs.Runs.{runCount-one-more-ends, runCount-one-more-none, runBytes-one-more-ends, runBytes-one-more-none}
+use Rattle.report.proofs.Runs.{Reported, report-plan, report-received, report-settled-block, report-short, report-done}
 
 -- ---- what two blocks say of a stretch
 

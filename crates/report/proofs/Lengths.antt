@@ -29,11 +29,11 @@ use Rattle.bits.proofs.Sums.{sum-zero, sum-one-more, sum-ext, flag-true, flag-f
 use Rattle.inner_code.specs.Reply.{done}
 use Rattle.inner_code.proofs.Replies.{andThen-done, refuse-done, ifDone-done}
 use Rattle.wiring.specs.Plan.{Plan, edgeCount}
-use Rattle.decoder.specs.Report.{differsAt, runStart, endsAt, runCount, pairBytes, runBytes}
-use Rattle.decoder.specs.Answer.{reportAnswer, reportList}
-use Rattle.decoder.proofs.Runs.{holds-or-not, start-one-more-inside, start-one-more-outside, start-le, ends-inside, ends-back, ends-empty}
-use Rattle.decoder.proofs.Runs.{runCount-zero, runCount-one-more-ends, runCount-one-more-none, runBytes-zero, runBytes-one-more-ends}
-use Rattle.decoder.proofs.Runs.{runBytes-one-more-none, length-runBytes, differs-past, flips-differ, report-tests}
+use Rattle.report.specs.Report.{differsAt, runStart, endsAt, runCount, pairBytes, runBytes}
+use Rattle.report.specs.Answer.{reportAnswer, reportList}
+use Rattle.report.proofs.Runs.{holds-or-not, start-one-more-inside, start-one-more-outside, start-le, ends-inside, ends-back, ends-empty}
+use Rattle.report.proofs.Runs.{runCount-zero, runCount-one-more-ends, runCount-one-more-none, runBytes-zero, runBytes-one-more-ends}
+use Rattle.report.proofs.Runs.{runBytes-one-more-none, length-runBytes, differs-past, flips-differ, report-tests}
 
 -- ---- two-byte numbers
 

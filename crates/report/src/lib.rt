@@ -8,9 +8,9 @@ ghost use lib.ListN.{length};
 ghost use lib.Seq.{sets};
 ghost use Rattle.bits.specs.Bit.{written};
 ghost use Rattle.wiring.specs.Plan.{planOf};
-ghost use Rattle.decoder.specs.Report.{differsAt, runCount, pairBytes, runBytes};
-ghost use Rattle.decoder.specs.Answer.{reportAnswer, reportList, reportReply};
-ghost use Rattle.decoder.specs.Agreement.{Held, Agreeing};
+ghost use Rattle.report.specs.Report.{differsAt, runCount, pairBytes, runBytes};
+ghost use Rattle.report.specs.Answer.{reportAnswer, reportList, reportReply};
+ghost use Rattle.report.specs.Agreement.{Held, Agreeing};
 
 // The number of pairs in the list, or the refusal.
 pub enum Reported {

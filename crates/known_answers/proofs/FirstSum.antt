@@ -1,7 +1,7 @@
 -- What the sums say of a block that settles after one sweep: its first sum is the number of bits in which the received and the settled block
 -- differ, which is what the lengths of the report's runs add up to.
---   decodeAnswer, decodeSums, decodeOutput   what the decoder answers, the sums that it tells, and its output at exit (specs Answer)
---   reportAnswer, reportList                 what the report answers, and its list at exit (specs Answer)
+--   decodeAnswer, decodeSums, decodeOutput   what the decoder answers, the sums that it tells, and its output at exit (decoder specs Answer)
+--   reportAnswer, reportList                 what the report answers, and its list at exit (report specs Answer)
 --   flips N a b                              the number of bits 0 .. N - 1 in which two byte strings differ (bits specs Bit)
 -- Of blocks that settle later nothing is claimed beyond the definition of the sums: a bit that one sweep changes another may change back.
 use Prim.Native.Nat.{ℕ, _+_, _*_}
@@ -14,12 +14,13 @@ use Rattle.bits.specs.Sum.{sum}
 use Rattle.bits.proofs.Fronts.{written-part}
 use Rattle.inner_code.specs.Reply.{done}
 use Rattle.wiring.specs.Plan.{Plan, edgeCount, sideOf}
 use Rattle.decoder.specs.Decode.{sweptBlock, sweepSum}
-use Rattle.decoder.specs.Answer.{decodeAnswer, decodeSums, decodeOutput, reportAnswer, reportList}
+use Rattle.decoder.specs.Answer.{decodeAnswer, decodeSums, decodeOutput}
 use Rattle.decoder.proofs.Sweeping.{after-zero, length-after}
 use Rattle.decoder.proofs.Settling.{decode-settled, decode-means}
 use Rattle.decoder.proofs.SweepSums.{sums-made}
-use Rattle.decoder.proofs.Lengths.{report-lengths}
+use Rattle.report.specs.Answer.{reportAnswer, reportList}
+use Rattle.report.proofs.Lengths.{report-lengths}
 
 module _ (plan : Plan) (received output : List ℕ) (H : ℕ) where
   module _ (once : decodeAnswer plan received output H ≡ done (1 ∷ [])) (settled : List ℕ) (sized : length settled ≡ length received)

@@ -1,11 +1,11 @@
--- `decoder::put_run` meets its contract: its four stores are those of the run's bytes.
+-- `report::put_run` meets its contract: its four stores are those of the run's bytes.
 use borrow.Author.Needs.{needs}
 use native.Mathlib.Omega.{arith}
 use denote.Ref.{now}
 use lib.ListN.{length-set}
-use Rattle.decoder.proofs.Reporting.{stored-pair}
-use Rattle.decoder.proofs.report.put_run.Statement.{statement}
-use Rattle.decoder.proofs.report.put_run.Tie as tie
+use Rattle.report.proofs.Reporting.{stored-pair}
+use Rattle.report.proofs.put_run.Statement.{statement}
+use Rattle.report.proofs.put_run.Tie as tie
 
 cast-list : tie.Need-cast-list
 cast-list c = search needs

@@ -6,7 +6,7 @@ use mathlib.Core.Bool.{true, false}
 use mathlib.Core.List.{List}
 use mathlib.Core.Path.{_≡_}
 use lib.ListN.{length}
-use Rattle.decoder.specs.Report.{differsAt}
+use Rattle.report.specs.Report.{differsAt}
 
 pub record Held (a b : List ℕ) (N : ℕ) : Type 0 where
   pub few : N ≤ 32768

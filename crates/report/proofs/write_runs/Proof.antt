@@ -1,4 +1,4 @@
--- `decoder::write_runs` meets its contract: at bit i `offset` is where the run that is open there begins, i where none is, and the runs that
+-- `report::write_runs` meets its contract: at bit i `offset` is where the run that is open there begins, i where none is, and the runs that
 -- have ended stand at the front of the list, up to the index `at`.
 use borrow.Author.Needs.{needs}
 use mathlib.Core.List.{List}
@@ -10,12 +10,12 @@ use denote.Ref.{now}
 use lib.ListN.{length}
 use Rattle.bits.proofs.Fronts.{written-none}
 use Rattle.bits.specs.Bit.{written}
-use Rattle.decoder.proofs.Runs.{start-zero, start-one-more-inside, runCount-zero, runCount-le, runBytes-zero}
-use Rattle.decoder.proofs.Reporting.{inside-count, inside-bytes, stretch-start, stretch-count-ends, stretch-count-none, stretch-bytes-none}
-use Rattle.decoder.proofs.Reporting.{written-length, written-room, written-ends}
-use Rattle.decoder.specs.Report.{differsAt, runStart, runCount, runBytes}
-use Rattle.decoder.proofs.report.write_runs.Statement.{statement}
-use Rattle.decoder.proofs.report.write_runs.Tie as tie
+use Rattle.report.proofs.Runs.{start-zero, start-one-more-inside, runCount-zero, runCount-le, runBytes-zero}
+use Rattle.report.proofs.Reporting.{inside-count, inside-bytes, stretch-start, stretch-count-ends, stretch-count-none, stretch-bytes-none}
+use Rattle.report.proofs.Reporting.{written-length, written-room, written-ends}
+use Rattle.report.specs.Report.{differsAt, runStart, runCount, runBytes}
+use Rattle.report.proofs.write_runs.Statement.{statement}
+use Rattle.report.proofs.write_runs.Tie as tie
 
 abbrev Inv-loop : tie.InvT-loop
 Inv-loop received settled edges list₀ at₀ offset₀ i₀ list at offset i =
