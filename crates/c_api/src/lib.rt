@@ -51,7 +51,7 @@ pub struct DecodeAnswer {
     pub sums: [u16; SUMS],
 }
 
-// The nearest codeword of a word, and how many bits it changes. Refusals 1 to 6 and 12.
+// The nearest word of a word, and how many bits it changes. Refusals 1 to 6 and 12.
 #[no_mangle]
 pub extern "C" fn lembikat_nearest_word(sheet: &[u8], word: u64) -> WordAnswer
     ensures { λ r. ⌜ r ≡ toldWord (nearestAnswer (now (sheet .entry)) word) ⌝ }

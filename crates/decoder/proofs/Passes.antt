@@ -1,45 +1,49 @@
--- Sweeps in turn as the code makes them: each sweep's number of changed bits is its sum, and tells whether the block before it was settled.
---   SideSwept side before changed after    one sweep as the code makes it (specs Visiting)
+-- Sweeps in turn as the code makes them: each sweep's number of changed bits is its sum, and with the ties that it left tells whether the block
+-- was settled.
+--   SideSwept side before tally after      one sweep as the code makes it (specs Visiting)
 --   settledAfter plan block i              the block after i sweeps is a codeword (specs Decode)
 --   settlesAt plan block H                 the first count from 0 to H after which it is, H + 1 where none is (specs Decode)
---   sweepSum, sweepSums                        how many bits a sweep changes, and the sums of those that are made (specs Decode)
---   Pass plan received i changed after     sweep i + 1 leaves `after`; `changed` is its sum, and is 0 exactly if its side was satisfied
+--   sweepSum, sweepSums                    how many bits a sweep changes, and the sums of those that are made (specs Decode)
+--   Pass plan received i tally after       sweep i + 1 leaves `after`; `tally` has its sum and how many ties it left
 --   Told plan received H i sums            the sums of the first i sweeps, of H at most
---   Swept plan received H count block sums the block after `count` sweeps, at no count before which it was settled, and their sums
+--   Swept plan received H count ties block sums   the block after `count` sweeps, at no count before which it was settled, how many ties the last
+--                                          of them left, and their sums
 -- Laws are named by their subject, then by the fact: `turn-` is about the side of a sweep, `settled-` about settled blocks, `pass-` about one
--- sweep of the code, `told-` about sums, `swept-` about all sweeps so far, and `settle-` gives what the code answers and leaves at one way out each: after the
--- first two sweeps (-zero, -one), after a later one (-later), before the last two (-earlier), and at the limit (-never).
+-- sweep of the code, `told-` about sums, `swept-` about all sweeps so far, `ended-` about a sweep that changes nothing, and `settle-` gives
+-- what the code answers and leaves at one way out each: where neither of the first two sweeps changes anything (-first), where a later one
+-- does not (-ended), and at the limit (-never).
 use Prim.Native.Nat.{ℕ, _+_, _≤_, _<_, zero-le, min}
-use mathlib.Core.Bool.{true, false, true≢false}
+use mathlib.Core.Bool.{Bool, true, false, cond, true≢false}
 use mathlib.Core.List.{List, []}
 use mathlib.Mathlib.Data.Bool.Basic.{eq-false-of-not-eq-true}
 use mathlib.Core.Path.{_≡_, refl, sym, ap, ap₂, _∙_}
-use native.Mathlib.Nat.{le-refl, min-eq-left, min-eq-right}
-use native.Mathlib.Decide.{decLe}
+use native.Mathlib.Nat.{le-refl, le-dest, min-eq-left, min-eq-right}
+use native.Mathlib.Decide.{ℕ-discrete, decLe}
 use native.Mathlib.Numerals.{add-one}
 use native.Mathlib.Omega.{arith}
 use borrow.Author.Count.{below-more}
-use borrow.Author.Tests.{eq-eqb}
-use Rattle.bits.proofs.Searches.{first-all, first-all-each}
+use borrow.Author.Tests.{eq-eqb, ne-eqb}
+use Rattle.bits.proofs.Flips.{flips-none}
+use lib.Dec.{eqb}
 use lib.ListN.{length, replicate}
 use Rattle.bits.specs.Bit.{flips}
 use Rattle.inner_code.specs.Reply.{done}
 use Rattle.wiring.specs.Plan.{Plan, Side, edgeCount, left, right, countOf, sideOf}
 use Rattle.wiring.specs.Wiring.{planCheck}
-use Rattle.wiring.specs.Block.{satisfied, firstUnsatisfied, isCodewordBlock, blockCheck}
+use Rattle.wiring.specs.Block.{vertexWord, satisfied, firstUnsatisfied, isCodewordBlock, blockCheck}
 use Rattle.wiring.specs.declared.side.SideName.{SideName}
 use Rattle.wiring.proofs.Permutation.{Joined, fitted-edges}
-use Rattle.wiring.proofs.VertexWords.{vertex-lt}
 use Rattle.wiring.proofs.CodewordBlocks.{codeword-block-each}
 use Rattle.wiring.proofs.Plans.{plan-sound, plan-joined}
-use Rattle.decoder.specs.Sweep.{sweep, other, turn, afterSweeps}
+use Rattle.decoder.specs.Sweep.{sweep, other, turn}
 use Rattle.decoder.specs.Decode.{sweptBlock, settledAfter, settlesAt, sweepSum, sweepSums}
-use Rattle.decoder.specs.Visiting.{changedBy, SideSwept, noted}
-use Rattle.decoder.proofs.Sweeping.{Mends, sheet-mends, sweep-fixed, sweep-flips}
-use Rattle.decoder.proofs.Sweeping.{after-one-more, after-stays, after-block, settled-by-next}
+use Rattle.decoder.specs.Visiting.{changedBy, tiedAt, tiesBy, SideSwept, endedAt, noted}
+use Rattle.decoder.specs.declared.sweep.Tally.{Tally}
+use Rattle.decoder.proofs.Sweeping.{Mends, sheet-mends, sweep-fixed, sweep-flips, sweep-satisfied, sweep-tied}
+use Rattle.decoder.proofs.Sweeping.{after-one-more, after-stays, after-block, after-ended, other-side}
 use Rattle.decoder.proofs.Settling.{settles-at, settles-none}
 use Rattle.decoder.proofs.SweepSums.{length-sums, sum-le, sums-zero, noted-more, noted-still}
-use Rattle.decoder.proofs.Visiting.{changed-zero, changed-zero-back}
+use Rattle.decoder.proofs.Visiting.{changed-zero, ties-none, ties-some}
 
 pub turn-zero : left ≡ turn 0
 unfolding turn
@@ -57,45 +61,57 @@ pub turn-more : (i : ℕ) {name : SideName} → name ≡ turn i → other name �
 unfolding turn
 turn-more i e = rw add-one (ap other e)
 
+other-twice : (name : SideName) → other (other name) ≡ name
+unfolding other
+other-twice SideName.Left = refl
+other-twice SideName.Right = refl
+
 -- the side of every second sweep is the same
 pub turn-again : (i : ℕ) {name : SideName} → name ≡ turn i → name ≡ turn (i + 2)
 unfolding other
 turn-again i {name} e =
     let two : i + 1 + 1 ≡ i + 2 = omega arith in
     sym (other-twice name) ∙ rw two at (turn-more (i + 1) (turn-more i e))
-  where
-    other-twice : (name : SideName) → other (other name) ≡ name
-    other-twice SideName.Left = refl
-    other-twice SideName.Right = refl
 
--- ---- a side that changes nowhere
+-- ---- where a sweep changed nothing
 
-module _ {side : Side} (mends : Mends side) (block : List ℕ) where
-  clean-side : changedBy side (side .n) block ≡ 0 → firstUnsatisfied side block ≡ side .n
-  unfolding firstUnsatisfied satisfied
-  clean-side e =
-      first-all (side .n) _ (λ v l. rw (changed-zero side block (side .n) e v l) at (mends .map-codeword _ (vertex-lt side block v)))
+module _ (count before here past : ℕ) where
+  pub ended-before : (before ≡ 0 → ⊥) → endedAt count before here past ≡ past
+  unfolding endedAt
+  ended-before some = rw (ne-eqb before 0 some)
 
-  clean-side-back : firstUnsatisfied side block ≡ side .n → changedBy side (side .n) block ≡ 0
-  unfolding firstUnsatisfied satisfied
-  clean-side-back e = changed-zero-back side block (side .n) (λ v l. mends .map-fixed _ (first-all-each (side .n) _ e v l))
+  pub ended-here : (here ≡ 0 → ⊥) → endedAt count before here past ≡ past
+  unfolding endedAt
+  ended-here some = rw (ne-eqb here 0 some) (either (eqb before 0))
+    where
+      either : (t : Bool) → cond t past past ≡ past
+      either true = refl
+      either false = refl
 
-  clean-side-swept : firstUnsatisfied side block ≡ side .n → sweep side block ≡ block
-  unfolding firstUnsatisfied satisfied
-  clean-side-swept e = sweep-fixed side block (λ v l. mends .map-fixed _ (first-all-each (side .n) _ e v l))
+  pub ended-none : before ≡ 0 → here ≡ 0 → endedAt count before here past ≡ count
+  unfolding endedAt
+  ended-none none still = rw (eq-eqb before 0 none, eq-eqb here 0 still)
 
-pub record Pass (plan : Plan) (received : List ℕ) (i changed : ℕ) (after : List ℕ) : Type 0 where
+-- ---- one sweep
+
+pub record Pass (plan : Plan) (received : List ℕ) (i : ℕ) (tally : Tally) (after : List ℕ) : Type 0 where
   pub leaves : after ≡ sweptBlock plan (i + 1) received
-  pub clean : changed ≡ 0 → firstUnsatisfied (sideOf plan (turn i)) (sweptBlock plan i received) ≡ countOf plan (turn i)
-  pub dirty : (changed ≡ 0 → ⊥) → firstUnsatisfied (sideOf plan (turn i)) (sweptBlock plan i received) ≡ countOf plan (turn i) → ⊥
-  pub counted : changed ≡ sweepSum plan received i
+  pub counted : tally .changed ≡ sweepSum plan received i
+  pub same : tally .changed ≡ 0 → sweptBlock plan (i + 1) received ≡ sweptBlock plan i received
+  pub satisfied-side : tally .ties ≡ 0
+      → firstUnsatisfied (sideOf plan (turn i)) (sweptBlock plan (i + 1) received) ≡ countOf plan (turn i)
+  pub tied-before : (tally .ties ≡ 0 → ⊥) → settledAfter plan received i ≡ false
+  pub tied-after : (tally .ties ≡ 0 → ⊥) → settledAfter plan received (i + 1) ≡ false
 
 pub record Told (plan : Plan) (received : List ℕ) (H i : ℕ) (sums : List ℕ) : Type 0 where
   pub sums-are : sums ≡ sweepSums plan received (min i H)
 
-pub record Swept (plan : Plan) (received : List ℕ) (H count : ℕ) (block sums : List ℕ) : Type 0 where
+pub record Swept (plan : Plan) (received : List ℕ) (H count ties : ℕ) (block sums : List ℕ) : Type 0 where
   pub block-is : block ≡ sweptBlock plan count received
   pub unsettled : (j : ℕ) → j < count → settledAfter plan received j ≡ false
+  pub satisfied-side : ties ≡ 0
+      → firstUnsatisfied (sideOf plan (other (turn count))) (sweptBlock plan count received) ≡ countOf plan (other (turn count))
+  pub tied-block : (ties ≡ 0 → ⊥) → settledAfter plan received count ≡ false
   pub told : Told plan received H count sums
 
 -- plan and received block have passed their checks
@@ -119,20 +135,51 @@ module _ {plan : Plan} {received : List ℕ} (b : Begun plan received) where
       ap (flips (edgeCount plan) (sweptBlock plan i received)) (after-one-more (sideOf plan) i received)
       ∙ sweep-flips (joined .whole (turn i)) _ (after-block (sideOf plan) (joined .whole) i received (b .block-done)) (mends (turn i))
 
-  pub pass : {i : ℕ} {name : SideName} {block : List ℕ} {changed : ℕ} {after : List ℕ}
-      → SideSwept (sideOf plan name) block changed after → name ≡ turn i → block ≡ sweptBlock plan i received → Pass plan received i changed after
-  pass {i} {name} {block} swept at e =
-      let here = ap₂ (λ (s : SideName) (l : List ℕ). firstUnsatisfied (sideOf plan s) l) at e in
-      let all-of = ap (countOf plan) at in
+  -- a vertex that reads no codeword
+  missed : (i : ℕ) (name : SideName) (v : ℕ) → v < countOf plan name → satisfied (sideOf plan name) (sweptBlock plan i received) v ≡ false
+      → settledAfter plan received i ≡ false
+  missed i name v l e = eq-false-of-not-eq-true (λ q. true≢false (sym (codeword-block-each (sideOf plan) _ q name v l) ∙ e))
+
+  pub pass : {i : ℕ} {name : SideName} {block : List ℕ} {tally : Tally} {after : List ℕ}
+      → SideSwept (sideOf plan name) block tally after → name ≡ turn i → block ≡ sweptBlock plan i received → Pass plan received i tally after
+  unfolding satisfied
+  pass {i} {name} {block} {tally} swept at e =
       record {
         leaves = swept .leaves ∙ ap₂ (λ (s : SideName) (l : List ℕ). sweep (sideOf plan s) l) at e ∙ sym (after-one-more (sideOf plan) i received);
-        clean = λ none. sym here ∙ clean-side (mends name) block (sym (swept .counted) ∙ none) ∙ all-of;
-        dirty = λ some all. some (swept .counted ∙ clean-side-back (mends name) block (here ∙ all ∙ sym all-of));
-        counted = swept .counted ∙ ap₂ (λ (s : SideName) (l : List ℕ). changedBy (sideOf plan s) (countOf plan s) l) at e ∙ sym (sum-changed i);
+        counted = counted;
+        same = λ none.
+            after-one-more (sideOf plan) i received
+            ∙ sweep-fixed side before (changed-zero side before (side .n) (sym (sum-changed i) ∙ sym counted ∙ none));
+        satisfied-side = λ none.
+            ap (firstUnsatisfied side) (after-one-more (sideOf plan) i received)
+            ∙ sweep-satisfied (joined .whole (turn i)) before begun (mends (turn i)) (ties-none side before (side .n) (sym waiting ∙ none));
+        tied-before = λ some. let (v, l, t) = found some in missed i (turn i) v l (mends (turn i) .tied-missed _ t);
+        tied-after = λ some.
+            let (v, l, t) = found some in
+            missed (i + 1) (turn i) v l (ap (λ (b : List ℕ). satisfied side b v) (after-one-more (sideOf plan) i received)
+            ∙ sweep-tied (joined .whole (turn i)) before begun (mends (turn i)) v l t);
       }
+    where
+      side : Side
+      side = sideOf plan (turn i)
+
+      before : List ℕ
+      before = sweptBlock plan i received
+
+      begun : blockCheck (edgeCount plan) before ≡ done []
+      begun = after-block (sideOf plan) (joined .whole) i received (b .block-done)
+
+      counted : tally .changed ≡ sweepSum plan received i
+      counted = swept .counted ∙ ap₂ (λ (s : SideName) (l : List ℕ). changedBy (sideOf plan s) (countOf plan s) l) at e ∙ sym (sum-changed i)
+
+      waiting : tally .ties ≡ tiesBy side (side .n) before
+      waiting = swept .waiting ∙ ap₂ (λ (s : SideName) (l : List ℕ). tiesBy (sideOf plan s) (countOf plan s) l) at e
+
+      found : (tally .ties ≡ 0 → ⊥) → (v : ℕ) × (v < side .n) × (tiedAt side (vertexWord side before v) ≡ true)
+      found some = ties-some side before (side .n) (λ none. some (waiting ∙ none))
 
   -- it fits in 16 bits
-  pub pass-few : {i changed : ℕ} {after : List ℕ} → Pass plan received i changed after → changed < 65536
+  pub pass-few : {i : ℕ} {tally : Tally} {after : List ℕ} → Pass plan received i tally after → tally .changed < 65536
   pass-few {i} a =
       let w = plan-sound plan (b .plan-done) .1 in
       omega (arith, a .counted, sum-le plan received i, fitted-edges (w .left-fits))
@@ -144,8 +191,8 @@ module _ {plan : Plan} {received : List ℕ} (b : Begun plan received) where
       let none : min 0 H ≡ 0 = min-eq-left zero-le in
       record { sums-are = e ∙ sums-zero plan received ∙ ap (sweepSums plan received) (sym none) }
 
-  pub told-more : {H i changed : ℕ} {sums more after : List ℕ} → Told plan received H i sums → Pass plan received i changed after
-      → more ≡ noted sums i H changed → Told plan received H (i + 1) more
+  pub told-more : {H i : ℕ} {tally : Tally} {sums more after : List ℕ} → Told plan received H i sums → Pass plan received i tally after
+      → more ≡ noted sums i H (tally .changed) → Told plan received H (i + 1) more
   told-more {H} {i} so-far a e = record { sums-are = noted-more plan received H i (so-far .sums-are) (a .counted) e }
 
   pub told-sized : {H i : ℕ} {sums : List ℕ} → Told plan received H i sums → length sums ≡ 64
@@ -160,43 +207,75 @@ module _ {plan : Plan} {received : List ℕ} (b : Begun plan received) where
   settled-before i j e =
       eq-false-of-not-eq-true (λ q. true≢false (sym q ∙ ap (isCodewordBlock (sideOf plan)) (sym (settled-stays i j q)) ∙ e))
 
-  -- before a sweep that changes a vertex the block was not settled
-  pass-unsettled : {i changed : ℕ} {after : List ℕ} → Pass plan received i changed after → (changed ≡ 0 → ⊥) → settledAfter plan received i ≡ false
-  unfolding firstUnsatisfied
+  -- before a sweep that changes something the block was not settled
+  pass-unsettled : {i : ℕ} {tally : Tally} {after : List ℕ} → Pass plan received i tally after → (tally .changed ≡ 0 → ⊥)
+      → settledAfter plan received i ≡ false
+  unfolding sweepSum
   pass-unsettled {i} a some =
-      eq-false-of-not-eq-true (λ q. a .dirty some (first-all (countOf plan (turn i)) _ (codeword-block-each (sideOf plan) _ q (turn i))))
-
-  -- before a sweep that changes none it was, since the side swept before is satisfied
-  pass-settled : {i changed : ℕ} {after : List ℕ} → 1 ≤ i → Pass plan received i changed after → changed ≡ 0 → settledAfter plan received i ≡ true
-  pass-settled {i} h a none =
-      settled-by-next (sideOf plan) (joined .whole) mends i received h (b .block-done) ∙ eq-eqb _ (countOf plan (turn i)) (a .clean none)
-
-  -- a first sweep that changes no vertex leaves the block as it was
-  first-same : {first : ℕ} {after : List ℕ} → Pass plan received 0 first after → first ≡ 0 → sweptBlock plan 1 received ≡ sweptBlock plan 0 received
-  unfolding afterSweeps
-  first-same a none = clean-side-swept (mends (turn 0)) received (a .clean none)
+      eq-false-of-not-eq-true (λ q. some (a .counted
+      ∙ ap (flips (edgeCount plan) (sweptBlock plan i received)) (settled-stays i 1 q) ∙ flips-none (edgeCount plan) (sweptBlock plan i received)))
 
   -- ---- all sweeps so far
 
-  pub swept-two : {H second : ℕ} {two-left sums : List ℕ} → Pass plan received 1 second two-left
-      → (second ≡ 0 → ⊥) → Told plan received H 2 sums → Swept plan received H 2 two-left sums
+  -- the side swept last
+  last-side : (i : ℕ) → other (turn (i + 1)) ≡ turn i
+  unfolding turn
+  last-side i = rw add-one (other-twice (turn i))
+
+  swept-side : {i : ℕ} {tally : Tally} {after : List ℕ} → Pass plan received i tally after → tally .ties ≡ 0
+      → firstUnsatisfied (sideOf plan (other (turn (i + 1)))) (sweptBlock plan (i + 1) received) ≡ countOf plan (other (turn (i + 1)))
+  swept-side {i} a none = rw (last-side i) (a .satisfied-side none)
+
+  pub swept-one : {H : ℕ} {first : Tally} {one-left sums : List ℕ} → Pass plan received 0 first one-left → (first .changed ≡ 0 → ⊥)
+      → Told plan received H 1 sums → Swept plan received H 1 (first .ties) one-left sums
+  swept-one one some told =
+      record {
+        block-is = one .leaves;
+        unsettled = below-more _ 0 (λ j l. absurd (omega arith)) (pass-unsettled one some);
+        satisfied-side = swept-side one;
+        tied-block = one .tied-after;
+        told = told;
+      }
+
+  pub swept-two : {H : ℕ} {second : Tally} {two-left sums : List ℕ} → Pass plan received 1 second two-left
+      → (second .changed ≡ 0 → ⊥) → Told plan received H 2 sums → Swept plan received H 2 (second .ties) two-left sums
   swept-two two some told =
       let last = pass-unsettled two some in
       record {
         block-is = two .leaves;
         unsettled = below-more _ 1 (below-more _ 0 (λ j l. absurd (omega arith)) (settled-before 0 1 last)) last;
+        satisfied-side = swept-side two;
+        tied-block = two .tied-after;
         told = told;
       }
 
-  pub swept-more : {H count changed : ℕ} {block after sums more : List ℕ} → Swept plan received H count block sums
-      → Pass plan received count changed after → (changed ≡ 0 → ⊥) → more ≡ noted sums count H changed
-      → Swept plan received H (count + 1) after more
+  pub swept-more : {H count ties : ℕ} {tally : Tally} {block after sums more : List ℕ} → Swept plan received H count ties block sums
+      → Pass plan received count tally after → (tally .changed ≡ 0 → ⊥) → more ≡ noted sums count H (tally .changed)
+      → Swept plan received H (count + 1) (tally .ties) after more
   swept-more {count = count} so-far a some e =
       record {
         block-is = a .leaves;
         unsettled = below-more _ count (so-far .unsettled) (pass-unsettled a some);
+        satisfied-side = swept-side a;
+        tied-block = a .tied-after;
         told = told-more (so-far .told) a e;
       }
+
+  -- ---- a sweep that changes nothing
+
+  -- no later one does, from the second on
+  ended-same : {i : ℕ} {tally : Tally} {after : List ℕ} → 1 ≤ i → Pass plan received i tally after → tally .changed ≡ 0
+      → (j : ℕ) → sweptBlock plan (i + j) received ≡ sweptBlock plan i received
+  ended-same {i} low a none =
+      after-ended (sideOf plan) (joined .whole) mends i received low (b .block-done) (sym (after-one-more (sideOf plan) i received) ∙ a .same none)
+
+  -- the block is settled where neither that sweep nor the one before left a tie
+  ended-settled : {H count ties : ℕ} {tally : Tally} {block after sums : List ℕ} → Swept plan received H count ties block sums
+      → Pass plan received count tally after → tally .changed ≡ 0 → ties ≡ 0 → tally .ties ≡ 0 → settledAfter plan received count ≡ true
+  ended-settled {count = count} so-far a none before here =
+      other-side (sideOf plan) (sweptBlock plan count received) (turn count)
+      (ap (firstUnsatisfied (sideOf plan (turn count))) (sym (a .same none)) ∙ a .satisfied-side here)
+      ∙ eq-eqb _ _ (so-far .satisfied-side before)
 
   -- ---- the ways out
 
@@ -218,33 +297,104 @@ module _ {plan : Plan} {received : List ℕ} (b : Begun plan received) where
     (told .sums-are, λ l. e ∙ settled-stays count more here),
   )
 
-  pub settle-zero : {H first second : ℕ} {one-left two-left sums : List ℕ} → Pass plan received 0 first one-left
-      → Pass plan received 1 second two-left → Told plan received H 1 sums → first ≡ 0 → second ≡ 0 → Answer H 0 two-left sums
-  settle-zero {H} one two told none still =
-      found H 0 2 zero-le (λ j l. absurd (omega arith))
-      (ap (isCodewordBlock (sideOf plan)) (sym (first-same one none)) ∙ pass-settled (le-refl 1) two still) (two .leaves)
-      (record { sums-are = told .sums-are ∙ noted-still plan received H 0 (sym (one .counted) ∙ none) })
+  -- it never settles, and no sweep from some count on changes anything
+  lost : (H i : ℕ) {block sums : List ℕ} → ((j : ℕ) → settledAfter plan received j ≡ false)
+      → ((j : ℕ) → i ≤ j → sweepSum plan received j ≡ 0) → Told plan received H i sums → Answer H (H + 1) block sums
+  lost H i never still told =
+      let all : min (H + 1) H ≡ H = min-eq-right (omega arith) in (
+        sym (settles-none plan received H (λ j q. never j)),
+        (told .sums-are ∙ noted-still plan received H i still ∙ ap (sweepSums plan received) (sym all), λ l. absurd (omega arith)),
+      )
 
-  pub settle-one : {H first second : ℕ} {one-left two-left sums : List ℕ} → Pass plan received 0 first one-left
-      → Pass plan received 1 second two-left → Told plan received H 1 sums → (first ≡ 0 → ⊥) → second ≡ 0 → Answer H 1 two-left sums
-  settle-one {H} one two told some still =
-      found H 1 1 (omega arith) (below-more _ 0 (λ j l. absurd (omega arith)) (pass-unsettled one some))
-      (pass-settled (le-refl 1) two still) (two .leaves) told
+  -- later sweeps that change nothing have the sum 0
+  still-sums : (i : ℕ) → ((j : ℕ) → sweptBlock plan (i + j) received ≡ sweptBlock plan i received) → (j : ℕ) → i ≤ j → sweepSum plan received j ≡ 0
+  unfolding sweepSum
+  still-sums i same j l =
+      let (m, is) = le-dest l in
+      let here : sweptBlock plan j received ≡ sweptBlock plan i received = ap (λ (x : ℕ). sweptBlock plan x received) (sym is) ∙ same m in
+      let next : j + 1 ≡ i + (m + 1) = omega (arith, is) in
+      let after : sweptBlock plan (j + 1) received ≡ sweptBlock plan i received = ap (λ (x : ℕ). sweptBlock plan x received) next ∙ same (m + 1) in
+      ap₂ (flips (edgeCount plan)) here after ∙ flips-none (edgeCount plan) (sweptBlock plan i received)
 
-  pub settle-later : {H count changed : ℕ} {block after sums : List ℕ} → Swept plan received H count block sums
-      → Pass plan received count changed after → changed ≡ 0 → 1 ≤ count → count ≤ H + 1 → Answer H count after sums
-  settle-later {H} {count} so-far a none low high =
-      found H count 1 high (so-far .unsettled) (pass-settled low a none) (a .leaves) (so-far .told)
+  -- from a count on, unsettled
+  still-unsettled : (i : ℕ) → ((j : ℕ) → sweptBlock plan (i + j) received ≡ sweptBlock plan i received)
+      → ((j : ℕ) → j < i → settledAfter plan received j ≡ false) → settledAfter plan received i ≡ false
+      → (j : ℕ) → settledAfter plan received j ≡ false
+  still-unsettled i same before here j =
+      elim (decLe i j) [
+        | yes l ↦
+            let (m, is) = le-dest l in
+            ap (λ (x : ℕ). settledAfter plan received x) (sym is) ∙ ap (isCodewordBlock (sideOf plan)) (same m) ∙ here
+        | no l ↦ before j (omega arith)
+      ]
 
-  -- the same where one more sweep is made than the one that tells it
-  pub settle-earlier : {H count changed more : ℕ} {block between after sums : List ℕ} → Swept plan received H count block sums
-      → Pass plan received count changed between → Pass plan received (count + 1) more after → changed ≡ 0 → 1 ≤ count → count ≤ H
-      → Answer H count after sums
-  settle-earlier {H} {count} so-far a next none low high =
-      let two : count + 1 + 1 ≡ count + 2 = omega arith in
-      found H count 2 (omega arith) (so-far .unsettled) (pass-settled low a none) (rw two at (next .leaves)) (so-far .told)
+  -- from the second sweep on, one that changes nothing ends it, also where some more are made
+  pub settle-ended : {H count ties r : ℕ} {tally : Tally} {block after left sums : List ℕ} → Swept plan received H count ties block sums
+      → Pass plan received count tally after → tally .changed ≡ 0 → 1 ≤ count → count ≤ H + 1
+      → (more : ℕ) → left ≡ sweptBlock plan (count + more) received → r ≡ endedAt count ties (tally .ties) (H + 1) → Answer H r left sums
+  settle-ended {H} {count} {ties} {r} {tally} {left = left} {sums = sums} so-far a none low high more e told =
+      elim (ℕ-discrete ties 0) [
+        | no some ↦ rw (told ∙ ended-before count ties (tally .ties) (H + 1) some) (never (so-far .tied-block some))
+        | yes before ↦
+            elim (ℕ-discrete (tally .ties) 0) [
+              | no some ↦ rw (told ∙ ended-here count ties (tally .ties) (H + 1) some) (never (a .tied-before some))
+              | yes here ↦
+                  rw (told ∙ ended-none count ties (tally .ties) (H + 1) before here)
+                  (found H count more high (so-far .unsettled) (ended-settled so-far a none before here) e (so-far .told))
+            ]
+      ]
+    where
+      never : settledAfter plan received count ≡ false → Answer H (H + 1) left sums
+      never open-still =
+          let same = ended-same low a none in
+          lost H count (still-unsettled count same (so-far .unsettled) open-still) (still-sums count same) (so-far .told)
 
-  pub settle-never : {H count : ℕ} {block sums : List ℕ} → Swept plan received H count block sums → H < count → Answer H (H + 1) block sums
+  -- neither of the first two sweeps changes anything
+  pub settle-first : {H r : ℕ} {first second : Tally} {one-left two-left sums : List ℕ} → Pass plan received 0 first one-left
+      → Pass plan received 1 second two-left → first .changed ≡ 0 → second .changed ≡ 0 → Told plan received H 1 sums
+      → r ≡ endedAt 0 (first .ties) (second .ties) (H + 1) → Answer H r two-left sums
+  settle-first {H} {r} {first} {second} {two-left = two-left} {sums = sums} one two none still told is =
+      elim (ℕ-discrete (first .ties) 0) [
+        | no some ↦ rw (is ∙ ended-before 0 (first .ties) (second .ties) (H + 1) some) (never (one .tied-after some))
+        | yes before ↦
+            elim (ℕ-discrete (second .ties) 0) [
+              | no some ↦ rw (is ∙ ended-here 0 (first .ties) (second .ties) (H + 1) some) (never (two .tied-before some))
+              | yes here ↦
+                  rw (is ∙ ended-none 0 (first .ties) (second .ties) (H + 1) before here)
+                  (found H 0 2 zero-le (λ j l. absurd (omega arith)) (ap (isCodewordBlock (sideOf plan)) (sym (one .same none)) ∙ settled before here)
+                  (two .leaves) (record { sums-are = told .sums-are ∙ first-still }))
+            ]
+      ]
+    where
+      same : (j : ℕ) → sweptBlock plan (1 + j) received ≡ sweptBlock plan 1 received
+      same = ended-same (le-refl 1) two still
+
+      never : settledAfter plan received 1 ≡ false → Answer H (H + 1) two-left sums
+      never missed-one =
+          lost H 1 (still-unsettled 1 same
+          (below-more _ 0 (λ j l. absurd (omega arith)) (ap (isCodewordBlock (sideOf plan)) (sym (one .same none)) ∙ missed-one)) missed-one)
+          (still-sums 1 same) told
+
+      settled : first .ties ≡ 0 → second .ties ≡ 0 → settledAfter plan received 1 ≡ true
+      settled before here =
+          other-side (sideOf plan) (sweptBlock plan 1 received) (turn 1)
+          (ap (firstUnsatisfied (sideOf plan (turn 1))) (sym (two .same still)) ∙ two .satisfied-side here)
+          ∙ eq-eqb _ _ (swept-side one before)
+
+      -- the first sum is 0
+      first-still : sweepSums plan received (min 1 H) ≡ sweepSums plan received (min 0 H)
+      first-still =
+          let all-still : (j : ℕ) → 0 ≤ j → sweepSum plan received j ≡ 0 =
+          still-sums 0 (λ j.
+          let whole : 0 + j ≡ j = omega arith in
+          ap (λ (x : ℕ). sweptBlock plan x received) whole
+          ∙ elim (decLe 1 j) [
+            | yes l ↦ let (m, is-more) = le-dest l in ap (λ (x : ℕ). sweptBlock plan x received) (sym is-more) ∙ same m ∙ one .same none
+            | no l ↦ let none-made : j ≡ 0 = omega arith in ap (λ (x : ℕ). sweptBlock plan x received) none-made
+          ]) in
+          noted-still plan received H 1 (λ j l. all-still j zero-le) ∙ sym (noted-still plan received H 0 all-still)
+
+  pub settle-never : {H count ties : ℕ} {block sums : List ℕ} → Swept plan received H count ties block sums → H < count → Answer H (H + 1) block sums
   settle-never {H} {count} so-far past =
       let here : min count H ≡ H = min-eq-right (omega arith) in
       let next : min (H + 1) H ≡ H = min-eq-right (omega arith) in (

@@ -77,7 +77,7 @@ module _ (plan : Plan) (block : List ℕ) where
         | no made ↦ told-made i j (omega arith) ∙ sym (told-made (i + 1) j (omega arith))
       ]
 
-  -- it is noted, or past the sums that are told, or it is 0
+  -- it is noted, or past the sums that are told
   sums-noted : (i : ℕ) → i < 64 → set (sweepSums plan block i) i (sweepSum plan block i) ≡ sweepSums plan block (i + 1)
   sums-noted i h = sums-ext (i + 1) _ (length-set (sweepSums plan block i) i _ ∙ length-sums i) each
     where
@@ -94,13 +94,6 @@ module _ (plan : Plan) (block : List ℕ) where
 
   sums-past : (i : ℕ) → 64 ≤ i → sweepSums plan block i ≡ sweepSums plan block (i + 1)
   sums-past i h = sums-same i (λ j l. told-other i j (λ e. omega arith))
-
-  sums-still : (i : ℕ) → sweepSum plan block i ≡ 0 → sweepSums plan block i ≡ sweepSums plan block (i + 1)
-  sums-still i none =
-      sums-same i (λ j l. elim (ℕ-discrete j i) [
-        | yes e ↦ rw e (told-none i i (omega arith) ∙ sym (told-made (i + 1) i (omega arith) ∙ none))
-        | no apart ↦ told-other i j apart
-      ])
 
   -- ---- with a limit: sweeps made beyond it are not told
 
@@ -125,15 +118,17 @@ module _ (plan : Plan) (block : List ℕ) where
             ]
       ]
 
-  pub noted-still : (H i : ℕ) → sweepSum plan block i ≡ 0 → sweepSums plan block (min (i + 1) H) ≡ sweepSums plan block (min i H)
-  noted-still H i none =
-      elim (decLe H i) [
-        | yes past ↦
-            let here : min i H ≡ H = min-eq-right past in
-            let next : min (i + 1) H ≡ H = min-eq-right (omega arith) in
-            ap (sweepSums plan block) (next ∙ sym here)
-        | no within ↦
-            let here : min i H ≡ i = min-eq-left (omega arith) in
-            let next : min (i + 1) H ≡ i + 1 = min-eq-left (omega arith) in
-            ap (sweepSums plan block) next ∙ sym (sums-still i none) ∙ ap (sweepSums plan block) (sym here)
-      ]
+  -- sweeps from sweep i + 1 on that change nothing
+  pub noted-still : (H i : ℕ) → ((j : ℕ) → i ≤ j → sweepSum plan block j ≡ 0) → sweepSums plan block (min i H) ≡ sweepSums plan block H
+  noted-still H i none = sums-ext H (sweepSums plan block (min i H)) (length-sums (min i H)) (λ j h. sums-at (min i H) j h ∙ same j)
+    where
+      same : (j : ℕ) → told (min i H) j ≡ told H j
+      same j =
+          elim (decLe H j) [
+            | yes past ↦ told-none (min i H) j (omega arith) ∙ sym (told-none H j past)
+            | no within ↦
+                elim (decLe i j) [
+                  | yes still ↦ told-none (min i H) j (omega arith) ∙ sym (told-made H j (omega arith) ∙ none j still)
+                  | no made ↦ told-made (min i H) j (omega arith) ∙ sym (told-made H j (omega arith))
+                ]
+          ]

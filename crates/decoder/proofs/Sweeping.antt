@@ -12,10 +12,10 @@
 -- Laws are named by their subject, then by the fact: `visited-` is about the first m vertices of a side and holds for any map, `sweep-`
 -- is about a whole sweep, `after-` about i sweeps in turn. At the end of a name, `-one-more` is one more step, `-other` a bit that no
 -- visited vertex has, `-word` and `-later` the words of visited vertices and of those still to come, `-block` the check of 11 and 12,
--- `-bytes` that bytes stay below 256, `-skip` and `-fixed` a map that leaves words as they are, `-stays` a block that does not change any
--- more, `-satisfied` vertices that read codewords.
+-- `-bytes` that bytes stay below 256, `-skip` and `-fixed` a map that leaves words as they are, `-again` a side swept twice, `-stays`, `-still`
+-- and `-ended` a block that does not change any more, `-satisfied` vertices that read codewords, `-tied` those that wait for their neighbours.
 use Prim.Native.Nat.{ℕ, zero, suc, _+_, _*_, _^_, _≤_, _<_}
-use mathlib.Core.Bool.{true, and-true}
+use mathlib.Core.Bool.{true, false, and-true}
 use mathlib.Core.List.{List, []}
 use mathlib.Core.Logic.{_≢_, ⊎-elim}
 use mathlib.Core.Path.{_≡_, refl, ap, _∙_}
@@ -33,7 +33,7 @@ use Rattle.bits.proofs.Sums.{sum-ext}
 use Rattle.bits.proofs.Searches.{first-all}
 use Rattle.inner_code.specs.Reply.{done}
 use Rattle.inner_code.specs.Code.{isCodeword}
-use Rattle.inner_code.proofs.NearestWord.{nearest-codeword, nearest-lt, nearest-fixed, changed-ones}
+use Rattle.inner_code.proofs.NearestWord.{nearest-codeword, nearest-lt, nearest-fixed, nearest-again, nearest-tied, tied-open, changed-ones}
 use Rattle.inner_code.proofs.SheetChecks.{Sound}
 use Rattle.wiring.specs.Plan.{Plan, Side, sheetOf, sideOf}
 use Rattle.wiring.specs.Block.{vertexWord, withWord, satisfied, firstUnsatisfied, isCodewordBlock, blockCheck}
@@ -43,7 +43,7 @@ use Rattle.wiring.proofs.Blocks.{bytes-hold, block-sized, block-clear, block-ba
 use Rattle.wiring.proofs.VertexWords.{vertex-lt, length-scattered, scattered-bytes, scattered-other, withWord-same, withWord-fixed, withWord-other}
 use Rattle.wiring.proofs.VertexWords.{flips-words}
 use Rattle.wiring.proofs.CodewordBlocks.{codeword-block-each}
-use Rattle.decoder.specs.Visiting.{nearestOf, changedBy}
+use Rattle.decoder.specs.Visiting.{nearestOf, tiedAt, changedBy}
 use Rattle.decoder.specs.Sweep.{visited, sweep, other, turn, afterSweeps}
 
 -- ---- vertices visited in turn
@@ -111,16 +111,22 @@ module _ (map : ℕ → ℕ) (side : Side) where
 
 pub record Mends (side : Side) : Type 0 where
   pub map-lt : (w : ℕ) → w < 2 ^ side .d → nearestOf side w < 2 ^ side .d
-  pub map-codeword : (w : ℕ) → w < 2 ^ side .d → isCodeword (side .row) (side .k) (nearestOf side w) ≡ true
   pub map-fixed : (w : ℕ) → isCodeword (side .row) (side .k) w ≡ true → nearestOf side w ≡ w
+  pub map-again : (w : ℕ) → w < 2 ^ side .d → nearestOf side (nearestOf side w) ≡ nearestOf side w
+  pub map-codeword : (w : ℕ) → w < 2 ^ side .d → tiedAt side w ≡ false → isCodeword (side .row) (side .k) (nearestOf side w) ≡ true
+  pub tied-stays : (w : ℕ) → tiedAt side w ≡ true → nearestOf side w ≡ w
+  pub tied-missed : (w : ℕ) → tiedAt side w ≡ true → isCodeword (side .row) (side .k) w ≡ false
 
 pub sheet-mends : (plan : Plan) → ((name : SideName) → Sound (sheetOf plan name)) → (name : SideName) → Mends (sideOf plan name)
 sheet-mends plan sound name =
     let s = sound name in
     record {
       map-lt = nearest-lt _ _ _ (s .degree-high) (s .rows-lt);
-      map-codeword = nearest-codeword _ _ _ (s .degree-high) (s .rows-lt);
       map-fixed = nearest-fixed _ _ _ (s .degree-high) (s .rows-lt);
+      map-again = nearest-again _ _ _ (s .degree-high) (s .rows-lt);
+      map-codeword = nearest-codeword _ _ _ (s .degree-high) (s .rows-lt);
+      tied-stays = nearest-tied _ _ _ (s .degree-high) (s .rows-lt);
+      tied-missed = tied-open _ _ _ (s .degree-high) (s .rows-lt);
     }
 
 -- ---- one sweep
@@ -164,9 +170,22 @@ module _ {N : ℕ} {side : Side} (whole : Whole N side) (block : List ℕ) (pass
       ap (λ (x : ℕ). ones (bitXor (vertexWord side block v) x)) (sweep-word mends v l)
       ∙ changed-ones (side .row) (side .k) (side .d) (vertexWord side block v))
 
-  pub sweep-satisfied : Mends side → (v : ℕ) → v < side .n → satisfied side (sweep side block) v ≡ true
+  -- a side that is swept again stays
+  pub sweep-again : Mends side → sweep side (sweep side block) ≡ sweep side block
+  sweep-again mends =
+      sweep-fixed side (sweep side block) (λ v l. rw (sweep-word mends v l) (mends .map-again _ (vertex-lt side block v)))
+
+  -- without ties it is satisfied
+  pub sweep-satisfied : Mends side → ((v : ℕ) → v < side .n → tiedAt side (vertexWord side block v) ≡ false)
+      → firstUnsatisfied side (sweep side block) ≡ side .n
+  unfolding firstUnsatisfied satisfied
+  sweep-satisfied mends none =
+      first-all (side .n) _ (λ v l. rw (sweep-word mends v l) (mends .map-codeword _ (vertex-lt side block v) (none v l)))
+
+  -- a tie is left as it is
+  pub sweep-tied : Mends side → (v : ℕ) → v < side .n → tiedAt side (vertexWord side block v) ≡ true → satisfied side (sweep side block) v ≡ false
   unfolding satisfied
-  sweep-satisfied mends v l = rw (sweep-word mends v l) (mends .map-codeword _ (vertex-lt side block v))
+  sweep-tied mends v l e = rw (sweep-word mends v l, mends .tied-stays _ e) (mends .tied-missed _ e)
 
 -- ---- many sweeps
 
@@ -202,8 +221,15 @@ module _ (sides : SideName → Side) where
   after-stays mends i zero block e = rw add-zero
   after-stays mends i (suc j) block e = rw (add-suc, after-stays mends i j block e) (sweep-codeword (turn (i + j)) (mends (turn (i + j))) _ e)
 
+  -- a block that a sweep of either side leaves as it is stays
+  pub after-still : (i j : ℕ) (block : List ℕ) → ((name : SideName) → sweep (sides name) (afterSweeps sides i block) ≡ afterSweeps sides i block)
+      → afterSweeps sides (i + j) block ≡ afterSweeps sides i block
+  unfolding afterSweeps
+  after-still i zero block same = rw add-zero
+  after-still i (suc j) block same = rw (add-suc, after-still i j block same) (same (turn (i + j)))
+
   -- where one side is satisfied, the other decides
-  other-side : (block : List ℕ) (name : SideName) → firstUnsatisfied (sides name) block ≡ sides name .n
+  pub other-side : (block : List ℕ) (name : SideName) → firstUnsatisfied (sides name) block ≡ sides name .n
       → isCodewordBlock sides block ≡ eqb (firstUnsatisfied (sides (other name)) block) (sides (other name) .n)
   unfolding isCodewordBlock other
   other-side block SideName.Left e = rw (eq-eqb _ _ e)
@@ -215,12 +241,21 @@ module _ (sides : SideName → Side) where
     after-block zero block pass = pass
     after-block (suc i) block pass = sweep-block (whole (turn i)) _ (after-block i block pass)
 
-    -- the side swept last is satisfied, so the next sweep's side alone decides
-    pub settled-by-next : ((name : SideName) → Mends (sides name)) → (i : ℕ) (block : List ℕ) → 1 ≤ i → blockCheck N block ≡ done []
-        → isCodewordBlock sides (afterSweeps sides i block)
-        ≡ eqb (firstUnsatisfied (sides (turn i)) (afterSweeps sides i block)) (sides (turn i) .n)
-    unfolding afterSweeps turn firstUnsatisfied
-    settled-by-next mends zero block h pass = absurd (not-suc-le-zero h)
-    settled-by-next mends (suc i) block h pass =
-        other-side _ (turn i)
-        (first-all (sides (turn i) .n) _ (sweep-satisfied (whole (turn i)) _ (after-block i block pass) (mends (turn i))))
+    -- from the second sweep on, a sweep that leaves the block as it is is followed by none that does not
+    pub after-ended : ((name : SideName) → Mends (sides name)) → (i : ℕ) (block : List ℕ) → 1 ≤ i → blockCheck N block ≡ done []
+        → sweep (sides (turn i)) (afterSweeps sides i block) ≡ afterSweeps sides i block
+        → (j : ℕ) → afterSweeps sides (i + j) block ≡ afterSweeps sides i block
+    unfolding afterSweeps turn
+    after-ended mends zero block h pass same j = absurd (not-suc-le-zero h)
+    after-ended mends (suc i) block h pass same j =
+        after-still (suc i) j block
+        (either (turn i) (sweep-again (whole (turn i)) _ (after-block i block pass) (mends (turn i))) same)
+      where
+        -- both sides, from one and the other
+        either : (name : SideName) → sweep (sides name) (afterSweeps sides (suc i) block) ≡ afterSweeps sides (suc i) block
+            → sweep (sides (other name)) (afterSweeps sides (suc i) block) ≡ afterSweeps sides (suc i) block
+            → (side : SideName) → sweep (sides side) (afterSweeps sides (suc i) block) ≡ afterSweeps sides (suc i) block
+        either SideName.Left here there SideName.Left = here
+        either SideName.Left here there SideName.Right = there
+        either SideName.Right here there SideName.Left = there
+        either SideName.Right here there SideName.Right = here

@@ -1,28 +1,33 @@
 -- One sweep as the code makes it: vertices that stay, vertices that are mended, and how many bits change.
 --   changedAt, changedBy       how many bits a word's nearest word changes, and those of a side's first vertices together (specs Visiting)
+--   tiedAt, tiesBy             whether a word is a tie, and how many of a side's first vertices read one (specs Visiting)
 --   SideSwept                  what a whole sweep gives (specs Visiting)
 --   visited, sweep, nearestOf  the block after some vertices, and after all, have their nearest word (specs Sweep, Visiting)
---   Visits side before v changed block   the first v vertices are visited: `changed` bits changed, and the block is `block`
--- Laws are named by their subject, then by the fact: `changed-` is about the number of bits that change, `visits-` about the block so
--- far, `word-`, `found-` and `pattern-` about one vertex's word in the code, `ready-` about a side of a checked plan.
+--   Visits side before v changed ties block   the first v vertices are visited: `changed` bits changed, `ties` vertices wait, and the block is
+--                              `block`
+-- Laws are named by their subject, then by the fact: `changed-` is about the number of bits that change, `ties-` about the vertices that
+-- wait, `visits-` about the block so far, `word-`, `found-` and `pattern-` about one vertex's word in the code, `ready-` about a side of a
+-- checked plan.
 use Prim.Native.Nat.{ℕ, _+_, _-_, _*_, _^_, _≤_, _<_, min}
-use mathlib.Core.Bool.{Bool, true, false}
+use mathlib.Core.Bool.{Bool, true, false, cond}
 use mathlib.Core.List.{List, []}
 use mathlib.Core.Path.{_≡_, refl, sym, ap, ap₂, _∙_}
 use native.Mathlib.Nat.{le-refl, le-trans, le-of-eq, min-eq-left}
 use native.Mathlib.Omega.{arith}
-use Rattle.bits.proofs.Sums.{sum-zero, sum-one-more, sum-mono, sum-const, sum-none, sum-none-each}
+use Rattle.bits.proofs.Sums.{sum-zero, sum-one-more, sum-mono, sum-const, sum-none, sum-none-each, sum-some}
 use lib.Bits.{bitXor, xor-lt}
+use lib.Dec.{eqb}
 use lib.ListN.{length}
 use Rattle.bits.specs.Window.{wordAt}
 use Rattle.bits.proofs.Xor.{xor-cancel}
-use Rattle.inner_code.specs.Sheet.{degree}
+use Rattle.inner_code.specs.Code.{isCodeword}
+use Rattle.inner_code.specs.Sheet.{degree, rowCount, rowOf}
 use Rattle.inner_code.specs.declared.nearest.Step.{Step}
-use Rattle.inner_code.proofs.NearestWord.{nearest-lt, changed-none, changed-none-back, changed-le}
+use Rattle.inner_code.proofs.NearestWord.{nearest-lt, nearest-fixed, untied-codeword, changed-none, changed-none-back, changed-tied, changed-le}
 use Rattle.inner_code.specs.Reply.{done}
 use Rattle.inner_code.specs.Finding.{Finds}
 use Rattle.inner_code.proofs.SheetChecks.{Sound, sound}
-use Rattle.inner_code.proofs.Finding.{OwnNearest, Found}
+use Rattle.inner_code.proofs.Finding.{Member, Found}
 use Rattle.wiring.specs.Plan.{Plan, Side, left, sheetOf, countOf, sideBit, sideBy}
 use Rattle.wiring.specs.Wiring.{planCheck}
 use Rattle.wiring.specs.declared.side.SideName.{SideName}
@@ -31,7 +36,7 @@ use Rattle.wiring.proofs.Plans.{plan-sound, fitted-sheet}
 use Rattle.wiring.specs.Block.{vertexWord, withWord}
 use Rattle.wiring.proofs.Permutation.{Whole, edges-le, fitted-vertex, fitted-edges, side-fits, side-edges, side-lt, side-once}
 use Rattle.decoder.specs.Sweep.{visited, sweep}
-use Rattle.decoder.specs.Visiting.{changedAt, changedBy, Ready, SideReady, SideSwept, nearestOf, patternPut}
+use Rattle.decoder.specs.Visiting.{changedAt, changedBy, tiedAt, tiesBy, Ready, SideReady, SideSwept, nearestOf, patternPut}
 use Rattle.decoder.proofs.Patterns.{pattern-word}
 use Rattle.decoder.proofs.Sweeping.{length-visited, visited-one-more, visited-skip, visited-later}
 
@@ -57,6 +62,51 @@ module _ (side : Side) (block : List ℕ) where
   changed-zero-back m same =
       sum-none m (λ v. changedAt side (vertexWord side block v)) (λ v l. changed-none-back _ _ _ _ (same v l))
 
+-- ---- how many vertices wait
+
+-- 1 for a tie
+abbrev waits : Bool → ℕ
+waits t = cond t 1 0
+
+waits-le : (t : Bool) → waits t ≤ 1
+waits-le true = omega arith
+waits-le false = omega arith
+
+pub tie-le : (t : Bool) {tie : ℕ} → tie ≡ waits t → tie ≤ 1
+tie-le t e = omega (arith, e, waits-le t)
+
+module _ (side : Side) (block : List ℕ) where
+  ties-start : tiesBy side 0 block ≡ 0
+  unfolding tiesBy
+  ties-start = sum-zero (λ v. waits (tiedAt side (vertexWord side block v)))
+
+  ties-one-more : (v : ℕ) → tiesBy side (v + 1) block ≡ tiesBy side v block + waits (tiedAt side (vertexWord side block v))
+  unfolding tiesBy
+  ties-one-more v = sum-one-more v _
+
+  ties-le : (m : ℕ) → tiesBy side m block ≤ m
+  unfolding tiesBy
+  ties-le m =
+      le-trans (sum-mono m _ (λ v. 1) (λ v l. waits-le (tiedAt side (vertexWord side block v)))) (le-of-eq (sum-const m 1 ∙ omega arith))
+
+  waits-none : (t : Bool) → waits t ≡ 0 → t ≡ false
+  waits-none true e = absurd (omega (arith, e))
+  waits-none false e = refl
+
+  pub ties-none : (m : ℕ) → tiesBy side m block ≡ 0 → (v : ℕ) → v < m → tiedAt side (vertexWord side block v) ≡ false
+  unfolding tiesBy
+  ties-none m e v l = waits-none _ (sum-none-each m (λ v. waits (tiedAt side (vertexWord side block v))) e v l)
+
+  waits-some : (t : Bool) → 0 < waits t → t ≡ true
+  waits-some true h = refl
+  waits-some false h = absurd (omega (arith, h))
+
+  pub ties-some : (m : ℕ) → (tiesBy side m block ≡ 0 → ⊥) → (v : ℕ) × (v < m) × (tiedAt side (vertexWord side block v) ≡ true)
+  unfolding tiesBy
+  ties-some m some =
+      let (v, l, h) = sum-some m (λ v. waits (tiedAt side (vertexWord side block v))) (omega (arith, some)) in
+      (v, l, waits-some _ h)
+
 -- a vertex changes d bits at most
 changed-by-le : (sheet : List ℕ) (n : ℕ) (wiring : List ℕ) (name : SideName) → Sound sheet → (m : ℕ) (block : List ℕ)
     → changedBy (sideBy sheet n wiring name) m block ≤ m * degree sheet
@@ -69,16 +119,17 @@ changed-by-le sheet n wiring name s m block =
 
 -- ---- vertices visited so far
 
-pub record Visits (side : Side) (before : List ℕ) (v changed : ℕ) (block : List ℕ) : Type 0 where
+pub record Visits (side : Side) (before : List ℕ) (v changed ties : ℕ) (block : List ℕ) : Type 0 where
   pub counted : changed ≡ changedBy side v before
+  pub waiting : ties ≡ tiesBy side v before
   pub swept : block ≡ visited (nearestOf side) side v before
 
-pub visits-none : {side : Side} {before : List ℕ} → Visits side before 0 0 before
+pub visits-none : {side : Side} {before : List ℕ} → Visits side before 0 0 0 before
 unfolding visited
-visits-none {side} {before} = record { counted = sym (changed-start side before); swept = refl }
+visits-none {side} {before} = record { counted = sym (changed-start side before); waiting = sym (ties-start side before); swept = refl }
 
 pub visits-le : {sheet : List ℕ} {n : ℕ} {wiring finder : List ℕ} → SideReady sheet n wiring finder → (name : SideName) {before : List ℕ}
-    {v changed : ℕ} {block : List ℕ} → v ≤ n → Visits (sideBy sheet n wiring name) before v changed block → changed ≤ 32768
+    {v changed ties : ℕ} {block : List ℕ} → v ≤ n → Visits (sideBy sheet n wiring name) before v changed ties block → changed ≤ 32768
 visits-le {sheet} {n} {wiring} ready name {before} {v} within all =
     let s = sound sheet [] (ready .finds .accepted) in
     omega (
@@ -88,8 +139,12 @@ visits-le {sheet} {n} {wiring} ready name {before} {v} within all =
       edges-le v (degree sheet) (le-trans within (ready .fits .n-high)) (s .degree-high),
     )
 
-module _ {N : ℕ} {side : Side} (whole : Whole N side) {before block : List ℕ} {v changed : ℕ} (below : v < side .n)
-    (so-far : Visits side before v changed block) where
+-- no more wait than there are
+pub visits-few : {side : Side} {before : List ℕ} {v changed ties : ℕ} {block : List ℕ} → Visits side before v changed ties block → ties ≤ v
+visits-few {side} {before} {v} all = omega (arith, all .waiting, ties-le side before v)
+
+module _ {N : ℕ} {side : Side} (whole : Whole N side) {before block : List ℕ} {v changed ties : ℕ} (below : v < side .n)
+    (so-far : Visits side before v changed ties block) where
   -- vertex v still reads what it read at first
   visit-first : vertexWord side block v ≡ vertexWord side before v
   visit-first = ap (λ (l : List ℕ). vertexWord side l v) (so-far .swept) ∙ visited-later (nearestOf side) side whole v before v (le-refl v) below
@@ -97,19 +152,21 @@ module _ {N : ℕ} {side : Side} (whole : Whole N side) {before block : List ℕ
   abbrev Stays : Type 0
   Stays = nearestOf side (vertexWord side block v) ≡ vertexWord side block v
 
-  pub visits-changed : {mended bits : ℕ} {after : List ℕ} → mended ≡ nearestOf side (vertexWord side block v)
-      → bits ≡ changedAt side (vertexWord side block v) → after ≡ withWord side v mended block → Visits side before (v + 1) (changed + bits) after
-  visits-changed mapped told e =
+  pub visits-changed : {mended bits tie : ℕ} {after : List ℕ} → mended ≡ nearestOf side (vertexWord side block v)
+      → bits ≡ changedAt side (vertexWord side block v) → tie ≡ waits (tiedAt side (vertexWord side block v))
+      → after ≡ withWord side v mended block → Visits side before (v + 1) (changed + bits) (ties + tie) after
+  visits-changed mapped told waited e =
       record {
         counted = omega (arith, changed-one-more side before v, told ∙ ap (changedAt side) visit-first, so-far .counted);
+        waiting = omega (arith, ties-one-more side before v, waited ∙ ap (λ (w : ℕ). waits (tiedAt side w)) visit-first, so-far .waiting);
         swept = e
             ∙ ap₂ (λ (x : ℕ) (l : List ℕ). withWord side v x l)
             (mapped ∙ ap (λ (l : List ℕ). nearestOf side (vertexWord side l v)) (so-far .swept)) (so-far .swept)
             ∙ sym (visited-one-more (nearestOf side) side v before);
       }
 
-  pub visits-kept : Stays → Visits side before (v + 1) changed block
-  visits-kept stays =
+  pub visits-kept : Stays → tiedAt side (vertexWord side block v) ≡ false → Visits side before (v + 1) changed ties block
+  visits-kept stays untied =
       record {
         counted = omega (
           arith,
@@ -117,17 +174,24 @@ module _ {N : ℕ} {side : Side} (whole : Whole N side) {before block : List ℕ
           sym (ap (changedAt side) visit-first) ∙ changed-none-back _ _ _ _ stays,
           so-far .counted,
         );
+        waiting = omega (
+          arith,
+          ties-one-more side before v,
+          sym (ap (λ (w : ℕ). waits (tiedAt side w)) visit-first) ∙ ap waits untied,
+          so-far .waiting,
+        );
         swept = so-far .swept
             ∙ sym (visited-skip (nearestOf side) side v before (rw (so-far .swept) at stays));
       }
 
 -- after the last vertex
-pub visits-sweep : {side : Side} {before : List ℕ} {v changed : ℕ} {block : List ℕ} → Visits side before v changed block → v ≡ side .n
-    → SideSwept side before changed block
+pub visits-sweep : {side : Side} {before : List ℕ} {v changed ties : ℕ} {block : List ℕ} → Visits side before v changed ties block
+    → v ≡ side .n → SideSwept side before (record { changed = changed; ties = ties }) block
 unfolding sweep
 visits-sweep {side} {before} all end =
     record {
       counted = all .counted ∙ ap (λ (m : ℕ). changedBy side m before) end;
+      waiting = all .waiting ∙ ap (λ (m : ℕ). tiesBy side m before) end;
       leaves = all .swept ∙ ap (λ (m : ℕ). visited (nearestOf side) side m before) end;
     }
 
@@ -158,11 +222,26 @@ module _ {sheet : List ℕ} {n : ℕ} {wiring finder : List ℕ} (ready : SideRe
   word-lt : word < 2 ^ degree sheet
   word-lt = rw word-is (vertex-lt side block v)
 
-  pub word-stays : {r : Bool} → OwnNearest finder word r → r ≡ true → nearestOf side (vertexWord side block v) ≡ vertexWord side block v
-  word-stays own e = rw word-is at (own .stays e sheet (ready .finds) word-lt)
+  module _ {r : Bool} (member : Member finder word r) where
+    abbrev ok : Sound sheet
+    ok = sound sheet [] (ready .finds .accepted)
 
-  pub word-moves : {r : Bool} → OwnNearest finder word r → r ≡ false → nearestOf side (vertexWord side block v) ≡ vertexWord side block v → ⊥
-  word-moves own e = rw word-is at (own .changes e sheet (ready .finds) word-lt)
+    word-tells : r ≡ isCodeword (rowOf sheet) (rowCount sheet) (vertexWord side block v)
+    word-tells = member .tells sheet (ready .finds) word-lt ∙ ap (isCodeword (rowOf sheet) (rowCount sheet)) word-is
+
+    -- a codeword stays and is no tie
+    pub word-stays : r ≡ true → nearestOf side (vertexWord side block v) ≡ vertexWord side block v
+    word-stays e = nearest-fixed _ _ _ (ok .degree-high) (ok .rows-lt) _ (sym word-tells ∙ e)
+
+    pub word-untied : r ≡ true → tiedAt side (vertexWord side block v) ≡ false
+    word-untied e = untied-codeword _ _ _ (ok .degree-high) (ok .rows-lt) _ (sym word-tells ∙ e)
+
+    -- any other word is a tie exactly if its step changes nothing
+    pub word-waits : {step : Step} {after : List ℕ} {tie : ℕ} → Found finder word step after → r ≡ false → tie ≡ waits (eqb (step .changed) 0)
+        → tie ≡ waits (tiedAt side (vertexWord side block v))
+    word-waits found e told =
+        told ∙ ap waits (ap (λ (x : ℕ). eqb x 0) (found .counted sheet (ready .finds) word-lt ∙ ap (changedAt side) word-is)
+        ∙ changed-tied _ _ _ (ok .degree-high) (ok .rows-lt) _ (vertex-lt side block v) (sym word-tells ∙ e))
 
   module _ {step : Step} {after : List ℕ} (found : Found finder word step after) where
     pub word-found : step .word ≡ nearestOf side (vertexWord side block v)
@@ -223,6 +302,6 @@ module _ {plan : Plan} {l r : List ℕ} (ready : Ready plan l r) {after : List �
 pub ready-shared : {plan : Plan} {l r : List ℕ} → Ready plan l r → length r ≡ 0 → Finds (plan .rightSheet) l
 ready-shared ready none = rw (ready .shared none) at (ready .left-finds)
 
-pub visits-length : {side : Side} {before : List ℕ} {v changed : ℕ} {block : List ℕ} → Visits side before v changed block
+pub visits-length : {side : Side} {before : List ℕ} {v changed ties : ℕ} {block : List ℕ} → Visits side before v changed ties block
     → length block ≡ length before
 visits-length {side} {before} {v} all = ap length (all .swept) ∙ length-visited (nearestOf side) side v before

@@ -2,13 +2,17 @@
 --   nearestOf side w            the nearest word of w by the side's inner code
 --   changedAt side w            how many bits the nearest word of w changes
 --   changedBy side m block      how many bits the vertices 0 .. m - 1 of a side change, each by the nearest word of what it reads
+--   tiedAt side w               w is a tie of the side's inner code: more than one pattern has the fewest ones
+--   tiesBy side m block         how many of the vertices 0 .. m - 1 of a side read such a word
+--   quiet                       the tally of a sweep that finds every vertex satisfied
 --   SideReady sheet n wiring finder  a side of this sheet and n vertices fits the wiring, whose entries are its edges, and the finder finds
 --                               the sheet's nearest words
 --   Ready plan leftFinder rightFinder  the plan is accepted, and each finder finds its side's nearest words; a right finder of no numbers
 --                               stands for the left one, and both sides have one sheet
---   SideSwept side before changed after  one sweep as the code makes it: how many bits it changed, and the block that it leaves
---   BothSwept plan before here there after  a left sweep and the right one after it as the code makes them: how many bits each changed, and the block
---                               that is left
+--   SideSwept side before tally after  one sweep as the code makes it: its tally - how many bits it changed, how many ties it left - and the block
+--                               that it leaves
+--   BothSwept plan before here there after  a left sweep and the right one after it as the code makes them: their tallies, and the block that is left
+--   endedAt count before here past  where a sweep changed nothing: `count` where neither the sweep before nor this one left a tie, and else `past`
 --   noted sums i H changed      the sums with that of sweep i + 1 in them, where it is one of the H sweeps and one that is told
 --   patternPut bit d base p h block  the block with the h lowest digits of the pattern p put on the bits of a vertex: its d entries begin at
 --                               `base`, and digit j of p turns the bit at entry base + (d - 1 - j) where it is 1
@@ -16,15 +20,15 @@
 --   PlacesNoted plan places     the list holds, at each edge, the entry of the wiring where it stands
 use Prim.Native.Nat.{ℕ, zero, suc, _+_, _-_, _*_, _≤_, _<_, min}
 use mathlib.Core.List.{List, []}
-use mathlib.Core.Bool.{cond}
+use mathlib.Core.Bool.{Bool, cond}
 use mathlib.Core.Path.{_≡_}
-use lib.Dec.{ltb}
+use lib.Dec.{eqb, ltb}
 use lib.ListN.{length, set}
 use Rattle.bits.specs.Bit.{digit}
 use Rattle.bits.specs.Sum.{sum}
 use Rattle.bits.specs.Window.{at, turned}
 use Rattle.inner_code.specs.Reply.{done}
-use Rattle.inner_code.specs.Code.{nearestWord, bitsChanged}
+use Rattle.inner_code.specs.Code.{tied, nearestWord, bitsChanged}
 use Rattle.inner_code.specs.Finding.{Finds}
 use Rattle.inner_code.specs.Sheet.{degree}
 use Rattle.wiring.specs.Plan.{Plan, Side, edgeOf, edgeCount, left, right, sideOf}
@@ -32,6 +36,7 @@ use Rattle.wiring.specs.Wiring.{planCheck}
 use Rattle.wiring.specs.Block.{vertexWord}
 use Rattle.wiring.specs.Checking.{Fitted, Permuted}
 use Rattle.decoder.specs.Sweep.{sweep}
+use Rattle.decoder.specs.declared.sweep.Tally.{Tally}
 
 abbrev pub nearestOf : Side → ℕ → ℕ
 nearestOf side w = nearestWord (side .row) (side .k) (side .d) w
@@ -39,9 +44,19 @@ nearestOf side w = nearestWord (side .row) (side .k) (side .d) w
 abbrev pub changedAt : Side → ℕ → ℕ
 changedAt side w = bitsChanged (side .row) (side .k) (side .d) w
 
+abbrev pub tiedAt : Side → ℕ → Bool
+tiedAt side w = tied (side .row) (side .k) (side .d) w
+
 unfoldable pub changedBy : Side → ℕ → List ℕ → ℕ
 unfolding sum vertexWord
 changedBy side m block = sum m (λ v. changedAt side (vertexWord side block v))
+
+unfoldable pub tiesBy : Side → ℕ → List ℕ → ℕ
+unfolding sum vertexWord tied
+tiesBy side m block = sum m (λ v. cond (tiedAt side (vertexWord side block v)) 1 0)
+
+abbrev pub quiet : Tally
+quiet = record { changed = 0; ties = 0 }
 
 pub record SideReady (sheet : List ℕ) (n : ℕ) (wiring finder : List ℕ) : Type 0 where
   pub fits : Fitted (degree sheet) n wiring
@@ -54,14 +69,18 @@ pub record Ready (plan : Plan) (leftFinder rightFinder : List ℕ) : Type 0 wher
   pub right-finds : (length rightFinder ≡ 0 → ⊥) → Finds (plan .rightSheet) rightFinder
   pub shared : length rightFinder ≡ 0 → plan .leftSheet ≡ plan .rightSheet
 
-pub record SideSwept (side : Side) (before : List ℕ) (changed : ℕ) (after : List ℕ) : Type 0 where
-  pub counted : changed ≡ changedBy side (side .n) before
+pub record SideSwept (side : Side) (before : List ℕ) (tally : Tally) (after : List ℕ) : Type 0 where
+  pub counted : tally .changed ≡ changedBy side (side .n) before
+  pub waiting : tally .ties ≡ tiesBy side (side .n) before
   pub leaves : after ≡ sweep side before
 
-pub record BothSwept (plan : Plan) (before : List ℕ) (here there : ℕ) (after : List ℕ) : Type 0 where
+pub record BothSwept (plan : Plan) (before : List ℕ) (here there : Tally) (after : List ℕ) : Type 0 where
   pub between : List ℕ
   pub left-swept : SideSwept (sideOf plan left) before here between
   pub right-swept : SideSwept (sideOf plan right) between there after
+
+unfoldable pub endedAt : ℕ → ℕ → ℕ → ℕ → ℕ
+endedAt count before here past = cond (eqb before 0) (cond (eqb here 0) count past) past
 
 unfoldable pub noted : List ℕ → ℕ → ℕ → ℕ → List ℕ
 noted sums i H changed = cond (ltb i (min H 64)) (set sums i changed) sums

@@ -1,5 +1,6 @@
 // Sweeps in turn, up to the first count after which the block is a codeword.
-use crate::sweep::all_stay;
+use crate::sweep::Tally;
+use crate::sweep::all_codewords;
 use crate::sweep::sweep_first;
 use crate::sweep::sweep_left;
 use crate::sweep::sweep_right;
@@ -16,7 +17,7 @@ ghost use Rattle.wiring.specs.Plan.{planOf, edgeCount, sideOf};
 ghost use Rattle.wiring.specs.Block.{blockCheck};
 ghost use Rattle.decoder.specs.Decode.{sweptBlock, settlesAt, sweepSums};
 ghost use Rattle.wiring.specs.declared.side.SideName.{SideName};
-ghost use Rattle.decoder.specs.Visiting.{Ready, BothSwept, WordsRead, PlacesNoted, noted};
+ghost use Rattle.decoder.specs.Visiting.{Ready, BothSwept, WordsRead, PlacesNoted, endedAt, noted};
 
 // The sweeps whose sums are told.
 pub const SUMS: usize = 64;
@@ -27,10 +28,11 @@ pub(crate) struct Settling {
     pub sums: [u16; SUMS],
 }
 
-// Sweeps a block until it settles. No pass over both sides is made for the test: a sweep that changes no bit says that its side was satisfied,
-// and the side swept before it always is. Where two sweeps do not settle the block, the left words are tested before the places of the
-// edges are noted, which only a third sweep that changes something needs. Sweeps made beyond the count or the limit are such tests, and
-// their sums are not told.
+// Sweeps a block until it settles. The test before each sweep is of both sides, and takes no pass of its own: a sweep that changes no bit and
+// leaves no tie found its side satisfied, and the side swept before is satisfied where that sweep left no tie. From sweep 2 on, a sweep that
+// changes nothing is the last: the side swept before reads what it read, so no later sweep changes anything either, and the block settled
+// there or never does. Where two sweeps do not end it, the left words are tested before the places of the edges are noted, which only a
+// third sweep that changes something needs. Sweeps made beyond the count or the limit are such tests, and their sums are not told.
 pub(crate) fn settle(
     left: &[u8],
     right: &[u8],
@@ -63,24 +65,34 @@ pub(crate) fn settle(
     );
     let first = firsts.left;
     let second = firsts.right;
-    let mut sums = [0u16; SUMS];
-    note(&mut sums, 0, limit, first);
-    if second == 0 {
-        if first == 0 {
-            return Settling { count: 0, sums };
-        }
-        return Settling { count: 1, sums };
-    }
-    note(&mut sums, 1, limit, second);
     let past = limit + 1;
+    let mut sums = [0u16; SUMS];
+    note(&mut sums, 0, limit, first.changed);
+    if second.changed == 0 {
+        if first.changed == 0 {
+            return Settling {
+                count: ended_at(0, first.ties, second.ties, past),
+                sums,
+            };
+        }
+        return Settling {
+            count: ended_at(1, first.ties, second.ties, past),
+            sums,
+        };
+    }
+    note(&mut sums, 1, limit, second.changed);
     if limit < 2 {
         return Settling { count: past, sums };
     }
-    if all_stay(left, nl, wiring, left_finder, block) {
-        return Settling { count: 2, sums };
+    if all_codewords(left, nl, wiring, left_finder, block) {
+        return Settling {
+            count: ended_at(2, second.ties, 0, past),
+            sums,
+        };
     }
     let mut places = [0u16; MAX_EDGES];
     note_places(left, right, nl, nr, wiring, &mut places);
+    let mut ties = second.ties;
     let mut count = 2;
     while count <= limit {
         let more = sweep_both(
@@ -97,24 +109,44 @@ pub(crate) fn settle(
         );
         let here = more.left;
         let there = more.right;
-        if here == 0 {
-            return Settling { count, sums };
+        if here.changed == 0 {
+            return Settling {
+                count: ended_at(count, ties, here.ties, past),
+                sums,
+            };
         }
-        note(&mut sums, count, limit, here);
+        note(&mut sums, count, limit, here.changed);
         let next = count + 1;
-        if there == 0 {
-            return Settling { count: next, sums };
+        if there.changed == 0 {
+            return Settling {
+                count: ended_at(next, here.ties, there.ties, past),
+                sums,
+            };
         }
-        note(&mut sums, next, limit, there);
+        note(&mut sums, next, limit, there.changed);
+        ties = there.ties;
         count += 2;
     }
     Settling { count: past, sums }
 }
 
-// How many bits a left sweep and the right one after it changed.
-struct Changed {
-    left: usize,
-    right: usize,
+// Where a sweep changed nothing: the block settled at `count` where neither the sweep before nor this one left a tie, and else it never does.
+fn ended_at(count: usize, before: usize, here: usize, past: usize) -> usize
+    ensures { λ r. ⌜ r ≡ endedAt count before here past ⌝ }
+{
+    if before != 0 {
+        return past;
+    }
+    if here != 0 {
+        return past;
+    }
+    count
+}
+
+// What a left sweep and the right one after it tell.
+struct Tallies {
+    left: Tally,
+    right: Tally,
 }
 
 // The first two sweeps. The words of the right side are fetched between them.
@@ -128,7 +160,7 @@ fn sweep_firsts(
     right_finder: &mut [u16],
     words: &mut [u16; MAX_VERTICES],
     block: &mut [u8],
-) -> Changed
+) -> Tallies
     requires { ⌜ Ready (planOf (now left) (now right) nl nr (now wiring)) (now «left_finder») (now «right_finder») ⌝ }
     requires { ⌜ blockCheck (edgeCount (planOf (now left) (now right) nl nr (now wiring))) (now block) ≡ done [] ⌝ }
     requires { ⌜ length (now words) ≡ 2048 ⌝ }
@@ -149,7 +181,7 @@ fn sweep_firsts(
         words,
         block,
     );
-    Changed {
+    Tallies {
         left: first,
         right: second,
     }
@@ -167,7 +199,7 @@ fn sweep_both(
     places: &[u16],
     words: &mut [u16; MAX_VERTICES],
     block: &mut [u8],
-) -> Changed
+) -> Tallies
     requires { ⌜ Ready (planOf (now left) (now right) nl nr (now wiring)) (now «left_finder») (now «right_finder») ⌝ }
     requires { ⌜ PlacesNoted (planOf (now left) (now right) nl nr (now wiring)) (now places) ⌝ }
     requires { ⌜ WordsRead (sideOf (planOf (now left) (now right) nl nr (now wiring)) SideName.Right) (now block) (now words) ⌝ }
@@ -197,7 +229,7 @@ fn sweep_both(
         words,
         block,
     );
-    Changed {
+    Tallies {
         left: here,
         right: there,
     }

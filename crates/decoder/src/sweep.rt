@@ -1,13 +1,15 @@
 // One sweep: every vertex of a side is visited in turn. A visit fetches the vertex's word once and gives it to the finder as a number, which
-// has neither block nor wiring. The words of the right side are fetched all at once, after the first left sweep, and kept: from then on a
-// bit that changes is turned in the block and in the word of the right vertex that reads it.
+// has neither block nor wiring. A word that is no codeword takes its nearest word; in a tie that is itself. The words of the right side are
+// fetched all at once, after the first left sweep, and kept: from then on a bit that changes is turned in the block and in the word of the
+// right vertex that reads it.
 use crate::pattern::put_pattern;
 use crate::pattern::put_pattern_told;
 use crate::words::left_word;
 use inner_code::FINDER_WORDS;
 use wiring::MAX_VERTICES;
 use wiring::SideName;
-ghost use mathlib.Core.Bool.{true};
+ghost use mathlib.Core.Bool.{true, cond};
+ghost use lib.Dec.{eqb};
 ghost use mathlib.Core.List.{[]};
 ghost use mathlib.Core.Path.{_≡_};
 ghost use Rattle.inner_code.specs.Finding.{Finds};
@@ -16,40 +18,51 @@ ghost use Rattle.wiring.specs.Plan.{planOf, sideBy, sideOf};
 ghost use Rattle.wiring.specs.declared.side.SideName.{SideName};
 ghost use Rattle.wiring.specs.Wiring.{planCheck};
 ghost use Rattle.decoder.specs.Sweep.{other};
-ghost use Rattle.decoder.specs.Visiting.{Ready, SideReady, SideSwept, WordsRead, PlacesNoted};
+ghost use Rattle.decoder.specs.Visiting.{quiet, Ready, SideReady, SideSwept, WordsRead, PlacesNoted};
 
-// The first sweep of a left side, which has this sheet and n vertices: puts the nearest word at every vertex and answers how many bits that
-// changed, what the steps tell, added up. No word of a right vertex is kept yet.
+// What a sweep tells: how many bits it changed, and at how many vertices it left a tie. Every other vertex of its side now reads a codeword.
+pub(crate) struct Tally {
+    pub changed: usize,
+    pub ties: usize,
+}
+
+// The first sweep of a left side, which has this sheet and n vertices: puts the nearest word at every vertex and tells what the steps tell,
+// added up. No word of a right vertex is kept yet.
 pub(crate) fn sweep_first(
     sheet: &[u8],
     n: usize,
     wiring: &[u8],
     finder: &mut [u16],
     block: &mut [u8],
-) -> usize
+) -> Tally
     requires { ⌜ SideReady (now sheet) n (now wiring) (now finder) ⌝ }
     ensures { λ r. ⌜ SideSwept (sideBy (now (sheet .entry)) n (now (wiring .entry)) SideName.Left) (now (block .entry)) r (now (block .exit)) ⌝ }
     ensures { λ _. ⌜ Finds (now (sheet .entry)) (now (finder .exit)) ⌝ }
 {
     // a finder has this length: said once, so that the compiler drops the test of it at each visit
     if finder.len() != FINDER_WORDS {
-        return 0;
+        return Tally {
+            changed: 0,
+            ties: 0,
+        };
     }
     let d = sheet[0] as usize;
     let mut changed = 0;
+    let mut ties = 0;
     let mut v = 0;
     while v < n {
         let word = left_word(wiring, block, v, d);
-        if inner_code::is_own_nearest(finder, word) {
+        if inner_code::is_codeword(finder, word) {
             v += 1;
         } else {
             let step = inner_code::find_nearest(finder, word);
             put_pattern(SideName::Left, wiring, v * d, d, word ^ step.word, block);
             changed += step.changed as usize;
+            ties += tie(step.changed);
             v += 1;
         }
     }
-    changed
+    Tally { changed, ties }
 }
 
 // A sweep of a right side by the words that its vertices read: they are kept up with the block.
@@ -60,7 +73,7 @@ fn sweep_words(
     finder: &mut [u16],
     words: &mut [u16; MAX_VERTICES],
     block: &mut [u8],
-) -> usize
+) -> Tally
     requires { ⌜ SideReady (now sheet) n (now wiring) (now finder) ⌝ }
     requires { ⌜ WordsRead (sideBy (now sheet) n (now wiring) SideName.Right) (now block) (now words) ⌝ }
     ensures { λ r. ⌜ SideSwept (sideBy (now (sheet .entry)) n (now (wiring .entry)) SideName.Right) (now (block .entry)) r (now (block .exit)) ⌝ }
@@ -68,24 +81,29 @@ fn sweep_words(
     ensures { λ _. ⌜ WordsRead (sideBy (now (sheet .entry)) n (now (wiring .entry)) SideName.Right) (now (block .exit)) (now (words .exit)) ⌝ }
 {
     if finder.len() != FINDER_WORDS {
-        return 0;
+        return Tally {
+            changed: 0,
+            ties: 0,
+        };
     }
     let d = sheet[0] as usize;
     let mut changed = 0;
+    let mut ties = 0;
     let mut v = 0;
     while v < n {
         let word = words[v];
-        if inner_code::is_own_nearest(finder, word) {
+        if inner_code::is_codeword(finder, word) {
             v += 1;
         } else {
             let step = inner_code::find_nearest(finder, word);
             words[v] = step.word;
             put_pattern(SideName::Right, wiring, v * d, d, word ^ step.word, block);
             changed += step.changed as usize;
+            ties += tie(step.changed);
             v += 1;
         }
     }
-    changed
+    Tally { changed, ties }
 }
 
 // A sweep of the right side of a checked plan, with its finder; where there is none for the right side, both sides have the left sheet, and
@@ -100,7 +118,7 @@ pub(crate) fn sweep_right(
     right_finder: &mut [u16],
     words: &mut [u16; MAX_VERTICES],
     block: &mut [u8],
-) -> usize
+) -> Tally
     requires { ⌜ Ready (planOf (now left) (now right) nl nr (now wiring)) (now «left_finder») (now «right_finder») ⌝ }
     requires { ⌜ WordsRead (sideOf (planOf (now left) (now right) nl nr (now wiring)) SideName.Right) (now block) (now words) ⌝ }
     ensures { λ r. ⌜ SideSwept (sideOf (planOf (now (left .entry)) (now (right .entry)) nl nr (now (wiring .entry))) SideName.Right) (now (block .entry)) r (now (block .exit)) ⌝ }
@@ -124,7 +142,7 @@ pub(crate) fn sweep_left(
     places: &[u16],
     words: &mut [u16; MAX_VERTICES],
     block: &mut [u8],
-) -> usize
+) -> Tally
     requires { ⌜ planCheck (planOf (now left) (now right) nl nr (now wiring)) ≡ done [] ⌝ }
     requires { ⌜ Finds (now left) (now finder) ⌝ }
     requires { ⌜ PlacesNoted (planOf (now left) (now right) nl nr (now wiring)) (now places) ⌝ }
@@ -134,14 +152,18 @@ pub(crate) fn sweep_left(
     ensures { λ _. ⌜ WordsRead (sideOf (planOf (now (left .entry)) (now (right .entry)) nl nr (now (wiring .entry))) SideName.Right) (now (block .exit)) (now (words .exit)) ⌝ }
 {
     if finder.len() != FINDER_WORDS {
-        return 0;
+        return Tally {
+            changed: 0,
+            ties: 0,
+        };
     }
     let d = left[0] as usize;
     let mut changed = 0;
+    let mut ties = 0;
     let mut v = 0;
     while v < nl {
         let word = left_word(wiring, block, v, d);
-        if inner_code::is_own_nearest(finder, word) {
+        if inner_code::is_codeword(finder, word) {
             v += 1;
         } else {
             let step = inner_code::find_nearest(finder, word);
@@ -158,22 +180,39 @@ pub(crate) fn sweep_left(
                 block,
             );
             changed += step.changed as usize;
+            ties += tie(step.changed);
             v += 1;
         }
     }
-    changed
+    Tally { changed, ties }
 }
 
-// Whether every word of a left side is its own nearest one: a sweep of it would change nothing.
-pub(crate) fn all_stay(sheet: &[u8], n: usize, wiring: &[u8], finder: &[u16], block: &[u8]) -> bool
+// 1 for a step from a word that is no codeword, where it changes no bit: a tie.
+fn tie(changed: u32) -> usize
+    ensures { λ r. ⌜ r ≡ cond (eqb changed 0) 1 0 ⌝ }
+{
+    if changed == 0 {
+        return 1;
+    }
+    0
+}
+
+// Whether every word of a left side is a codeword: a sweep of it would change nothing and leave no tie.
+pub(crate) fn all_codewords(
+    sheet: &[u8],
+    n: usize,
+    wiring: &[u8],
+    finder: &[u16],
+    block: &[u8],
+) -> bool
     requires { ⌜ SideReady (now sheet) n (now wiring) (now finder) ⌝ }
-    ensures { λ r. ⌜ (r ≡ true → SideSwept (sideBy (now (sheet .entry)) n (now (wiring .entry)) SideName.Left) (now (block .entry)) 0 (now (block .entry))) ⌝ }
+    ensures { λ r. ⌜ (r ≡ true → SideSwept (sideBy (now (sheet .entry)) n (now (wiring .entry)) SideName.Left) (now (block .entry)) quiet (now (block .entry))) ⌝ }
 {
     let d = sheet[0] as usize;
     let mut v = 0;
     while v < n {
         let word = left_word(wiring, block, v, d);
-        if !inner_code::is_own_nearest(finder, word) {
+        if !inner_code::is_codeword(finder, word) {
             return false;
         }
         v += 1;

@@ -1,52 +1,53 @@
 -- The finder of nearest words: what its parts hold, how they come to stand there, and that the word found is the nearest word.
 --   Placed start part before after   `after` is `before` with `part` in it from `start` on
 --   Finds sheet finder               the finder finds the sheet's nearest words (specs Finding)
---   filledFinder, preparedFinder, leftIn, ownNearest, singleIn, searchedIn, soughtIn, foundWord, foundFinder
+--   filledFinder, preparedFinder, leftIn, codewordBy, singleBelow, singleIn, searchedIn, soughtIn, foundWord, foundFinder
 --                                    what the code answers and leaves (specs Finding)
---   Filled sheet k basis before after    what stands in the finder that is filled: the tables, the codewords, their number, d, and the leaders of
+--   Filled sheet k basis before after    what stands in the finder that is filled: the tables, the codewords, their number, d, and the slots of
 --                                    before
---   otherLeft finder left b          the test whether the rows leave something else of 2^b
---   Single finder left r             r is the smallest pattern of a single one of which the rows leave `left`
---   Sought finder left w             what is answered and left for w where no leader is at hand
+--   Hit finder left a                the rows leave this of 2^a
+--   None, One, Many, Singles         of the patterns of a single one below 2^b the rows leave this of none, of one, of more; one of these
+--   Sought finder left w             what is answered and left for w where no pattern is at hand
 --   ListedIn row n start size before after    the combinations of n rows stand in the part of `size` numbers from `start` on
---   OwnNearest finder w r            r tells whether w is its own nearest word
+--   Member finder w r                r tells whether w is a codeword
 --   Leads before w x after           x is the nearest word of w, and what finds before finds after
 --   Found before w r after           r is the step to the nearest word of w, and what finds before finds after
 -- Laws are named by their subject, then by the fact: `placed-` is about a part put into a list, `single-` about the patterns of a single one
--- (-met: one is found, -none: all are tried in vain, -few: none is tried), `search-` about the nearest of the listed codewords, `sought-`
--- about the word sought, `left-` about what the rows leave of a word, `leader-` about the leaders kept, `own-` and `found-` about what the
--- code answers by the case that it takes (-none: the list is no finder), and what it means (-means), and `listed-`, `filled-` and
--- `prepared-` lead to a Finds.
-use Prim.Native.Nat.{ℕ, _+_, _-_, _/_, _%_, _^_, _≤_, _<_, min}
-use mathlib.Core.Bool.{Bool, true, false, not, true≢false}
+-- (-few: none is tried), `search-` about the nearest of the listed codewords, `sought-` about the word sought, `left-` about what the rows
+-- leave of a word, `kept-` about the patterns kept, `member-` and `found-` about what the code answers by the case that it takes (-none: the
+-- list is no finder), and what it means (-means), and `listed-`, `filled-` and `prepared-` lead to a Finds.
+use Prim.Native.Nat.{ℕ, zero, suc, _+_, _-_, _*_, _/_, _%_, _^_, _≤_, _<_, min}
+use mathlib.Core.Bool.{Bool, true, false}
+use mathlib.Core.Logic.{_⊎_, inl, inr, ⊎-elim}
+use mathlib.Mathlib.Data.Bool.Basic.{eq-false-of-not-eq-true}
 use mathlib.Core.List.{List, [], _++_}
 use mathlib.Core.Path.{_≡_, refl, sym, ap, ap₂, _∙_, subst}
 use native.Mathlib.Nat.{le-dest, min-eq-left}
 use native.Mathlib.Decide.{ℕ-discrete, decLt}
+use native.Mathlib.Numerals.{add-one}
 use native.Mathlib.Omega.{arith}
-use borrow.Author.Tests.{eqb-true, eqb-false, eq-eqb, ne-eqb, le-leb, lt-leb, lt-ltb, le-ltb, not-false}
+use borrow.Author.Count.{below-more}
+use borrow.Author.Tests.{eq-eqb, ne-eqb, le-leb, lt-leb}
 use lib.Bits.{bitXor}
 use lib.Count.{ones}
 use lib.Dec.{eqb}
 use lib.ListN.{length, getD, set, take, drop, replicate, length-set, length-append, length-drop, length-replicate, getD-replicate, List·getD-append}
 use lib.Pow.{pow-mono, pow-pos, pow-lt, shr-lt}
 use lib.Seq.{getD-append-add, length-take-le, getD-take, getD-drop, getD-set-same, getD-set-other}
-use Rattle.bits.specs.Search.{firstFailing}
 use Rattle.bits.specs.Window.{at}
-use Rattle.bits.proofs.Searches.{first-passed, first-failed, first-at, first-all}
 use Rattle.bits.proofs.Xor.{xor-cancel}
 use Rattle.inner_code.specs.Reply.{done}
 use Rattle.inner_code.specs.Code.{combination, isCodeword, nearestPattern, nearestWord, bitsChanged}
 use Rattle.inner_code.specs.Reduction.{reduced, reducedBy, withEchelon, searched, stepTo, listed}
 use Rattle.inner_code.specs.declared.nearest.Step.{Step}
 use Rattle.inner_code.specs.Sheet.{degree, rowCount, rowOf, sheetCheck}
-use Rattle.inner_code.specs.Finding.{isFinder, listedIn, digitsIn, lowIn, highIn, leaderIn, wordIn, leftIn, Leader, Finds, powerLeft}
-use Rattle.inner_code.specs.Finding.{withPart, filledFinder, preparedFinder, ownNearest, slotOf, firstSingle, singleIn, searchedIn}
-use Rattle.inner_code.specs.Finding.{soughtIn, foundWord, foundFinder}
-use Rattle.inner_code.proofs.NearestWord.{searched-ext, nearest-codeword, nearest-fixed, nearest-searched, nearest-pattern-lt}
+use Rattle.inner_code.specs.Finding.{isFinder, listedIn, digitsIn, lowIn, highIn, nameIn, patternIn, wordIn, leftIn, Finds}
+use Rattle.inner_code.specs.Finding.{powerLeft, withPart, filledFinder, preparedFinder, codewordBy, slotOf, singleMore, singleBelow}
+use Rattle.inner_code.specs.Finding.{singleIn, searchedIn, soughtIn, foundWord, foundFinder}
+use Rattle.inner_code.proofs.NearestWord.{searched-ext, nearest-fixed, nearest-searched}
 use Rattle.inner_code.proofs.NearestWord.{step-word, step-changed, changed-ones}
 use Rattle.inner_code.proofs.EchelonForm.{codeword-reduced, reduced-codeword, reduced-powers, reduced-halves, reducedBy-stored}
-use Rattle.inner_code.proofs.Cosets.{coset-pattern, leader-own, leader-zero, leader-single}
+use Rattle.inner_code.proofs.Cosets.{coset-pattern, single-one, single-many}
 use Rattle.inner_code.proofs.Listings.{length-listed, listed-word, words-most}
 use Rattle.inner_code.proofs.SheetChecks.{Sound, sound}
 
@@ -97,61 +98,133 @@ placed-length start size part l room kept = placed-back start size part l room k
 
 -- ---- the patterns of a single one
 
--- whether the rows leave something else of 2^b
-abbrev otherLeft : List ℕ → ℕ → ℕ → Bool
-otherLeft finder left b = not (eqb (leftIn finder (2 ^ b)) left)
-
-other-true : (finder : List ℕ) (left b : ℕ) → (leftIn finder (2 ^ b) ≡ left → ⊥) → otherLeft finder left b ≡ true
-other-true finder left b other = ap not (ne-eqb (leftIn finder (2 ^ b)) left other)
-
-other-false : (finder : List ℕ) (left b : ℕ) → leftIn finder (2 ^ b) ≡ left → otherLeft finder left b ≡ false
-other-false finder left b same = ap not (eq-eqb (leftIn finder (2 ^ b)) left same)
-
 module _ (finder : List ℕ) (left : ℕ) where
   pub single-few : listedIn finder ≤ 64 → singleIn finder left ≡ 0
   unfolding singleIn
   single-few few = rw (le-leb _ _ few)
 
-  module _ (many : 64 < listedIn finder) where
-    -- the first that the rows leave the same of
-    pub single-met : (b : ℕ) → b < digitsIn finder → ((a : ℕ) → a < b → leftIn finder (2 ^ a) ≡ left → ⊥) → leftIn finder (2 ^ b) ≡ left
-        → singleIn finder left ≡ 2 ^ b
-    unfolding singleIn firstSingle
-    single-met b b-lt first same =
-        let met = first-at (digitsIn finder) (otherLeft finder left) b b-lt (λ a l. other-true finder left a (first a l))
-        (other-false finder left b same) in
-        rw (lt-leb _ _ many, met, lt-ltb _ _ b-lt)
+  pub single-all : 64 < listedIn finder → singleIn finder left ≡ singleBelow finder left (digitsIn finder)
+  unfolding singleIn
+  single-all many = rw (lt-leb _ _ many)
 
-    -- all tried, and none met
-    pub single-none : ((a : ℕ) → a < digitsIn finder → leftIn finder (2 ^ a) ≡ left → ⊥) → singleIn finder left ≡ 0
-    unfolding singleIn firstSingle
-    single-none none =
-        let last = first-all (digitsIn finder) (otherLeft finder left) (λ a l. other-true finder left a (none a l)) in
-        rw (lt-leb _ _ many, last, le-ltb (digitsIn finder) (digitsIn finder) (omega arith))
+  pub single-start : 0 ≡ singleBelow finder left 0
+  unfolding singleBelow
+  single-start = refl
 
--- r is the smallest pattern of a single one of which the rows leave this
-record Single (finder : List ℕ) (left r : ℕ) : Type 0 where
+  pub single-met : (b : ℕ) → leftIn finder (2 ^ b) ≡ left → singleMore (singleBelow finder left b) (2 ^ b) ≡ singleBelow finder left (b + 1)
+  unfolding singleBelow
+  single-met b same = rw (add-one, eq-eqb _ _ same)
+
+  pub single-missed : (b : ℕ) → (leftIn finder (2 ^ b) ≡ left → ⊥) → singleBelow finder left b ≡ singleBelow finder left (b + 1)
+  unfolding singleBelow
+  single-missed b other = rw (add-one, ne-eqb _ _ other)
+
+pub more-first : (found p : ℕ) → found ≡ 0 → singleMore found p ≡ p
+unfolding singleMore
+more-first found p e = rw (eq-eqb found 0 e)
+
+pub more-next : (found p : ℕ) → (found ≡ 0 → ⊥) → singleMore found p ≡ 65536
+unfolding singleMore
+more-next found p e = rw (ne-eqb found 0 e)
+
+abbrev Hit : List ℕ → ℕ → ℕ → Type 0
+Hit finder left a = leftIn finder (2 ^ a) ≡ left
+
+record None (finder : List ℕ) (left b r : ℕ) : Type 0 where
+  is : r ≡ 0
+  none : (a : ℕ) → a < b → Hit finder left a → ⊥
+
+record One (finder : List ℕ) (left b r : ℕ) : Type 0 where
   digit : ℕ
+  digit-lt : digit < b
   is : r ≡ 2 ^ digit
-  digit-lt : digit < digitsIn finder
-  same : leftIn finder (2 ^ digit) ≡ left
-  first : (a : ℕ) → a < digit → leftIn finder (2 ^ a) ≡ left → ⊥
+  hit : Hit finder left digit
+  only : (a : ℕ) → a < b → Hit finder left a → a ≡ digit
 
-single-is : (finder : List ℕ) (left : ℕ) → (singleIn finder left ≡ 0 → ⊥) → Single finder left (singleIn finder left)
-single-is finder left some =
-    elim (decLt 64 (listedIn finder)) [
-      | yes many ↦
-          let b = firstFailing (digitsIn finder) (otherLeft finder left) in
-          let first : (a : ℕ) → a < b → leftIn finder (2 ^ a) ≡ left → ⊥ =
-          λ a l e. true≢false (sym (first-passed (digitsIn finder) (otherLeft finder left) a l) ∙ other-false finder left a e) in
-          elim (decLt b (digitsIn finder)) [
-            | yes b-lt ↦
-                let same = eqb-true _ _ (not-false _ (first-failed (digitsIn finder) (otherLeft finder left) b-lt)) in
-                record { digit = b; is = single-met finder left many b b-lt first same; digit-lt = b-lt; same = same; first = first }
-            | no past ↦ absurd (some (single-none finder left many (λ a l. first a (omega arith))))
-          ]
-      | no few ↦ absurd (some (single-few finder left (omega arith)))
-    ]
+record Many (finder : List ℕ) (left b r : ℕ) : Type 0 where
+  digit : ℕ
+  other : ℕ
+  digit-lt : digit < b
+  other-lt : other < b
+  apart : digit ≡ other → ⊥
+  is : r ≡ 65536
+  hit : Hit finder left digit
+  other-hit : Hit finder left other
+
+abbrev Singles : List ℕ → ℕ → ℕ → ℕ → Type 0
+Singles finder left b r = None finder left b r ⊎ (One finder left b r ⊎ Many finder left b r)
+
+module _ (finder : List ℕ) (left : ℕ) where
+  -- one more digit that is not met
+  singles-missed : (b r s : ℕ) → r ≡ s → (Hit finder left b → ⊥) → Singles finder left b r → Singles finder left (b + 1) s
+  singles-missed b r s e miss =
+      ⊎-elim
+      (λ (n : None finder left b r). inl (record { is = sym e ∙ n .is; none = below-more _ b (n .none) miss }))
+      (⊎-elim
+      (λ (o : One finder left b r).
+      inr (inl (record {
+        digit = o .digit;
+        digit-lt = omega (arith, o .digit-lt);
+        is = sym e ∙ o .is;
+        hit = o .hit;
+        only = below-more _ b (o .only) (λ h. absurd (miss h));
+      })))
+      (λ (m : Many finder left b r).
+      inr (inr (record {
+        digit = m .digit;
+        other = m .other;
+        digit-lt = omega (arith, m .digit-lt);
+        other-lt = omega (arith, m .other-lt);
+        apart = m .apart;
+        is = sym e ∙ m .is;
+        hit = m .hit;
+        other-hit = m .other-hit;
+      }))))
+
+  -- one more digit that is
+  singles-met : (b r s : ℕ) → singleMore r (2 ^ b) ≡ s → Hit finder left b → Singles finder left b r → Singles finder left (b + 1) s
+  singles-met b r s e hit =
+      ⊎-elim
+      (λ (n : None finder left b r).
+      inr (inl (record {
+        digit = b;
+        digit-lt = omega arith;
+        is = sym e ∙ more-first r (2 ^ b) (n .is);
+        hit = hit;
+        only = below-more _ b (λ a l h. absurd (n .none a l h)) (λ h. refl);
+      })))
+      (⊎-elim
+      (λ (o : One finder left b r).
+      inr (inr (record {
+        digit = o .digit;
+        other = b;
+        digit-lt = omega (arith, o .digit-lt);
+        other-lt = omega arith;
+        apart = λ same. omega (arith, o .digit-lt, same);
+        is = sym e ∙ more-next r (2 ^ b) (λ z. omega (arith, z, o .is, pow-pos (o .digit)));
+        hit = o .hit;
+        other-hit = hit;
+      })))
+      (λ (m : Many finder left b r).
+      inr (inr (record {
+        digit = m .digit;
+        other = m .other;
+        digit-lt = omega (arith, m .digit-lt);
+        other-lt = omega (arith, m .other-lt);
+        apart = m .apart;
+        is = sym e ∙ more-next r (2 ^ b) (λ z. omega (arith, z, m .is));
+        hit = m .hit;
+        other-hit = m .other-hit;
+      }))))
+
+  singles : (b : ℕ) → Singles finder left b (singleBelow finder left b)
+  singles zero = inl (record { is = sym (single-start finder left); none = λ a l h. absurd (omega arith) })
+  singles (suc b) =
+      subst (λ (n : ℕ). Singles finder left n (singleBelow finder left n)) (add-one b)
+      (elim (ℕ-discrete (leftIn finder (2 ^ b)) left) [
+        | yes hit ↦ singles-met b _ _ (single-met finder left b hit) hit (singles b)
+        | no miss ↦ singles-missed b _ _ (single-missed finder left b miss) miss (singles b)
+      ])
 
 -- ---- the listed codewords as a part that is lent on
 
@@ -178,7 +251,8 @@ pub sought-searched : (finder : List ℕ) (left w : ℕ) → singleIn finder lef
 unfolding soughtIn
 sought-searched finder left w none = rw (eq-eqb _ _ none)
 
-pub sought-single : (finder : List ℕ) (left w : ℕ) → (singleIn finder left ≡ 0 → ⊥) → soughtIn finder left w ≡ bitXor w (singleIn finder left)
+pub sought-single : (finder : List ℕ) (left w : ℕ) → (singleIn finder left ≡ 0 → ⊥)
+    → soughtIn finder left w ≡ bitXor w (singleIn finder left % 65536)
 unfolding soughtIn
 sought-single finder left w some = rw (ne-eqb _ _ some)
 
@@ -192,40 +266,54 @@ module _ {sheet finder : List ℕ} (f : Finds sheet finder) where
   search-sized = omega (arith, f .listed, pow-mono {j = 11} (is-sound .count-high))
 
   module _ (w : ℕ) (w-lt : w < 2 ^ degree sheet) where
-    -- nothing is left of a codeword, which is its own nearest word
+    -- nothing is left exactly of a codeword
+    left-tells : eqb (leftIn finder w) 0 ≡ isCodeword (rowOf sheet) (rowCount sheet) w
+    left-tells =
+        elim (ℕ-discrete (leftIn finder w) 0) [
+          | yes none ↦ eq-eqb _ _ none ∙ sym (reduced-codeword (rowOf sheet) (rowCount sheet) w (sym (f .left w w-lt) ∙ none))
+          | no some ↦
+              ne-eqb _ _ some
+              ∙ sym (eq-false-of-not-eq-true (λ e. some (f .left w w-lt ∙ codeword-reduced (rowOf sheet) (rowCount sheet) w e)))
+        ]
+
     left-none : leftIn finder w ≡ 0 → nearestWord (rowOf sheet) (rowCount sheet) (degree sheet) w ≡ w
     left-none e =
         nearest-fixed (rowOf sheet) (rowCount sheet) (degree sheet) (is-sound .degree-high) (is-sound .rows-lt) w
         (reduced-codeword (rowOf sheet) (rowCount sheet) w (sym (f .left w w-lt) ∙ e))
 
-    left-some : (leftIn finder w ≡ 0 → ⊥) → nearestWord (rowOf sheet) (rowCount sheet) (degree sheet) w ≡ w → ⊥
-    left-some e same =
-        let codeword : isCodeword (rowOf sheet) (rowCount sheet) w ≡ true =
-        rw same at (nearest-codeword (rowOf sheet) (rowCount sheet) (degree sheet) (is-sound .degree-high) (is-sound .rows-lt) w w-lt) in
-        e (f .left w w-lt ∙ codeword-reduced (rowOf sheet) (rowCount sheet) w codeword)
-
-    -- the leader kept that the rows leave the same of leads to the nearest word
-    leader-met : (s : ℕ) → s < 2048 → leftIn finder (leaderIn finder s) ≡ leftIn finder w
-        → bitXor w (leaderIn finder s) ≡ nearestWord (rowOf sheet) (rowCount sheet) (degree sheet) w
+    -- the pattern kept for what the rows leave leads to the nearest word
+    kept-met : (s : ℕ) → s < 1024 → (leftIn finder w ≡ 0 → ⊥) → nameIn finder s ≡ leftIn finder w
+        → bitXor w (patternIn finder s) ≡ nearestWord (rowOf sheet) (rowCount sheet) (degree sheet) w
     unfolding nearestWord
-    leader-met s s-lt same =
-        let leader-lt = f .leaders s s-lt .below in
-        ap (bitXor w) (sym (f .leaders s s-lt .own)
-        ∙ coset-pattern (rowOf sheet) (rowCount sheet) (degree sheet) (is-sound .degree-high) (is-sound .rows-lt) (leaderIn finder s) w leader-lt w-lt
-        (sym (f .left (leaderIn finder s) leader-lt) ∙ same ∙ f .left w w-lt))
+    kept-met s s-lt some named = ap (bitXor w) (f .kept s w s-lt w-lt some named)
 
-    -- so does the smallest pattern of a single one
-    single-nearest : (r : ℕ) → (leftIn finder w ≡ 0 → ⊥) → Single finder (leftIn finder w) r
-        → bitXor w r ≡ nearestWord (rowOf sheet) (rowCount sheet) (degree sheet) w
-    unfolding nearestWord
-    single-nearest r some s =
-        let b-lt : s .digit < degree sheet = omega (arith, s .digit-lt, f .digits) in
-        let left-pow : (a : ℕ) → a < degree sheet → leftIn finder (2 ^ a) ≡ reduced (rowOf sheet) (rowCount sheet) (2 ^ a) =
-        λ a l. f .left (2 ^ a) (pow-lt l) in
-        ap (bitXor w) (s .is ∙ sym (leader-single (rowOf sheet) (rowCount sheet) (degree sheet) (is-sound .degree-high) (is-sound .rows-lt)
-        w (s .digit) w-lt b-lt (λ e. some (f .left w w-lt ∙ e))
-        (sym (left-pow (s .digit) b-lt) ∙ s .same ∙ f .left w w-lt)
-        (λ a l e. s .first a l (left-pow a (omega arith) ∙ e ∙ sym (f .left w w-lt)))))
+    -- so does the one pattern of a single one, and where there are more the word stays
+    single-nearest : (leftIn finder w ≡ 0 → ⊥) → (r : ℕ) → (r ≡ 0 → ⊥) → Singles finder (leftIn finder w) (degree sheet) r
+        → r % 65536 ≡ nearestPattern (rowOf sheet) (rowCount sheet) (degree sheet) w
+    single-nearest some r found =
+        ⊎-elim
+        (λ (n : None finder (leftIn finder w) (degree sheet) r). absurd (found (n .is)))
+        (⊎-elim
+        (λ (o : One finder (leftIn finder w) (degree sheet) r).
+        omega (arith, o .is, pow-lt (o .digit-lt), pow-mono (is-sound .degree-high))
+        ∙ o .is ∙ sym (single-one (rowOf sheet) (rowCount sheet) (degree sheet) (is-sound .degree-high) (is-sound .rows-lt) w w-lt left-there
+        (o .digit) (o .digit-lt) (same (o .digit) (o .digit-lt) (o .hit)) (λ a l e. o .only a l (back a l e))))
+        (λ (m : Many finder (leftIn finder w) (degree sheet) r).
+        ap (λ (x : ℕ). x % 65536) (m .is)
+        ∙ sym (single-many (rowOf sheet) (rowCount sheet) (degree sheet) (is-sound .degree-high) (is-sound .rows-lt) w w-lt left-there
+        (m .digit) (m .other) (m .digit-lt) (m .other-lt) (m .apart) (same (m .digit) (m .digit-lt) (m .hit))
+        (same (m .other) (m .other-lt) (m .other-hit)))))
+      where
+        left-there : reduced (rowOf sheet) (rowCount sheet) w ≡ 0 → ⊥
+        left-there e = some (f .left w w-lt ∙ e)
+
+        same : (a : ℕ) → a < degree sheet → Hit finder (leftIn finder w) a
+            → reduced (rowOf sheet) (rowCount sheet) (2 ^ a) ≡ reduced (rowOf sheet) (rowCount sheet) w
+        same a l hit = sym (f .left (2 ^ a) (pow-lt l)) ∙ hit ∙ f .left w w-lt
+
+        back : (a : ℕ) → a < degree sheet → reduced (rowOf sheet) (rowCount sheet) (2 ^ a) ≡ reduced (rowOf sheet) (rowCount sheet) w
+            → Hit finder (leftIn finder w) a
+        back a l e = f .left (2 ^ a) (pow-lt l) ∙ e ∙ sym (f .left w w-lt)
 
     search-nearest : searchedIn finder w ≡ nearestWord (rowOf sheet) (rowCount sheet) (degree sheet) w
     search-nearest =
@@ -235,51 +323,82 @@ module _ {sheet finder : List ℕ} (f : Finds sheet finder) where
 
     sought-nearest : (leftIn finder w ≡ 0 → ⊥)
         → soughtIn finder (leftIn finder w) w ≡ nearestWord (rowOf sheet) (rowCount sheet) (degree sheet) w
+    unfolding nearestWord
     sought-nearest some =
         elim (ℕ-discrete (singleIn finder (leftIn finder w)) 0) [
           | yes none ↦ sought-searched finder (leftIn finder w) w none ∙ search-nearest
           | no single ↦
-              sought-single finder (leftIn finder w) w single ∙ single-nearest _ some (single-is finder (leftIn finder w) single)
+              elim (decLt 64 (listedIn finder)) [
+                | yes many ↦
+                    sought-single finder (leftIn finder w) w single
+                    ∙ ap (bitXor w) (single-nearest some _ single (subst (Singles finder (leftIn finder w) (degree sheet))
+                    (ap (singleBelow finder (leftIn finder w)) (sym (f .digits)) ∙ sym (single-all finder (leftIn finder w) many))
+                    (singles finder (leftIn finder w) (degree sheet))))
+                | no few ↦ absurd (single (single-few finder (leftIn finder w) (omega arith)))
+              ]
         ]
 
-    -- one more leader
-    leader-more : (s nearest : ℕ) → s < 2048 → nearest ≡ nearestWord (rowOf sheet) (rowCount sheet) (degree sheet) w
-        → Finds sheet (set finder (544 + s) (bitXor w nearest))
+    -- one more pattern
+    kept-more : (s nearest : ℕ) → s < 1024 → nearest ≡ nearestWord (rowOf sheet) (rowCount sheet) (degree sheet) w
+        → Finds sheet (set (set finder (544 + 2 * s) (leftIn finder w)) (544 + 2 * s + 1) (bitXor w nearest))
     unfolding nearestWord leftIn wordIn
-    leader-more s nearest s-lt is =
+    kept-more s nearest s-lt is =
         record {
-          sized = length-set finder (544 + s) pattern ∙ f .sized;
+          sized = sized;
           accepted = f .accepted;
-          digits = ap (λ (n : ℕ). min n 16) (other 1 (λ h. omega arith)) ∙ f .digits;
-          left = λ v v-lt.
-              let v-lt-16 : v < 2 ^ 16 = omega (arith, v-lt, pow-mono (is-sound .degree-high)) in
-              ap₂ bitXor (other (32 + v % 256) (λ h. omega arith)) (other (288 + v / 256) (λ h. omega arith)) ∙ f .left v v-lt;
-          listed = other 0 (λ h. omega arith) ∙ f .listed;
-          words = λ m l. other (2592 + m) (λ h. omega arith) ∙ f .words m l;
-          leaders = leaders;
+          digits = ap (λ (n : ℕ). min n 16) (other 1 (λ h. omega arith) (λ h. omega arith)) ∙ f .digits;
+          left = λ v v-lt. left-same v v-lt ∙ f .left v v-lt;
+          listed = other 0 (λ h. omega arith) (λ h. omega arith) ∙ f .listed;
+          words = λ m l. other (2592 + m) (λ h. omega arith) (λ h. omega arith) ∙ f .words m l;
+          kept = kept;
         }
       where
+        row : ℕ → ℕ
+        row = rowOf sheet
+
         pattern : ℕ
         pattern = bitXor w nearest
 
-        other : (j : ℕ) → (j ≡ 544 + s → ⊥) → getD (set finder (544 + s) pattern) j 0 ≡ getD finder j 0
-        other j a = getD-set-other finder (544 + s) j pattern 0 a
+        named : List ℕ
+        named = set finder (544 + 2 * s) (leftIn finder w)
 
-        is-pattern : pattern ≡ nearestPattern (rowOf sheet) (rowCount sheet) (degree sheet) w
+        after : List ℕ
+        after = set named (544 + 2 * s + 1) pattern
+
+        sized : length after ≡ 4640
+        sized = length-set named (544 + 2 * s + 1) pattern ∙ length-set finder (544 + 2 * s) (leftIn finder w) ∙ f .sized
+
+        other : (j : ℕ) → (j ≡ 544 + 2 * s → ⊥) → (j ≡ 544 + 2 * s + 1 → ⊥) → getD after j 0 ≡ getD finder j 0
+        other j a b = getD-set-other named (544 + 2 * s + 1) j pattern 0 b ∙ getD-set-other finder (544 + 2 * s) j (leftIn finder w) 0 a
+
+        left-same : (v : ℕ) → v < 2 ^ degree sheet → leftIn after v ≡ leftIn finder v
+        left-same v v-lt =
+            let v-lt-16 : v < 2 ^ 16 = omega (arith, v-lt, pow-mono (is-sound .degree-high)) in
+            ap₂ bitXor (other (32 + v % 256) (λ h. omega arith) (λ h. omega arith)) (other (288 + v / 256) (λ h. omega arith) (λ h. omega arith))
+
+        is-pattern : pattern ≡ nearestPattern row (rowCount sheet) (degree sheet) w
         is-pattern = ap (bitXor w) is ∙ xor-cancel w _
 
-        leader : Leader sheet pattern
-        leader =
-            subst (Leader sheet) (sym is-pattern) (record {
-              below = nearest-pattern-lt (rowOf sheet) (rowCount sheet) (degree sheet) (is-sound .degree-high) (is-sound .rows-lt) w w-lt;
-              own = leader-own (rowOf sheet) (rowCount sheet) (degree sheet) (is-sound .degree-high) (is-sound .rows-lt) w w-lt;
-            })
+        name-here : nameIn after s ≡ leftIn finder w
+        name-here =
+            getD-set-other named (544 + 2 * s + 1) (544 + 2 * s) pattern 0 (λ h. omega arith)
+            ∙ getD-set-same finder (544 + 2 * s) (leftIn finder w) 0 (omega (arith, f .sized))
 
-        leaders : (t : ℕ) → t < 2048 → Leader sheet (leaderIn (set finder (544 + s) pattern) t)
-        leaders t t-lt =
+        pattern-here : patternIn after s ≡ pattern
+        pattern-here = getD-set-same named (544 + 2 * s + 1) pattern 0 (omega (arith, length-set finder (544 + 2 * s) (leftIn finder w), f .sized))
+
+        kept : (t v : ℕ) → t < 1024 → v < 2 ^ degree sheet → (leftIn after v ≡ 0 → ⊥) → nameIn after t ≡ leftIn after v
+            → patternIn after t ≡ nearestPattern row (rowCount sheet) (degree sheet) v
+        kept t v t-lt v-lt some name =
             elim (ℕ-discrete t s) [
-              | yes here ↦ rw here (subst (Leader sheet) (sym (getD-set-same finder (544 + s) pattern 0 (omega (arith, f .sized)))) leader)
-              | no apart ↦ subst (Leader sheet) (sym (other (544 + t) (λ h. apart (omega arith)))) (f .leaders t t-lt)
+              | yes here ↦
+                  rw here (pattern-here ∙ is-pattern
+                  ∙ coset-pattern row (rowCount sheet) (degree sheet) (is-sound .degree-high) (is-sound .rows-lt) w v w-lt v-lt
+                  (sym (f .left w w-lt) ∙ sym name-here ∙ ap (nameIn after) (sym here) ∙ name ∙ left-same v v-lt ∙ f .left v v-lt))
+              | no apart ↦
+                  other (544 + 2 * t + 1) (λ h. apart (omega arith)) (λ h. apart (omega arith))
+                  ∙ f .kept t v t-lt v-lt (λ e. some (left-same v v-lt ∙ e))
+                  (sym (other (544 + 2 * t) (λ h. apart (omega arith)) (λ h. apart (omega arith))) ∙ name ∙ left-same v v-lt)
             ]
 
 -- ---- what the code answers, by the case that it takes
@@ -288,28 +407,29 @@ module _ (finder : List ℕ) (w : ℕ) (other : length finder ≡ 4640 → ⊥) 
   no-finder : isFinder finder ≡ false
   no-finder = ne-eqb (length finder) 4640 other
 
-  pub own-none : true ≡ ownNearest finder w
-  unfolding ownNearest
-  own-none = rw no-finder
+  pub member-none : true ≡ codewordBy finder w
+  unfolding codewordBy
+  member-none = rw no-finder
 
   pub found-none : (w ≡ foundWord finder w) × (finder ≡ foundFinder finder w)
   unfolding foundWord foundFinder
   found-none = (rw no-finder, rw no-finder)
 
--- the case that no leader is at hand
+-- the case that no pattern is at hand
 pub record Sought (finder : List ℕ) (left w : ℕ) : Type 0 where
   pub word : soughtIn finder left w ≡ foundWord finder w
   pub high : 2 ^ digitsIn finder ≤ w → finder ≡ foundFinder finder w
-  pub kept : w < 2 ^ digitsIn finder → set finder (544 + slotOf left) (bitXor w (soughtIn finder left w)) ≡ foundFinder finder w
+  pub kept : w < 2 ^ digitsIn finder
+      → set (set finder (544 + 2 * slotOf left) left) (544 + 2 * slotOf left + 1) (bitXor w (soughtIn finder left w)) ≡ foundFinder finder w
 
 module _ (finder : List ℕ) (w : ℕ) (size : length finder ≡ 4640) where
   is-finder : isFinder finder ≡ true
   is-finder = eq-eqb (length finder) 4640 size
 
   module _ (left : ℕ) (is : left ≡ leftIn finder w) where
-    pub own-left : eqb left 0 ≡ ownNearest finder w
-    unfolding ownNearest
-    own-left = rw (is-finder, is)
+    pub member-left : eqb left 0 ≡ codewordBy finder w
+    unfolding codewordBy
+    member-left = rw (is-finder, is)
 
     pub found-codeword : left ≡ 0 → (w ≡ foundWord finder w) × (finder ≡ foundFinder finder w)
     unfolding foundWord foundFinder
@@ -321,18 +441,18 @@ module _ (finder : List ℕ) (w : ℕ) (size : length finder ≡ 4640) where
       left-there : eqb (leftIn finder w) 0 ≡ false
       left-there = ne-eqb (leftIn finder w) 0 (λ e. some (is ∙ e))
 
-      pub found-leader : leftIn finder (leaderIn finder (slotOf left)) ≡ left
-          → (bitXor w (leaderIn finder (slotOf left)) ≡ foundWord finder w) × (finder ≡ foundFinder finder w)
+      pub found-kept : nameIn finder (slotOf left) ≡ left
+          → (bitXor w (patternIn finder (slotOf left)) ≡ foundWord finder w) × (finder ≡ foundFinder finder w)
       unfolding foundWord foundFinder
-      found-leader met =
-          let kept : eqb (leftIn finder (leaderIn finder (slotOf (leftIn finder w)))) (leftIn finder w) ≡ true = eq-eqb _ _ (rw is at met) in
+      found-kept met =
+          let kept : eqb (nameIn finder (slotOf (leftIn finder w))) (leftIn finder w) ≡ true = eq-eqb _ _ (rw is at met) in
           (rw (is-finder, left-there, kept, is), rw (is-finder, left-there, kept))
 
-      pub found-sought : (leftIn finder (leaderIn finder (slotOf left)) ≡ left → ⊥) → Sought finder left w
+      pub found-sought : (nameIn finder (slotOf left) ≡ left → ⊥) → Sought finder left w
       unfolding foundWord foundFinder
       found-sought missed =
-          let other : eqb (leftIn finder (leaderIn finder (slotOf (leftIn finder w)))) (leftIn finder w) ≡ false =
-          ne-eqb (leftIn finder (leaderIn finder (slotOf (leftIn finder w)))) (leftIn finder w) (λ e. missed (rw (sym is) at e)) in
+          let other : eqb (nameIn finder (slotOf (leftIn finder w))) (leftIn finder w) ≡ false =
+          ne-eqb (nameIn finder (slotOf (leftIn finder w))) (leftIn finder w) (λ e. missed (rw (sym is) at e)) in
           record {
             word = rw (is-finder, left-there, other, is);
             high = λ high. rw (is-finder, left-there, other, le-leb _ _ high);
@@ -341,12 +461,9 @@ module _ (finder : List ℕ) (w : ℕ) (size : length finder ≡ 4640) where
 
 -- ---- what these answers mean, where the finder finds a sheet's nearest words
 
--- r tells whether w is its own nearest word
-pub record OwnNearest (finder : List ℕ) (w : ℕ) (r : Bool) : Type 0 where
-  pub stays : r ≡ true → (sheet : List ℕ) → Finds sheet finder → w < 2 ^ degree sheet
-      → nearestWord (rowOf sheet) (rowCount sheet) (degree sheet) w ≡ w
-  pub changes : r ≡ false → (sheet : List ℕ) → Finds sheet finder → w < 2 ^ degree sheet
-      → nearestWord (rowOf sheet) (rowCount sheet) (degree sheet) w ≡ w → ⊥
+-- r tells whether w is a codeword
+pub record Member (finder : List ℕ) (w : ℕ) (r : Bool) : Type 0 where
+  pub tells : (sheet : List ℕ) → Finds sheet finder → w < 2 ^ degree sheet → r ≡ isCodeword (rowOf sheet) (rowCount sheet) w
 
 record Leads (before : List ℕ) (w x : ℕ) (after : List ℕ) : Type 0 where
   nearest : (sheet : List ℕ) → Finds sheet before → w < 2 ^ degree sheet
@@ -361,15 +478,11 @@ pub record Found (before : List ℕ) (w : ℕ) (r : Step) (after : List ℕ) : T
       → r .changed ≡ bitsChanged (rowOf sheet) (rowCount sheet) (degree sheet) w
   pub finds : (sheet : List ℕ) → Finds sheet before → Finds sheet after
 
-pub own-means : (finder : List ℕ) (w : ℕ) {r : Bool} → r ≡ ownNearest finder w → OwnNearest finder w r
-own-means finder w {r} e =
-    let same : length finder ≡ 4640 → r ≡ eqb (leftIn finder w) 0 = λ size. e ∙ sym (own-left finder w size (leftIn finder w) refl) in
-    record {
-      stays = λ t sheet f w-lt. left-none f w w-lt (eqb-true (leftIn finder w) 0 (sym (same (f .sized)) ∙ t));
-      changes = λ t sheet f w-lt. left-some f w w-lt (eqb-false (leftIn finder w) 0 (sym (same (f .sized)) ∙ t));
-    }
+pub member-means : (finder : List ℕ) (w : ℕ) {r : Bool} → r ≡ codewordBy finder w → Member finder w r
+member-means finder w e =
+    record { tells = λ sheet f w-lt. e ∙ sym (member-left finder w (f .sized) (leftIn finder w) refl) ∙ left-tells f w w-lt }
 
-slot-lt : (left : ℕ) → slotOf left < 2048
+slot-lt : (left : ℕ) → slotOf left < 1024
 unfolding slotOf
 slot-lt left = omega arith
 
@@ -397,7 +510,7 @@ found-leads finder w =
                 nearest = λ sheet f w-lt. sought-nearest f w w-lt some;
                 finds = λ sheet f.
                     let w-lt = subst (λ (d : ℕ). w < 2 ^ d) (f .digits) low in
-                    leader-more f w w-lt (slotOf left) _ (slot-lt left) (sought-nearest f w w-lt some);
+                    kept-more f w w-lt (slotOf left) _ (slot-lt left) (sought-nearest f w w-lt some);
               })
           | no high ↦
               same (found .word, found .high (omega arith))
@@ -411,10 +524,10 @@ found-leads finder w =
               same (found-codeword finder w size left refl none)
               (record { nearest = λ sheet f w-lt. sym (left-none f w w-lt none); finds = λ sheet f. f })
           | no some ↦
-              elim (ℕ-discrete (leftIn finder (leaderIn finder (slotOf left))) left) [
+              elim (ℕ-discrete (nameIn finder (slotOf left)) left) [
                 | yes met ↦
-                    same (found-leader finder w size left refl some met)
-                    (record { nearest = λ sheet f w-lt. leader-met f w w-lt (slotOf left) (slot-lt left) met; finds = λ sheet f. f })
+                    same (found-kept finder w size left refl some met)
+                    (record { nearest = λ sheet f w-lt. kept-met f w w-lt (slotOf left) (slot-lt left) some met; finds = λ sheet f. f })
                 | no missed ↦ sought some (found-sought finder w size left refl some missed)
               ]
         ]
@@ -440,7 +553,7 @@ record Filled (sheet : List ℕ) (k : ℕ) (basis before after : List ℕ) : Typ
   low : (m : ℕ) → m < 2 ^ 8 → lowIn after m ≡ combination (powerLeft basis k 0) 8 m
   high : (m : ℕ) → m < 2 ^ (min (degree sheet) 16 - 8) → highIn after m ≡ combination (powerLeft basis k 8) (min (degree sheet) 16 - 8) m
   words : (m : ℕ) → m < 2 ^ min k 11 → wordIn after m ≡ combination (rowOf sheet) (min k 11) m
-  leaders : (s : ℕ) → s < 2048 → leaderIn after s ≡ leaderIn before s
+  slots : (i : ℕ) → i < 2048 → getD after (544 + i) 0 ≡ getD before (544 + i) 0
 
 -- combinations of n rows, listed in a part of a list
 record ListedIn (row : ℕ → ℕ) (n start size : ℕ) (before after : List ℕ) : Type 0 where
@@ -475,7 +588,7 @@ filled sheet k basis finder size =
       low = λ m h. ahead (32 + m) (omega arith) (omega arith) ∙ in-high .ahead (32 + m) (omega arith) ∙ in-low .entry m h;
       high = λ m h. ahead (288 + m) (omega arith) (omega (arith, few)) ∙ in-high .entry m h;
       words = λ m h. beside (2592 + m) (omega arith) ∙ in-words .entry m h;
-      leaders = λ t h.
+      slots = λ t h.
           ahead (544 + t) (omega arith) (omega arith) ∙ in-high .behind (544 + t) (omega arith) ∙ in-low .behind (544 + t) (omega arith);
     }
   where
@@ -538,10 +651,7 @@ filled-finds sheet k {basis} {before} {after} p zeros accepted k-is stored =
       left = left;
       listed = p .listed ∙ ap (λ (m : ℕ). 2 ^ m) rows-all;
       words = λ m h. p .words m (rw rows-all h) ∙ ap (λ (i : ℕ). combination (rowOf sheet) i m) rows-all;
-      leaders = λ t t-lt. subst (Leader sheet) (sym (none-kept t t-lt)) (record {
-        below = pow-pos (degree sheet);
-        own = leader-zero (rowOf sheet) (rowCount sheet) (degree sheet) (s .degree-high) (s .rows-lt);
-      });
+      kept = λ t v t-lt v-lt some name. absurd (some (sym name ∙ none-kept t t-lt));
     }
   where
     s : Sound sheet
@@ -553,8 +663,11 @@ filled-finds sheet k {basis} {before} {after} p zeros accepted k-is stored =
     digits-all : min (degree sheet) 16 ≡ degree sheet
     digits-all = min-eq-left (s .degree-high)
 
-    none-kept : (t : ℕ) → t < 2048 → leaderIn after t ≡ 0
-    none-kept t h = p .leaders t h ∙ ap (λ (l : List ℕ). getD l (544 + t) 0) zeros ∙ getD-replicate {A = ℕ} 4640 (544 + t) 0 0 (omega arith)
+    -- every slot is empty
+    none-kept : (t : ℕ) → t < 1024 → nameIn after t ≡ 0
+    none-kept t h =
+        p .slots (2 * t) (omega arith) ∙ ap (λ (l : List ℕ). getD l (544 + 2 * t) 0) zeros
+        ∙ getD-replicate {A = ℕ} 4640 (544 + 2 * t) 0 0 (omega arith)
 
     power : (from b : ℕ) → powerLeft basis k from b ≡ reduced (rowOf sheet) (rowCount sheet) (2 ^ (from + b))
     power from b =

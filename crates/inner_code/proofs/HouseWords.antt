@@ -14,7 +14,7 @@ use lib.Count.{ones, onesIn}
 use Rattle.bits.specs.Bit.{digit, pairAt}
 use Rattle.bits.specs.Search.{least, someBelow}
 use Rattle.inner_code.specs.Code.{combination, isCodeword, distance, key, noKey, nearestWord}
-use Rattle.inner_code.specs.Reduction.{leastKey, searched, onesUnlessZero, fewestOnes}
+use Rattle.inner_code.specs.Reduction.{leastKey, backKey, leastBack, sole, searched, onesUnlessZero, fewestOnes}
 use Rattle.inner_code.specs.Sheet.{degree, rowCount, rowOf, rowCheck, rowsCheck, sheetCheck}
 use Rattle.inner_code.specs.Reply.{done, refuseIf, andThen}
 use Rattle.inner_code.specs.House.{houseSheet}
@@ -23,25 +23,26 @@ use Rattle.inner_code.proofs.NearestWord.{nearest-searched}
 
 unfoldable pub houseWords : List ℕ
 houseWords =
-    0 ∷ 0 ∷ 0 ∷ 0 ∷ 0 ∷ 0 ∷ 0 ∷ 15 ∷ 0 ∷ 15 ∷ 15 ∷ 15 ∷ 15 ∷ 15 ∷ 15 ∷ 15 ∷ 0 ∷ 0 ∷ 0 ∷ 51 ∷ 0 ∷ 85 ∷ 150 ∷ 15 ∷ 0 ∷ 153 ∷
-    90 ∷ 15 ∷ 60 ∷ 15 ∷ 15 ∷ 15 ∷ 0 ∷ 51 ∷ 51 ∷ 51 ∷ 60 ∷ 165 ∷ 102 ∷ 51 ∷ 60 ∷ 105 ∷ 170 ∷ 51 ∷ 60 ∷ 60 ∷ 60 ∷ 15 ∷ 51 ∷ 51
-    ∷ 51 ∷ 51 ∷ 60 ∷ 51 ∷ 51 ∷ 51 ∷ 60 ∷ 60 ∷ 60 ∷ 51 ∷ 60 ∷ 60 ∷ 60 ∷ 60 ∷ 0 ∷ 85 ∷ 90 ∷ 195 ∷ 85 ∷ 85 ∷ 102 ∷ 85 ∷ 90 ∷
-    105 ∷ 90 ∷ 90 ∷ 204 ∷ 85 ∷ 90 ∷ 15 ∷ 85 ∷ 85 ∷ 90 ∷ 85 ∷ 85 ∷ 85 ∷ 85 ∷ 85 ∷ 90 ∷ 90 ∷ 90 ∷ 90 ∷ 90 ∷ 85 ∷ 90 ∷ 90 ∷ 102
-    ∷ 105 ∷ 102 ∷ 102 ∷ 102 ∷ 102 ∷ 102 ∷ 102 ∷ 105 ∷ 105 ∷ 105 ∷ 105 ∷ 105 ∷ 105 ∷ 102 ∷ 105 ∷ 240 ∷ 105 ∷ 102 ∷ 51 ∷ 102 ∷
-    85 ∷ 102 ∷ 102 ∷ 105 ∷ 105 ∷ 90 ∷ 105 ∷ 60 ∷ 105 ∷ 102 ∷ 255 ∷ 0 ∷ 153 ∷ 150 ∷ 195 ∷ 150 ∷ 165 ∷ 150 ∷ 150 ∷ 153 ∷ 153 ∷
-    170 ∷ 153 ∷ 204 ∷ 153 ∷ 150 ∷ 15 ∷ 150 ∷ 153 ∷ 150 ∷ 150 ∷ 150 ∷ 150 ∷ 150 ∷ 150 ∷ 153 ∷ 153 ∷ 153 ∷ 153 ∷ 153 ∷ 153 ∷
-    150 ∷ 153 ∷ 165 ∷ 165 ∷ 170 ∷ 165 ∷ 165 ∷ 165 ∷ 165 ∷ 165 ∷ 170 ∷ 170 ∷ 170 ∷ 170 ∷ 170 ∷ 165 ∷ 170 ∷ 170 ∷ 240 ∷ 165 ∷
-    170 ∷ 51 ∷ 165 ∷ 165 ∷ 150 ∷ 165 ∷ 170 ∷ 153 ∷ 170 ∷ 170 ∷ 60 ∷ 165 ∷ 170 ∷ 255 ∷ 195 ∷ 195 ∷ 195 ∷ 195 ∷ 204 ∷ 195 ∷
-    195 ∷ 195 ∷ 204 ∷ 204 ∷ 204 ∷ 195 ∷ 204 ∷ 204 ∷ 204 ∷ 204 ∷ 240 ∷ 195 ∷ 195 ∷ 195 ∷ 204 ∷ 85 ∷ 150 ∷ 195 ∷ 204 ∷ 153 ∷
-    90 ∷ 195 ∷ 204 ∷ 204 ∷ 204 ∷ 255 ∷ 240 ∷ 240 ∷ 240 ∷ 195 ∷ 240 ∷ 165 ∷ 102 ∷ 255 ∷ 240 ∷ 105 ∷ 170 ∷ 255 ∷ 204 ∷ 255 ∷
-    255 ∷ 255 ∷ 240 ∷ 240 ∷ 240 ∷ 240 ∷ 240 ∷ 240 ∷ 240 ∷ 255 ∷ 240 ∷ 255 ∷ 255 ∷ 255 ∷ 255 ∷ 255 ∷ 255 ∷ 255 ∷ []
+    0 ∷ 0 ∷ 0 ∷ 3 ∷ 0 ∷ 5 ∷ 6 ∷ 15 ∷ 0 ∷ 9 ∷ 10 ∷ 15 ∷ 12 ∷ 15 ∷ 15 ∷ 15 ∷ 0 ∷ 17 ∷ 18 ∷ 51 ∷ 20 ∷ 85 ∷ 150 ∷ 23 ∷ 24 ∷
+    153 ∷ 90 ∷ 27 ∷ 60 ∷ 29 ∷ 30 ∷ 15 ∷ 0 ∷ 33 ∷ 34 ∷ 51 ∷ 36 ∷ 165 ∷ 102 ∷ 39 ∷ 40 ∷ 105 ∷ 170 ∷ 43 ∷ 60 ∷ 45 ∷ 46 ∷
+    15 ∷ 48 ∷ 51 ∷ 51 ∷ 51 ∷ 60 ∷ 53 ∷ 54 ∷ 51 ∷ 60 ∷ 57 ∷ 58 ∷ 51 ∷ 60 ∷ 60 ∷ 60 ∷ 63 ∷ 0 ∷ 65 ∷ 66 ∷ 195 ∷ 68 ∷ 85 ∷
+    102 ∷ 71 ∷ 72 ∷ 105 ∷ 90 ∷ 75 ∷ 204 ∷ 77 ∷ 78 ∷ 15 ∷ 80 ∷ 85 ∷ 90 ∷ 83 ∷ 85 ∷ 85 ∷ 86 ∷ 85 ∷ 90 ∷ 89 ∷ 90 ∷ 90 ∷
+    92 ∷ 85 ∷ 90 ∷ 95 ∷ 96 ∷ 105 ∷ 102 ∷ 99 ∷ 102 ∷ 101 ∷ 102 ∷ 102 ∷ 105 ∷ 105 ∷ 106 ∷ 105 ∷ 108 ∷ 105 ∷ 102 ∷ 111 ∷
+    240 ∷ 113 ∷ 114 ∷ 51 ∷ 116 ∷ 85 ∷ 102 ∷ 119 ∷ 120 ∷ 105 ∷ 90 ∷ 123 ∷ 60 ∷ 125 ∷ 126 ∷ 255 ∷ 0 ∷ 129 ∷ 130 ∷ 195 ∷
+    132 ∷ 165 ∷ 150 ∷ 135 ∷ 136 ∷ 153 ∷ 170 ∷ 139 ∷ 204 ∷ 141 ∷ 142 ∷ 15 ∷ 144 ∷ 153 ∷ 150 ∷ 147 ∷ 150 ∷ 149 ∷ 150 ∷
+    150 ∷ 153 ∷ 153 ∷ 154 ∷ 153 ∷ 156 ∷ 153 ∷ 150 ∷ 159 ∷ 160 ∷ 165 ∷ 170 ∷ 163 ∷ 165 ∷ 165 ∷ 166 ∷ 165 ∷ 170 ∷ 169 ∷
+    170 ∷ 170 ∷ 172 ∷ 165 ∷ 170 ∷ 175 ∷ 240 ∷ 177 ∷ 178 ∷ 51 ∷ 180 ∷ 165 ∷ 150 ∷ 183 ∷ 184 ∷ 153 ∷ 170 ∷ 187 ∷ 60 ∷
+    189 ∷ 190 ∷ 255 ∷ 192 ∷ 195 ∷ 195 ∷ 195 ∷ 204 ∷ 197 ∷ 198 ∷ 195 ∷ 204 ∷ 201 ∷ 202 ∷ 195 ∷ 204 ∷ 204 ∷ 204 ∷ 207 ∷
+    240 ∷ 209 ∷ 210 ∷ 195 ∷ 212 ∷ 85 ∷ 150 ∷ 215 ∷ 216 ∷ 153 ∷ 90 ∷ 219 ∷ 204 ∷ 221 ∷ 222 ∷ 255 ∷ 240 ∷ 225 ∷ 226 ∷
+    195 ∷ 228 ∷ 165 ∷ 102 ∷ 231 ∷ 232 ∷ 105 ∷ 170 ∷ 235 ∷ 204 ∷ 237 ∷ 238 ∷ 255 ∷ 240 ∷ 240 ∷ 240 ∷ 243 ∷ 240 ∷ 245 ∷
+    246 ∷ 255 ∷ 240 ∷ 249 ∷ 250 ∷ 255 ∷ 252 ∷ 255 ∷ 255 ∷ 255 ∷ []
 
 -- an entry that is not what the search over the sixteen codewords finds
 wrongAt : ℕ → Bool
 wrongAt w = not (eqb (getD houseWords w 0) (searched (combination (rowOf houseSheet) 4) 16 w))
 
 none-wrong : someBelow 256 wrongAt ≡ false
-unfolding someBelow wrongAt houseWords searched leastKey least key noKey ones onesIn combination digit rowOf pairAt houseSheet
+unfolding someBelow wrongAt houseWords searched sole leastKey leastBack least key backKey noKey ones onesIn combination digit rowOf pairAt houseSheet
 none-wrong = refl
 
 pub house-row-lt : (i : ℕ) → i < 4 → (rowOf houseSheet) i < 2 ^ 8

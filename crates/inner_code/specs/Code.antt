@@ -4,11 +4,13 @@
 --   distance row k        the paper's D: the fewest ones in a nonzero codeword; 17, more than a word has, where there is none
 --   key p                 one number that orders error patterns by their ones, and those of equal ones by value
 --   noKey                 more than the key of any pattern of 16 bits
---   nearestPattern row k d w  of all patterns below 2^d that turn w into a codeword, the one of the least key
---   nearestWord row k d w the paper's nearest word: that pattern put on w
+--   leastPattern row k d w  of all patterns below 2^d that turn w into a codeword, the one of the least key: it has the fewest ones
+--   tied row k d w        another pattern below 2^d turns w into a codeword with as few ones
+--   nearestPattern row k d w  the one pattern with the fewest ones; 0 where more than one has them
+--   nearestWord row k d w the paper's nearest word: that pattern put on w, so that a tie keeps its bits
 --   bitsChanged row k d w how many bits that changes: the ones of the pattern
 use Prim.Native.Nat.{ℕ, zero, suc, _+_, _*_, _%_, _^_}
-use mathlib.Core.Bool.{Bool, cond}
+use mathlib.Core.Bool.{Bool, not, cond, _&&_}
 use lib.Dec.{eqb}
 use lib.Bits.{bitXor}
 use lib.Count.{ones}
@@ -34,9 +36,19 @@ key p = ones p * 65536 + p
 unfoldable pub noKey : ℕ
 noKey = 17 * 65536
 
-unfoldable pub nearestPattern : (ℕ → ℕ) → ℕ → ℕ → ℕ → ℕ
+unfoldable pub leastPattern : (ℕ → ℕ) → ℕ → ℕ → ℕ → ℕ
 unfolding least isCodeword key noKey
-nearestPattern row k d w = least noKey (λ p. cond (isCodeword row k (bitXor w p)) (key p) noKey) (2 ^ d) % 65536
+leastPattern row k d w = least noKey (λ p. cond (isCodeword row k (bitXor w p)) (key p) noKey) (2 ^ d) % 65536
+
+unfoldable pub tied : (ℕ → ℕ) → ℕ → ℕ → ℕ → Bool
+unfolding someBelow isCodeword leastPattern
+tied row k d w =
+    let first : ℕ = leastPattern row k d w in
+    someBelow (2 ^ d) (λ p. not (eqb p first) && (eqb (ones p) (ones first) && isCodeword row k (bitXor w p)))
+
+unfoldable pub nearestPattern : (ℕ → ℕ) → ℕ → ℕ → ℕ → ℕ
+unfolding tied leastPattern
+nearestPattern row k d w = cond (tied row k d w) 0 (leastPattern row k d w)
 
 unfoldable pub nearestWord : (ℕ → ℕ) → ℕ → ℕ → ℕ → ℕ
 unfolding nearestPattern

@@ -5,33 +5,35 @@
 --   digitsIn finder      d, the number of digits of a word: 16 at most, whatever is told
 --   lowIn finder m       what the rows leave of m, for m below 256
 --   highIn finder m      what the rows leave of 256 times m, for m below 256
---   leaderIn finder s    the leader kept in slot s
+--   nameIn finder s      the coset whose pattern slot s holds, named by what the rows leave of its words; 0, which names the codewords, in a slot
+--                        that holds none
+--   patternIn finder s   the nearest pattern of that coset's words
 --   wordIn finder m      codeword m
 -- What holds of a finder and of the functions over it:
---   Leader sheet p       p is the nearest pattern of the words of its coset: it is below 2^d, and its own nearest pattern
 --   Finds sheet finder   the sheet is accepted, and all that the finder holds is the sheet's
--- What the functions over a finder answer and leave, whatever stands in it; with a list that is no finder every word stays, and the list too:
+-- What the functions over a finder answer and leave, whatever stands in it; with a list that is no finder every word is taken for a codeword
+-- and stays, and the list too:
 --   powerLeft basis k from b    what the first k rows of the basis, 11 at most, leave of 2^(from + b)
 --   withPart start size f l     the list l with its `size` numbers from the place `start` on sent through f
 --   filledFinder sheet k basis finder    the finder with both tables, the codewords, their number and d put in; all else stays
 --   preparedFinder sheet k basis finder    that where it is a finder, and else the list as it is
 --   leftIn finder w      what the rows leave of w, by the tables: the exclusive-or of what they leave of its low and its high half
---   ownNearest finder w  the test whether w is its own nearest word: the rows leave nothing
---   slotOf left          the slot for the leader of the words of which the rows leave this
---   firstSingle finder left    the first b below d such that the rows leave this of 2^b, d where there is none
---   singleIn finder left that 2^b; 0 where there is none, and where no more than 64 codewords are listed
---   searchedIn finder w  the nearest of the listed codewords; w itself where more are told than fit
---   soughtIn finder left w    w with the pattern of a single one put on it, or the word searched for where there is none
---   foundWord finder w   the word found: w itself, w with the leader kept for it, or the one sought
---   foundFinder finder w the finder afterwards: with one more leader where one was sought for a word below 2^d
-use Prim.Native.Nat.{ℕ, _+_, _-_, _/_, _%_, _^_, _<_, min}
-use mathlib.Core.Bool.{Bool, true, not, cond}
+--   codewordBy finder w  the test whether w is a codeword: the rows leave nothing
+--   slotOf left          the slot for the words of which the rows leave this
+--   singleMore found p   one more pattern of a single one: p where none is found yet, and else 65,536, which is no pattern
+--   singleBelow finder left b   the one 2^a, a below b, of which the rows leave this; 0 where there is none, 65,536 where there are more
+--   singleIn finder left that of all digits; 0 where no more than 64 codewords are listed
+--   searchedIn finder w  the nearest of the listed codewords; w itself in a tie, and where more are told than fit
+--   soughtIn finder left w    w with the pattern of a single one put on it, w itself where there are more, the word searched for where there is none
+--   foundWord finder w   the word found: w itself, w with the pattern kept for it, or the one sought
+--   foundFinder finder w the finder afterwards: with one more pattern where one was sought for a word below 2^d
+use Prim.Native.Nat.{ℕ, zero, suc, _+_, _-_, _*_, _/_, _%_, _^_, _<_, min}
+use mathlib.Core.Bool.{Bool, true, cond}
 use mathlib.Core.List.{List, [], _++_}
 use mathlib.Core.Path.{_≡_}
 use lib.Bits.{bitXor}
-use lib.Dec.{eqb, leb, ltb}
+use lib.Dec.{eqb, leb}
 use lib.ListN.{length, getD, set, take, drop}
-use Rattle.bits.specs.Search.{firstFailing}
 use Rattle.bits.specs.Window.{at}
 use Rattle.inner_code.specs.Reply.{done}
 use Rattle.inner_code.specs.Code.{combination, nearestPattern}
@@ -53,18 +55,17 @@ lowIn finder m = getD finder (32 + m) 0
 abbrev pub highIn : List ℕ → ℕ → ℕ
 highIn finder m = getD finder (288 + m) 0
 
-abbrev pub leaderIn : List ℕ → ℕ → ℕ
-leaderIn finder s = getD finder (544 + s) 0
+abbrev pub nameIn : List ℕ → ℕ → ℕ
+nameIn finder s = getD finder (544 + 2 * s) 0
+
+abbrev pub patternIn : List ℕ → ℕ → ℕ
+patternIn finder s = getD finder (544 + 2 * s + 1) 0
 
 unfoldable pub wordIn : List ℕ → ℕ → ℕ
 wordIn finder m = getD finder (2592 + m) 0
 
 unfoldable pub leftIn : List ℕ → ℕ → ℕ
 leftIn finder w = bitXor (lowIn finder (w % 256)) (highIn finder (w / 256))
-
-pub record Leader (sheet : List ℕ) (p : ℕ) : Type 0 where
-  pub below : p < 2 ^ degree sheet
-  pub own : nearestPattern (rowOf sheet) (rowCount sheet) (degree sheet) p ≡ p
 
 pub record Finds (sheet finder : List ℕ) : Type 0 where
   pub sized : length finder ≡ 4640
@@ -73,7 +74,8 @@ pub record Finds (sheet finder : List ℕ) : Type 0 where
   pub left : (w : ℕ) → w < 2 ^ degree sheet → leftIn finder w ≡ reduced (rowOf sheet) (rowCount sheet) w
   pub listed : listedIn finder ≡ 2 ^ rowCount sheet
   pub words : (m : ℕ) → m < 2 ^ rowCount sheet → wordIn finder m ≡ combination (rowOf sheet) (rowCount sheet) m
-  pub leaders : (s : ℕ) → s < 2048 → Leader sheet (leaderIn finder s)
+  pub kept : (s w : ℕ) → s < 1024 → w < 2 ^ degree sheet → (leftIn finder w ≡ 0 → ⊥) → nameIn finder s ≡ leftIn finder w
+      → patternIn finder s ≡ nearestPattern (rowOf sheet) (rowCount sheet) (degree sheet) w
 
 unfoldable pub powerLeft : List ℕ → ℕ → ℕ → ℕ → ℕ
 unfolding reducedBy at
@@ -95,21 +97,25 @@ unfoldable pub preparedFinder : List ℕ → ℕ → List ℕ → List ℕ → L
 unfolding filledFinder
 preparedFinder sheet k basis finder = cond (isFinder finder) (filledFinder sheet k basis finder) finder
 
-unfoldable pub ownNearest : List ℕ → ℕ → Bool
+unfoldable pub codewordBy : List ℕ → ℕ → Bool
 unfolding leftIn
-ownNearest finder w = cond (isFinder finder) (eqb (leftIn finder w) 0) true
+codewordBy finder w = cond (isFinder finder) (eqb (leftIn finder w) 0) true
 
 unfoldable pub slotOf : ℕ → ℕ
-slotOf left = bitXor left (left / 32) % 2048
+slotOf left = bitXor left (left / 32) % 1024
 
-unfoldable pub firstSingle : List ℕ → ℕ → ℕ
-unfolding leftIn firstFailing
-firstSingle finder left = firstFailing (digitsIn finder) (λ b. not (eqb (leftIn finder (2 ^ b)) left))
+unfoldable pub singleMore : ℕ → ℕ → ℕ
+singleMore found p = cond (eqb found 0) p 65536
+
+unfoldable pub singleBelow : List ℕ → ℕ → ℕ → ℕ
+unfolding leftIn singleMore
+singleBelow finder left zero = 0
+singleBelow finder left (suc b) =
+    cond (eqb (leftIn finder (2 ^ b)) left) (singleMore (singleBelow finder left b) (2 ^ b)) (singleBelow finder left b)
 
 unfoldable pub singleIn : List ℕ → ℕ → ℕ
-unfolding firstSingle
-singleIn finder left =
-    cond (leb (listedIn finder) 64) 0 (cond (ltb (firstSingle finder left) (digitsIn finder)) (2 ^ firstSingle finder left) 0)
+unfolding singleBelow
+singleIn finder left = cond (leb (listedIn finder) 64) 0 (singleBelow finder left (digitsIn finder))
 
 unfoldable pub searchedIn : List ℕ → ℕ → ℕ
 unfolding searched wordIn
@@ -117,16 +123,15 @@ searchedIn finder w = cond (leb (listedIn finder) 2048) (searched (wordIn finder
 
 unfoldable pub soughtIn : List ℕ → ℕ → ℕ → ℕ
 unfolding singleIn searchedIn
-soughtIn finder left w = cond (eqb (singleIn finder left) 0) (searchedIn finder w) (bitXor w (singleIn finder left))
+soughtIn finder left w = cond (eqb (singleIn finder left) 0) (searchedIn finder w) (bitXor w (singleIn finder left % 65536))
 
 unfoldable pub foundWord : List ℕ → ℕ → ℕ
 unfolding leftIn slotOf soughtIn
 foundWord finder w =
     let left = leftIn finder w in
-    let leader = leaderIn finder (slotOf left) in
     cond (isFinder finder)
     (cond (eqb left 0) w
-    (cond (eqb (leftIn finder leader) left) (bitXor w leader)
+    (cond (eqb (nameIn finder (slotOf left)) left) (bitXor w (patternIn finder (slotOf left)))
     (soughtIn finder left w)))
     w
 
@@ -134,9 +139,10 @@ unfoldable pub foundFinder : List ℕ → ℕ → List ℕ
 unfolding leftIn slotOf soughtIn
 foundFinder finder w =
     let left = leftIn finder w in
+    let slot = 544 + 2 * slotOf left in
     cond (isFinder finder)
     (cond (eqb left 0) finder
-    (cond (eqb (leftIn finder (leaderIn finder (slotOf left))) left) finder
+    (cond (eqb (nameIn finder (slotOf left)) left) finder
     (cond (leb (2 ^ digitsIn finder) w) finder
-    (set finder (544 + slotOf left) (bitXor w (soughtIn finder left w))))))
+    (set (set finder slot left) (slot + 1) (bitXor w (soughtIn finder left w))))))
     finder

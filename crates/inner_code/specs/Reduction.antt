@@ -7,13 +7,16 @@
 --   onesUnlessZero w      the ones of a nonzero word; of the zero word 17, more than any word has
 --   fewestOnes words n    the fewest ones in a nonzero one of words 0 .. words (n - 1), 17 where there is none
 --   leastKey words n w    the least key of a pattern that leads w to one of words 0 .. words (n - 1)
---   searched words n w    w with the pattern of that key on it
+--   backKey p             one number that orders error patterns by their ones, and those of equal ones from the largest down
+--   leastBack words n w   the least such number of a pattern that leads w to one of words 0 .. words (n - 1)
+--   sole first last       the first of the patterns with the fewest ones, where it is their last too; else 0
+--   searched words n w    w with the one pattern of the fewest ones on it, that leads to one of the words; w itself where there are more
 --   stepTo w x            the step from a word to another: that one, and the number of bits that it changes
 --   doubled n r m l       the list l with r put on its words 0 .. m - 1, at the places n .. n + m - 1
 --   listed row k l        the list l with the codewords of k rows at its places 0 .. 2^k - 1, by doubling
 --   Lists row k l r m     the list m is l with the codewords of k rows listed, of 11 at most, and r is how many they are; where l has no
 --                         room for them, m is l and r is 0
-use Prim.Native.Nat.{ℕ, zero, suc, _+_, _%_, _^_, _≤_, _<_, min}
+use Prim.Native.Nat.{ℕ, zero, suc, _+_, _-_, _*_, _%_, _^_, _≤_, _<_, min}
 use mathlib.Core.Bool.{cond}
 use mathlib.Core.List.{List}
 use mathlib.Core.Path.{_≡_}
@@ -58,9 +61,19 @@ unfoldable pub leastKey : (ℕ → ℕ) → ℕ → ℕ → ℕ
 unfolding least key noKey
 leastKey words n w = least noKey (λ m. key (bitXor (words m) w)) n
 
+unfoldable pub backKey : ℕ → ℕ
+backKey p = ones p * 65536 + (65535 - p)
+
+unfoldable pub leastBack : (ℕ → ℕ) → ℕ → ℕ → ℕ
+unfolding least backKey noKey
+leastBack words n w = least noKey (λ m. backKey (bitXor (words m) w)) n
+
+unfoldable pub sole : ℕ → ℕ → ℕ
+sole first last = cond (eqb first last) first 0
+
 unfoldable pub searched : (ℕ → ℕ) → ℕ → ℕ → ℕ
-unfolding leastKey
-searched words n w = bitXor w (leastKey words n w % 65536)
+unfolding leastKey leastBack sole
+searched words n w = bitXor w (sole (leastKey words n w % 65536) (65535 - leastBack words n w % 65536))
 
 unfoldable pub stepTo : ℕ → ℕ → Step
 stepTo w x = record { word = x; changed = ones (bitXor w x) }

@@ -1,6 +1,6 @@
 // The finder of nearest words: one lent slice that holds all that finding a sheet's nearest words needs, set up once by
-// `prepare_finder`, asked by `is_own_nearest` and `find_nearest`. A slice of any other length than FINDER_WORDS is no finder: nothing is
-// written there, and every word stays.
+// `prepare_finder`, asked by `is_codeword` and `find_nearest`. A slice of any other length than FINDER_WORDS is no finder: nothing is
+// written there, and every word is taken for a codeword and stays.
 use crate::codewords::MAX_CODEWORDS;
 use crate::codewords::double;
 use crate::codewords::list_codewords;
@@ -13,8 +13,8 @@ ghost use Prim.Native.Nat.{_-_, _≤_, min};
 ghost use lib.ListN.{length};
 ghost use Rattle.inner_code.specs.Sheet.{degree};
 ghost use Rattle.inner_code.specs.Reduction.{stepTo, listed};
-ghost use Rattle.inner_code.specs.Finding.{powerLeft, preparedFinder, digitsIn, leftIn, ownNearest};
-ghost use Rattle.inner_code.specs.Finding.{singleIn, searchedIn, soughtIn, foundWord, foundFinder};
+ghost use Rattle.inner_code.specs.Finding.{powerLeft, preparedFinder, digitsIn, leftIn, codewordBy};
+ghost use Rattle.inner_code.specs.Finding.{singleMore, singleIn, searchedIn, soughtIn, foundWord, foundFinder};
 
 // How many numbers of 16 bits a finder has. Its large parts begin at multiples of 32 numbers, which fill a cache line.
 pub const FINDER_WORDS: usize = 4640;
@@ -30,18 +30,22 @@ const LOW: usize = 32;
 
 const HIGH: usize = 288;
 
-// One leader a slot: the nearest pattern of the words of its coset, which is its own nearest pattern too. 0 is one, so that no slot is empty.
-const LEADERS: usize = 544;
+// Two numbers a slot: what the rows leave of the words of a coset, which names it, and the nearest pattern of these words, 0 in a tie. Nothing
+// is left of codewords, which are never looked for here, so 0 names no coset: such a slot is empty.
+const SLOTS: usize = 544;
 
-const SLOTS: u16 = 2048;
+const SLOT_COUNT: u16 = 1024;
 
 // The codewords, MAX_CODEWORDS at most.
 const WORDS: usize = 2592;
 
+// More than one pattern: no pattern of 16 bits is this number.
+const MANY: u32 = 65536;
+
 // So few codewords are searched as quickly as the patterns of a single one are tried.
 const FEW: u16 = 64;
 
-// Sets a finder of zeros up for an accepted sheet, its k and its echelon form, as `check_sheet` gives them. No leader but 0 is kept yet.
+// Sets a finder of zeros up for an accepted sheet, its k and its echelon form, as `check_sheet` gives them. No pattern is kept yet.
 pub fn prepare_finder(sheet: &[u8], k: usize, basis: &[u16; 11], finder: &mut [u16])
     ensures { λ _. ⌜ now (finder .exit) ≡ preparedFinder (now (sheet .entry)) k (now (basis .entry)) (now (finder .entry)) ⌝ }
 {
@@ -50,15 +54,15 @@ pub fn prepare_finder(sheet: &[u8], k: usize, basis: &[u16; 11], finder: &mut [u
     }
     let d = at_most_sixteen(degree_of(sheet));
     tabulate(basis, k, 0, 8, &mut finder[LOW..HIGH]);
-    tabulate(basis, k, 8, above_eight(d), &mut finder[HIGH..LEADERS]);
+    tabulate(basis, k, 8, above_eight(d), &mut finder[HIGH..SLOTS]);
     let count = list_codewords(sheet, k, &mut finder[WORDS..FINDER_WORDS]);
     finder[LISTED] = count as u16;
     finder[DEGREE] = d as u16;
 }
 
-// Whether a word is its own nearest word: exactly if the rows leave nothing of it.
-pub fn is_own_nearest(finder: &[u16], word: u16) -> bool
-    ensures { λ r. ⌜ r ≡ ownNearest (now (finder .entry)) word ⌝ }
+// Whether a word is a codeword: exactly if the rows leave nothing of it.
+pub fn is_codeword(finder: &[u16], word: u16) -> bool
+    ensures { λ r. ⌜ r ≡ codewordBy (now (finder .entry)) word ⌝ }
 {
     if finder.len() != FINDER_WORDS {
         return true;
@@ -66,9 +70,9 @@ pub fn is_own_nearest(finder: &[u16], word: u16) -> bool
     left_of(finder, word) == 0
 }
 
-// The step to a word's nearest word: the word itself where the rows leave nothing of it, and else what its coset's leader leads to. The rows
-// leave the same of all words of a coset, so the leader kept in the slot is this coset's where they leave the same of it, and most cosets are
-// searched once. A word at or above 2^d is no word of the code, and nothing is kept for it.
+// The step to a word's nearest word: the word itself where the rows leave nothing of it, and else what its coset's nearest pattern leads to.
+// The rows leave the same of all words of a coset, and these have one nearest pattern, so most cosets are searched once. A word at or above
+// 2^d is no word of the code, and nothing is kept for it.
 pub fn find_nearest(finder: &mut [u16], word: u16) -> Step
     ensures { λ r. ⌜ r ≡ stepTo word (foundWord (now (finder .entry)) word) ⌝ }
     ensures { λ _. ⌜ now (finder .exit) ≡ foundFinder (now (finder .entry)) word ⌝ }
@@ -80,16 +84,16 @@ pub fn find_nearest(finder: &mut [u16], word: u16) -> Step
     if left == 0 {
         return put_on(word, 0);
     }
-    let slot = LEADERS + ((left ^ left / 32) % SLOTS) as usize;
-    let leader = finder[slot];
-    if left_of(finder, leader) == left {
-        return put_on(word, leader);
+    let slot = SLOTS + 2 * ((left ^ left / 32) % SLOT_COUNT) as usize;
+    if finder[slot] == left {
+        return put_on(word, finder[slot + 1]);
     }
     let step = seek(finder, word, left);
     if 1u32 << digits_in(finder) <= word as u32 {
         return step;
     }
-    finder[slot] = word ^ step.word;
+    finder[slot] = left;
+    finder[slot + 1] = word ^ step.word;
     step
 }
 
@@ -101,7 +105,7 @@ fn left_of(finder: &[u16], word: u16) -> u16
     finder[LOW + (word % 256) as usize] ^ finder[HIGH + (word / 256) as usize]
 }
 
-// The step to the nearest word of a word, of which the rows leave `left`, where no leader is at hand.
+// The step to the nearest word of a word, of which the rows leave `left`, where no pattern is at hand. MANY stands for the pattern 0 here.
 fn seek(finder: &[u16], word: u16, left: u16) -> Step
     requires { ⌜ length (now finder) ≡ 4640 ⌝ }
     ensures { λ r. ⌜ r ≡ stepTo word (soughtIn (now (finder .entry)) left word) ⌝ }
@@ -110,12 +114,12 @@ fn seek(finder: &[u16], word: u16, left: u16) -> Step
     if single == 0 {
         return search(finder, word);
     }
-    put_on(word, single)
+    put_on(word, (single % 65536) as u16)
 }
 
-// The smallest pattern of a single one, of d digits, of which the rows leave `left`. It is 0 where there is none, and where the codewords
-// are few, which are searched at once.
-fn single_pattern(finder: &[u16], left: u16) -> u16
+// The pattern of a single one, of d digits, of which the rows leave `left`: MANY where there are more of them, and 0 where there is none, or
+// where the codewords are few, which are searched at once.
+fn single_pattern(finder: &[u16], left: u16) -> u32
     requires { ⌜ length (now finder) ≡ 4640 ⌝ }
     ensures { λ r. ⌜ r ≡ singleIn (now (finder .entry)) left ⌝ }
 {
@@ -123,15 +127,26 @@ fn single_pattern(finder: &[u16], left: u16) -> u16
         return 0;
     }
     let digits = digits_in(finder);
+    let mut found: u32 = 0;
     let mut b = 0;
     while b < digits {
         let pattern = 1u16 << b;
         if left_of(finder, pattern) == left {
-            return pattern;
+            found = single_more(found, pattern);
         }
         b += 1;
     }
-    0
+    found
+}
+
+// One more pattern of a single one that is found: it, or MANY where it is not the first.
+fn single_more(found: u32, pattern: u16) -> u32
+    ensures { λ r. ⌜ r ≡ singleMore found pattern ⌝ }
+{
+    if found == 0 {
+        return pattern as u32;
+    }
+    MANY
 }
 
 // The step to the nearest of the codewords that are listed.

@@ -12,7 +12,7 @@ pub use codewords::distance;
 pub use codewords::list_codewords;
 pub use finder::FINDER_WORDS;
 pub use finder::find_nearest;
-pub use finder::is_own_nearest;
+pub use finder::is_codeword;
 pub use finder::prepare_finder;
 pub use house::HouseCode;
 pub use membership::residue;

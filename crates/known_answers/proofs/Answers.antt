@@ -6,7 +6,7 @@ use Rattle.bits.specs.Bit.{digit, word, bitAt, putDigit, withBit, pairAt, writt
 use Rattle.bits.specs.Sum.{sum, gap, flag}
 use Rattle.inner_code.specs.Reply.{refuseIf, andThen, ifDone}
 use Rattle.bits.specs.Search.{least, someBelow, firstFailing, largest}
-use Rattle.inner_code.specs.Code.{combination, isCodeword, distance, key, noKey, nearestPattern, nearestWord, bitsChanged}
+use Rattle.inner_code.specs.Code.{combination, isCodeword, distance, key, noKey, leastPattern, tied, nearestPattern, nearestWord, bitsChanged}
 use Rattle.inner_code.specs.Answer.{nearestAnswer}
 use Rattle.inner_code.specs.Sheet.{degree, rowCount, rowOf, rowCheck, rowsCheck, sheetCheck}
 use Rattle.inner_code.specs.House.{houseSheet}
@@ -26,7 +26,7 @@ use Rattle.known_answers.specs.Table.{holds, allHold, table, sameList, s
 
 pub known-answers : allHold table ≡ true
 unfolding
-    allHold holds table sameList sameReply entryBytes squareWiring nearestAnswer nearestWord bitsChanged nearestPattern least key noKey
+    allHold holds table sameList sameReply entryBytes squareWiring nearestAnswer nearestWord bitsChanged nearestPattern tied leastPattern least key noKey
     isCodeword someBelow combination digit word bitAt putDigit withBit pairAt sum gap
     flag ones onesIn distance refuseIf andThen ifDone degree rowCount rowOf
     rowCheck rowsCheck sheetCheck houseSheet firstFailing edgeOf sideBit entryCheck entriesCheck countFaulty wiringCheck planCheck

@@ -1,8 +1,10 @@
--- The marked examples of the paper's bench values, by which the definitions are tried: none of this is needed to believe a contract of a service.
+-- The papers' marked examples and a plan that settles, by which definitions are tried: none of this is needed to believe a contract of a service.
 --   Row         one example, with what it must give
 --   sameList, sameReply   two lists of numbers, and two replies, are the same
 --   distances, named   the distance of each side, and the sweeps that the margin's numbers name
---   pairPlan    the pair plan: d 2, k 1, row 3 on both sides, n 1, wiring 0, 1
+--   lonePlan    a plan of one vertex a side: d, its one row, the wiring
+--   pairPlan    the pair plan: d 2, row 3, wiring 0, 1
+--   triplePlan  the smallest plan that mends a bit: d 3, row 7, wiring 0, 1, 2
 --   holds row   what the definitions give is what the row says
 --   table       all rows
 --   allHold     every row of a list holds
@@ -31,8 +33,8 @@ pub data Row : Type 0 where
   margin : ℕ → ℕ → ℕ → ℕ → ℕ → ℕ → Row
   -- the same of sides that differ: nl, dl, nr, left D, right D, R, F and the sweeps
   unequal : ℕ → ℕ → ℕ → ℕ → ℕ → ℕ → ℕ → ℕ → Row
-  -- the pair plan: a received byte and a limit, the decoder's answer, the byte in its output and the sum of its first sweep; the others are 0
-  pair : ℕ → ℕ → Reply → ℕ → ℕ → Row
+  -- a plan of one byte: a received byte and a limit, the decoder's answer, the byte in its output and the sum of its first sweep; the others are 0
+  decoded : Plan → ℕ → ℕ → Reply → ℕ → ℕ → Row
   -- the pair plan: a message byte and the byte that it encodes to
   message : ℕ → ℕ → Row
 
@@ -59,9 +61,17 @@ distances Dl Dr SideName.Right = Dr
 abbrev pub named : ℕ → ℕ → ℕ → ℕ → ℕ → ℕ → ℕ → ℕ
 named nl dl nr Dl Dr R F = sweepsNamed (record { edges = nl * dl; n = nr; d = dl; distance = distances Dl Dr; spread = R }) F
 
--- the pair plan: d 2, k 1, row 3 on both sides, n 1, wiring 0, 1
+-- a plan of one vertex a side: d, its one row, the wiring
+abbrev pub lonePlan : ℕ → ℕ → List ℕ → Plan
+lonePlan d row wiring = let sheet : List ℕ = d ∷ 1 ∷ 0 ∷ row ∷ [] in planOf sheet sheet 1 1 wiring
+
+-- the pair plan: d 2, row 3, wiring 0, 1
 abbrev pub pairPlan : Plan
-pairPlan = let sheet : List ℕ = 2 ∷ 1 ∷ 0 ∷ 3 ∷ [] in planOf sheet sheet 1 1 (0 ∷ 0 ∷ 0 ∷ 1 ∷ [])
+pairPlan = lonePlan 2 3 (0 ∷ 0 ∷ 0 ∷ 1 ∷ [])
+
+-- the smallest plan that mends a bit: d 3, row 7, wiring 0, 1, 2
+abbrev pub triplePlan : Plan
+triplePlan = lonePlan 3 7 (0 ∷ 0 ∷ 0 ∷ 1 ∷ 0 ∷ 2 ∷ [])
 
 unfoldable pub holds : Row → Bool
 unfolding nearestAnswer sameReply sameList squareWiring marginAnswer sweepsNamed decodeAnswer decodeSums decodeOutput encodedBlock
@@ -69,10 +79,10 @@ holds (house word nearest changed) = sameReply (nearestAnswer houseSheet word) (
 holds (square flips reply) = sameReply (marginAnswer squarePlan flips) reply
 holds (margin n d D R flips sweeps) = eqb (named n d n D D R flips) sweeps
 holds (unequal nl dl nr Dl Dr R flips sweeps) = eqb (named nl dl nr Dl Dr R flips) sweeps
-holds (pair received limit reply left sum) =
-    sameReply (decodeAnswer pairPlan (received ∷ []) (0 ∷ []) limit) reply
-    && (sameList (decodeOutput pairPlan (received ∷ []) (0 ∷ []) limit) (left ∷ [])
-    && sameList (decodeSums pairPlan (received ∷ []) (0 ∷ []) limit) (sum ∷ replicate 63 0))
+holds (decoded plan received limit reply left sum) =
+    sameReply (decodeAnswer plan (received ∷ []) (0 ∷ []) limit) reply
+    && (sameList (decodeOutput plan (received ∷ []) (0 ∷ []) limit) (left ∷ [])
+    && sameList (decodeSums plan (received ∷ []) (0 ∷ []) limit) (sum ∷ replicate 63 0))
 holds (message byte encoded) = sameList (encodedBlock pairPlan (byte ∷ [])) (encoded ∷ [])
 
 unfoldable pub allHold : List Row → Bool
@@ -84,8 +94,8 @@ unfoldable pub table : List Row
 table =
     house 0x01 0x00 1
     ∷ house 0x07 0x0f 1
-    ∷ house 0x03 0x00 2
-    ∷ house 0xc0 0xc3 2
+    ∷ house 0x03 0x03 0
+    ∷ house 0xc0 0xc0 0
     ∷ square 1 (done (1 ∷ []))
     ∷ square 2 (done (2 ∷ []))
     ∷ square 3 (done (2 ∷ []))
@@ -97,7 +107,10 @@ table =
     ∷ margin 31 16 16 480 64 0
     ∷ unequal 30 8 16 7 15 128 20 3
     ∷ unequal 30 8 16 7 15 128 21 0
-    ∷ pair 0x80 1 (done (1 ∷ [])) 0xc0 1
-    ∷ pair 0x80 0 (refused 15 0) 0x80 0
+    ∷ decoded pairPlan 0x80 0 (refused 15 0) 0x80 0
+    ∷ decoded pairPlan 0x80 1 (refused 15 0) 0x80 0
+    ∷ decoded pairPlan 0x80 2 (refused 15 0) 0x80 0
+    ∷ decoded triplePlan 0xc0 0 (refused 15 0) 0xc0 0
+    ∷ decoded triplePlan 0xc0 1 (done (1 ∷ [])) 0xe0 1
     ∷ message 0x80 0xc0
     ∷ []

@@ -1,28 +1,31 @@
--- `decoder::sweep_first` meets its contract: after v vertices the block is the one with the first v visited, and `changed` counts the bits that
--- changed. A word that is its own nearest one stays, and of any other the step tells how many bits it changes.
+-- `decoder::sweep_first` meets its contract: after v vertices the block is the one with the first v visited, `changed` counts the bits that
+-- changed and `ties` the vertices that wait. A codeword stays, and of any other word the step tells how many bits it changes.
+use mathlib.Core.Bool.{false}
 use mathlib.Core.Path.{_≡_, refl, sym, _∙_}
 use Prim.Native.Nat.{_-_, _≤_, _<_}
 use native.Mathlib.Omega.{arith}
 use borrow.Author.Needs.{needs}
 use denote.Ref.{now}
+use lib.Dec.{eqb}
 use Rattle.inner_code.specs.Sheet.{degree}
-use Rattle.inner_code.proofs.Finding.{Found, own-means, found-means}
+use Rattle.inner_code.proofs.Finding.{Member, Found, member-means, found-means}
 use Rattle.wiring.specs.Block.{vertexWord}
 use Rattle.wiring.specs.Plan.{Side, sideBy, left}
 use Rattle.wiring.specs.declared.side.SideName.{SideName}
 use Rattle.wiring.proofs.Permutation.{fitted-vertex}
 use Rattle.decoder.specs.Visiting.{SideReady}
-use Rattle.decoder.proofs.Visiting.{Visits, visits-none, visits-le, visits-changed, visits-kept, visits-sweep, visits-length}
-use Rattle.decoder.proofs.Visiting.{word-read, word-stays, word-found, word-counted, word-put, pattern-lt, ready-sheet, ready-whole, ready-vertex}
+use Rattle.decoder.proofs.Visiting.{Visits, visits-none, visits-le, visits-few, visits-changed, visits-kept, visits-sweep, visits-length}
+use Rattle.decoder.proofs.Visiting.{word-read, word-stays, word-untied, word-found, word-counted, word-waits, word-put, tie-le}
+use Rattle.decoder.proofs.Visiting.{pattern-lt, ready-sheet, ready-whole, ready-vertex}
 use Rattle.decoder.proofs.sweep.sweep_first.Statement.{statement}
 use Rattle.decoder.proofs.sweep.sweep_first.Tie as tie
 
 abbrev Inv-loop : tie.InvT-loop
-Inv-loop sheet n wiring finder₀ block₀ d changed₀ v₀ finder block changed v =
-    (v ≤ n) × Visits (sideBy sheet n wiring SideName.Left) block₀ v changed block × SideReady sheet n wiring finder
+Inv-loop sheet n wiring finder₀ block₀ d changed₀ ties₀ v₀ finder block changed ties v =
+    (v ≤ n) × Visits (sideBy sheet n wiring SideName.Left) block₀ v changed ties block × SideReady sheet n wiring finder
 
 abbrev μ-loop : tie.MeasureT-loop
-μ-loop sheet n wiring finder₀ block₀ d changed₀ v₀ finder block changed v = n - v
+μ-loop sheet n wiring finder₀ block₀ d changed₀ ties₀ v₀ finder block changed ties v = n - v
 
 -- ---- the call and the loop's head
 
@@ -64,8 +67,8 @@ left-word-requires c κs =
     let fits = turn .inv .2 .fits in
     (omega (arith, fits .n-high), (fits .d-high, fitted-vertex fits (turn .v) (omega arith)))
 
-is-own-nearest-requires : tie.Need-is-own-nearest-requires Inv-loop μ-loop
-is-own-nearest-requires c κs = search needs
+is-codeword-requires : tie.Need-is-codeword-requires Inv-loop μ-loop
+is-codeword-requires c κs = search needs
 
 -- ---- a word that stays
 
@@ -79,10 +82,12 @@ loop-again : tie.Need-loop-again Inv-loop μ-loop
 loop-again c =
     let read = c .before .before .before in
     let turn = head read .loop in
-    let ready = turn .inv .2 in (
+    let ready = turn .inv .2 in
+    let member = member-means _ _ (c .before .is-codeword .ensures) in (
       omega arith,
       visits-kept (ready-whole ready left) (below read) (turn .inv .1)
-          (word-stays ready left (turn .block) (below read) (read-is read) (own-means _ _ (c .before .is-own-nearest .ensures)) (c .if2 .taken)),
+          (word-stays ready left (turn .block) (below read) (read-is read) member (c .if2 .taken))
+          (word-untied ready left (turn .block) (below read) (read-is read) member (c .if2 .taken)),
       ready,
     )
 
@@ -93,6 +98,13 @@ find-nearest-requires c κs = search needs
 
 abbrev word : tie.After-find-nearest Inv-loop μ-loop → tie.After-left-word Inv-loop μ-loop
 word c = c .before .before .before .before .before
+
+member : (c : tie.After-find-nearest Inv-loop μ-loop)
+    → Member (head (word c) .loop .finder) (word c .left-word .result) (c .before .before .before .is-codeword .result)
+member c = member-means _ _ (c .before .before .before .is-codeword .ensures)
+
+missed : (c : tie.After-find-nearest Inv-loop μ-loop) → c .before .before .before .is-codeword .result ≡ false
+missed c = c .before .before .if2 .left
 
 found : (c : tie.After-find-nearest Inv-loop μ-loop)
     → Found (head (word c) .loop .finder) (word c .left-word .result) (c .find-nearest .result) (c .find-nearest .last .0)
@@ -125,16 +137,30 @@ add-changed c =
     let turn = head (word (mending c)) .loop in
     omega (arith, visits-le (turn .inv .2) left (turn .inv .0) (turn .inv .1), c .struct-known2 .given)
 
+tie-requires : tie.Need-tie-requires Inv-loop μ-loop
+tie-requires c κs = search needs
+
+add-ties : tie.Need-add-ties Inv-loop μ-loop
+add-ties c =
+    let turn = head (word (mending (c .before))) .loop in
+    omega (
+      arith,
+      visits-few (turn .inv .1),
+      below (word (mending (c .before))),
+      turn .inv .2 .fits .n-high,
+      tie-le (eqb (mending (c .before) .find-nearest .result .changed) 0) (c .tie .ensures),
+    )
+
 add-v-2 : tie.Need-add-v-2 Inv-loop μ-loop
 add-v-2 c = search needs
 
 loop-less-2 : tie.Need-loop-less-2 Inv-loop μ-loop
-loop-less-2 c = omega (arith, below (word (mending c)))
+loop-less-2 c = omega (arith, below (word (mending (c .before))))
 
 loop-again-2 : tie.Need-loop-again-2 Inv-loop μ-loop
 unfolding degree
 loop-again-2 c =
-    let last = mending c in
+    let last = mending (c .before) in
     let read = word last in
     let turn = head read .loop in
     let ready = turn .inv .2 in (
@@ -142,8 +168,9 @@ loop-again-2 c =
       visits-changed (ready-whole ready left) (below read) (turn .inv .1)
           (word-found ready left (turn .block) (below read) (read-is read) (found last))
           (word-counted ready left (turn .block) (below read) (read-is read) (found last))
+          (word-waits ready left (turn .block) (below read) (read-is read) (member last) (found last) (missed last) (c .tie .ensures))
           (word-put ready left (turn .block) (below read) (read-is read) (last .find-nearest .result .word)
-          (c .before .before .before .put-pattern .ensures)),
+          (c .before .before .before .before .put-pattern .ensures)),
       record { fits = ready .fits; permuted = ready .permuted; finds = found last .finds _ (ready .finds) },
     )
 
@@ -170,7 +197,7 @@ sweep-first-spec =
     cast-d
     loop-holds
     left-word-requires
-    is-own-nearest-requires
+    is-codeword-requires
     add-v
     loop-less
     loop-again
@@ -179,6 +206,8 @@ sweep-first-spec =
     put-pattern-requires
     cast-changed
     add-changed
+    tie-requires
+    add-ties
     add-v-2
     loop-less-2
     loop-again-2

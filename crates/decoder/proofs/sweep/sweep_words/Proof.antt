@@ -1,33 +1,36 @@
--- `decoder::sweep_words` meets its contract: after v vertices the block is the one with the first v visited, `changed` counts the bits that changed,
--- and the words are those that the vertices read of it. A word that is its own nearest one stays, and of any other the step tells how many bits
--- it changes.
+-- `decoder::sweep_words` meets its contract: after v vertices the block is the one with the first v visited, `changed` counts the bits that
+-- changed and `ties` the vertices that wait, and the words are those that the vertices read of the block. A codeword stays, and of any other
+-- word the step tells how many bits it changes.
+use mathlib.Core.Bool.{false}
 use mathlib.Core.Path.{_≡_, refl, sym, _∙_}
 use Prim.Native.Nat.{_-_, _≤_, _<_}
 use native.Mathlib.Omega.{arith}
 use borrow.Author.Needs.{needs}
 use denote.Ref.{now}
+use lib.Dec.{eqb}
 use lib.ListN.{getD}
 use Rattle.bits.specs.Window.{at}
 use Rattle.inner_code.specs.Sheet.{degree}
-use Rattle.inner_code.proofs.Finding.{Found, own-means, found-means}
+use Rattle.inner_code.proofs.Finding.{Member, Found, member-means, found-means}
 use Rattle.wiring.specs.Block.{vertexWord}
 use Rattle.wiring.specs.Plan.{Side, sideBy, right}
 use Rattle.wiring.specs.declared.side.SideName.{SideName}
 use Rattle.wiring.proofs.Permutation.{fitted-vertex}
 use Rattle.decoder.specs.Visiting.{SideReady, WordsRead}
 use Rattle.decoder.proofs.RightWords.{words-put}
-use Rattle.decoder.proofs.Visiting.{Visits, visits-none, visits-le, visits-changed, visits-kept, visits-sweep, visits-length}
-use Rattle.decoder.proofs.Visiting.{word-stays, word-found, word-counted, word-put, found-lt, pattern-lt, ready-sheet, ready-whole, ready-vertex}
+use Rattle.decoder.proofs.Visiting.{Visits, visits-none, visits-le, visits-few, visits-changed, visits-kept, visits-sweep, visits-length}
+use Rattle.decoder.proofs.Visiting.{word-stays, word-untied, word-found, word-counted, word-waits, word-put, tie-le}
+use Rattle.decoder.proofs.Visiting.{found-lt, pattern-lt, ready-sheet, ready-whole, ready-vertex}
 use Rattle.decoder.proofs.sweep.sweep_words.Statement.{statement}
 use Rattle.decoder.proofs.sweep.sweep_words.Tie as tie
 
 abbrev Inv-loop : tie.InvT-loop
-Inv-loop sheet n wiring finder₀ words₀ block₀ d changed₀ v₀ finder words block changed v =
-    (v ≤ n) × Visits (sideBy sheet n wiring SideName.Right) block₀ v changed block × SideReady sheet n wiring finder
+Inv-loop sheet n wiring finder₀ words₀ block₀ d changed₀ ties₀ v₀ finder words block changed ties v =
+    (v ≤ n) × Visits (sideBy sheet n wiring SideName.Right) block₀ v changed ties block × SideReady sheet n wiring finder
     × WordsRead (sideBy sheet n wiring SideName.Right) block words
 
 abbrev μ-loop : tie.MeasureT-loop
-μ-loop sheet n wiring finder₀ words₀ block₀ d changed₀ v₀ finder words block changed v = n - v
+μ-loop sheet n wiring finder₀ words₀ block₀ d changed₀ ties₀ v₀ finder words block changed ties v = n - v
 
 -- ---- the call and the loop's head
 
@@ -70,8 +73,8 @@ mul-word c = omega (arith, few c)
 element-copy-out-word : tie.Need-element-copy-out-word Inv-loop μ-loop
 element-copy-out-word c = few c
 
-is-own-nearest-requires : tie.Need-is-own-nearest-requires Inv-loop μ-loop
-is-own-nearest-requires c κs = search needs
+is-codeword-requires : tie.Need-is-codeword-requires Inv-loop μ-loop
+is-codeword-requires c κs = search needs
 
 -- ---- a word that stays
 
@@ -85,10 +88,12 @@ loop-again : tie.Need-loop-again Inv-loop μ-loop
 loop-again c =
     let inside = c .before .before .before .before in
     let turn = inside .before .loop in
-    let ready = turn .inv .2 in (
+    let ready = turn .inv .2 in
+    let member = member-means _ _ (c .before .is-codeword .ensures) in (
       omega arith,
       visits-kept (ready-whole ready right) (below inside) (turn .inv .1)
-          (word-stays ready right (turn .block) (below inside) (word-is inside) (own-means _ _ (c .before .is-own-nearest .ensures)) (c .if2 .taken)),
+          (word-stays ready right (turn .block) (below inside) (word-is inside) member (c .if2 .taken))
+          (word-untied ready right (turn .block) (below inside) (word-is inside) member (c .if2 .taken)),
       ready,
       turn .inv .3,
     )
@@ -103,6 +108,13 @@ inside c = c .before .before .before .before .before .before
 
 abbrev head : tie.After-find-nearest Inv-loop μ-loop → tie.At-loop Inv-loop μ-loop
 head c = inside c .before
+
+member : (c : tie.After-find-nearest Inv-loop μ-loop)
+    → Member (head c .loop .finder) (getD (head c .loop .words) (head c .loop .v) 0) (c .before .before .before .is-codeword .result)
+member c = member-means _ _ (c .before .before .before .is-codeword .ensures)
+
+missed : (c : tie.After-find-nearest Inv-loop μ-loop) → c .before .before .before .is-codeword .result ≡ false
+missed c = c .before .before .if2 .left
 
 found : (c : tie.After-find-nearest Inv-loop μ-loop)
     → Found (head c .loop .finder) (getD (head c .loop .words) (head c .loop .v) 0) (c .find-nearest .result) (c .find-nearest .last .0)
@@ -142,25 +154,41 @@ add-changed c =
     let turn = head (mending c) .loop in
     omega (arith, visits-le (turn .inv .2) right (turn .inv .0) (turn .inv .1), c .struct-known2 .given)
 
+tie-requires : tie.Need-tie-requires Inv-loop μ-loop
+tie-requires c κs = search needs
+
+add-ties : tie.Need-add-ties Inv-loop μ-loop
+add-ties c =
+    let turn = head (mending (c .before)) .loop in
+    omega (
+      arith,
+      visits-few (turn .inv .1),
+      below (inside (mending (c .before))),
+      turn .inv .2 .fits .n-high,
+      tie-le (eqb (mending (c .before) .find-nearest .result .changed) 0) (c .tie .ensures),
+    )
+
 add-v-2 : tie.Need-add-v-2 Inv-loop μ-loop
 add-v-2 c = search needs
 
 loop-less-2 : tie.Need-loop-less-2 Inv-loop μ-loop
-loop-less-2 c = omega (arith, below (inside (mending c)))
+loop-less-2 c = omega (arith, below (inside (mending (c .before))))
 
 loop-again-2 : tie.Need-loop-again-2 Inv-loop μ-loop
 unfolding degree
 loop-again-2 c =
-    let last = mending c in
+    let last = mending (c .before) in
     let turn = head last .loop in
     let ready = turn .inv .2 in
     let low = below (inside last) in
     let is = word-is (inside last) in
-    let put = word-put ready right (turn .block) low is (last .find-nearest .result .word) (c .before .before .before .put-pattern .ensures) in (
+    let told = c .before .before .before .before .put-pattern .ensures in
+    let put = word-put ready right (turn .block) low is (last .find-nearest .result .word) told in (
       omega (arith, low),
       visits-changed (ready-whole ready right) low (turn .inv .1)
           (word-found ready right (turn .block) low is (found last))
           (word-counted ready right (turn .block) low is (found last))
+          (word-waits ready right (turn .block) low is (member last) (found last) (missed last) (c .tie .ensures))
           put,
       record { fits = ready .fits; permuted = ready .permuted; finds = found last .finds _ (ready .finds) },
       words-put (ready-whole ready right) (turn .inv .3) (ready .fits .n-high) (turn .v) _ low
@@ -191,7 +219,7 @@ sweep-words-spec =
     loop-holds
     mul-word
     element-copy-out-word
-    is-own-nearest-requires
+    is-codeword-requires
     add-v
     loop-less
     loop-again
@@ -202,6 +230,8 @@ sweep-words-spec =
     put-pattern-requires
     cast-changed
     add-changed
+    tie-requires
+    add-ties
     add-v-2
     loop-less-2
     loop-again-2

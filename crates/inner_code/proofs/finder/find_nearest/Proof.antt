@@ -1,16 +1,16 @@
 -- `inner_code::find_nearest` meets its contract: each return is one case of the finder.
-use mathlib.Core.Path.{_≡_, sym, ap, _∙_}
+use mathlib.Core.Path.{_≡_, ap, _∙_}
 use Prim.Native.Nat.{ℕ, _+_, _*_, _%_, _^_}
 use native.Mathlib.Omega.{arith}
 use borrow.Author.Needs.{needs}
 use denote.Ref.{now}
 use lib.Bits.{bitXor, xor-zero-r}
-use lib.ListN.{set}
+use lib.ListN.{set, length-set}
 use Rattle.inner_code.specs.Reduction.{stepTo}
 use Rattle.inner_code.specs.Finding.{digitsIn, slotOf, foundWord}
 use Rattle.inner_code.proofs.NearestWord.{step-word}
 use Rattle.bits.proofs.Windows.{shifted-one}
-use Rattle.inner_code.proofs.Finding.{found-none, found-codeword, found-leader, Sought, found-sought}
+use Rattle.inner_code.proofs.Finding.{found-none, found-codeword, found-kept, Sought, found-sought}
 use Rattle.inner_code.proofs.finder.find_nearest.Statement.{statement}
 use Rattle.inner_code.proofs.finder.find_nearest.Tie as tie
 
@@ -50,21 +50,26 @@ returns-2 c =
 cast-slot : tie.Need-cast-slot
 cast-slot c = search needs
 
+mul-slot : tie.Need-mul-slot
+mul-slot c = search needs
+
 add-slot : tie.Need-add-slot
 add-slot c = search needs
 
-mul-leader : tie.Need-mul-leader
-mul-leader c = search needs
+mul-if3 : tie.Need-mul-if3
+mul-if3 c = search needs
 
-slice-read-leader : tie.Need-slice-read-leader
-slice-read-leader c = search needs
+slice-read-if3 : tie.Need-slice-read-if3
+slice-read-if3 c = search needs
 
-left-of-requires-2 : tie.Need-left-of-requires-2
-left-of-requires-2 c κs = search needs
+add-put-on : tie.Need-add-put-on
+add-put-on c = search needs
 
--- the word that is left, from where the leader in its slot is reduced
-abbrev rest : tie.After-left-of2 → tie.Else2
-rest c = c .before .before .before
+mul-put-on : tie.Need-mul-put-on
+mul-put-on c = search needs
+
+slice-read-put-on : tie.Need-slice-read-put-on
+slice-read-put-on c = search needs
 
 put-on-requires-3 : tie.Need-put-on-requires-3
 put-on-requires-3 c κs = search needs
@@ -75,12 +80,14 @@ same-length-2 c = search needs
 returns-3 : tie.Need-returns-3
 unfolding slotOf
 returns-3 c =
-    let leader = c .before .before in
-    let reduced = rest leader .before in
+    let rest = c .before .before .before .before in
+    let reduced = rest .before in
     let args = start (test reduced) .args in
-    let found = found-leader (now (args .finder)) (args .word) (test reduced .if1 .left) (reduced .left-of .result) (reduced .left-of .ensures)
-    (rest leader .if2 .left) (sym (leader .left-of2 .ensures) ∙ c .before .if3 .taken) in
+    let found = found-kept (now (args .finder)) (args .word) (test reduced .if1 .left) (reduced .left-of .result) (reduced .left-of .ensures)
+    (rest .if2 .left) (c .before .before .if3 .taken) in
     (c .put-on3 .ensures ∙ ap (stepTo (args .word)) (found .0), found .1)
+
+-- ---- where no pattern is at hand
 
 seek-requires : tie.Need-seek-requires
 seek-requires c κs = search needs
@@ -97,10 +104,8 @@ shl-if4 c = search needs
 same-length-3 : tie.Need-same-length-3
 same-length-3 c = search needs
 
--- ---- where no leader is at hand
-
 abbrev reduction : tie.After-seek → tie.After-left-of
-reduction c = rest (c .before .before .before) .before
+reduction c = c .before .before .before .before .before
 
 abbrev call : tie.After-seek → tie.Start
 call c = start (test (reduction c))
@@ -108,10 +113,9 @@ call c = start (test (reduction c))
 sought : (c : tie.After-seek) → Sought (now (call c .args .finder)) (reduction c .left-of .result) (call c .args .word)
 unfolding slotOf
 sought c =
-    let leader = c .before .before .before in
     let reduced = reduction c in
     found-sought (now (call c .args .finder)) (call c .args .word) (test reduced .if1 .left) (reduced .left-of .result)
-    (reduced .left-of .ensures) (rest leader .if2 .left) (λ e. c .before .before .if3 .left (leader .left-of2 .ensures ∙ e))
+    (reduced .left-of .ensures) (c .before .before .before .before .if2 .left) (c .before .before .if3 .left)
 
 step : (c : tie.After-seek) → c .seek .result ≡ stepTo (call c .args .word) (foundWord (now (call c .args .finder)) (call c .args .word))
 step c = c .seek .ensures ∙ ap (stepTo (call c .args .word)) (sought c .word)
@@ -131,6 +135,15 @@ mul-finder c = search needs
 slice-write-finder : tie.Need-slice-write-finder
 slice-write-finder c = search needs
 
+add-finder : tie.Need-add-finder
+add-finder c = search needs
+
+mul-finder-2 : tie.Need-mul-finder-2
+mul-finder-2 c = search needs
+
+slice-write-finder-2 : tie.Need-slice-write-finder-2
+slice-write-finder-2 c = simp length-set (search needs)
+
 same-length-4 : tie.Need-same-length-4
 same-length-4 c = search needs
 
@@ -138,9 +151,10 @@ returns-5 : tie.Need-returns-5
 unfolding slotOf
 returns-5 c =
     let seeking = c .before .before .before .before in
-    let args = call seeking .args in (
+    let args = call seeking .args in
+    let left = reduction seeking .left-of .result in (
       step seeking,
-      ap (λ (x : ℕ). set (now (args .finder)) (544 + slotOf (reduction seeking .left-of .result)) (bitXor (args .word) x))
+      ap (λ (x : ℕ). set (set (now (args .finder)) (544 + 2 * slotOf left) left) (544 + 2 * slotOf left + 1) (bitXor (args .word) x))
           (step-word (args .word) _ (seeking .seek .ensures))
           ∙ sought seeking .kept (rw (limit (c .before .before)) at (c .before .if4 .left)),
     )
@@ -156,10 +170,13 @@ find-nearest-spec =
     same-length
     returns-2
     cast-slot
+    mul-slot
     add-slot
-    mul-leader
-    slice-read-leader
-    left-of-requires-2
+    mul-if3
+    slice-read-if3
+    add-put-on
+    mul-put-on
+    slice-read-put-on
     put-on-requires-3
     same-length-2
     returns-3
@@ -171,5 +188,8 @@ find-nearest-spec =
     returns-4
     mul-finder
     slice-write-finder
+    add-finder
+    mul-finder-2
+    slice-write-finder-2
     same-length-4
     returns-5)

@@ -1,4 +1,5 @@
 -- `inner_code::seek` meets its contract: by the pattern of a single one where there is one, and else by a search.
+use Prim.Native.Nat.{ℕ, _%_}
 use mathlib.Core.Path.{sym, ap, _∙_}
 use borrow.Author.Needs.{needs}
 use denote.Ref.{now}
@@ -22,6 +23,9 @@ returns c =
     ∙ ap (stepTo (args .word))
     (sym (sought-searched (now (args .finder)) (args .left) (args .word) (sym (tried .single-pattern .ensures) ∙ c .before .if1 .taken)))
 
+cast-put-on : tie.Need-cast-put-on
+cast-put-on c = search needs
+
 put-on-requires : tie.Need-put-on-requires
 put-on-requires c κs = search needs
 
@@ -31,8 +35,16 @@ returns-2 c =
     let args = tried .before .before .args in
     c .put-on .ensures
     ∙ ap (stepTo (args .word))
-    (ap (bitXor (args .word)) (tried .single-pattern .ensures)
+    (ap (λ (x : ℕ). bitXor (args .word) (x % 65536)) (tried .single-pattern .ensures)
     ∙ sym (sought-single (now (args .finder)) (args .left) (args .word) (λ e. c .before .if1 .left (tried .single-pattern .ensures ∙ e))))
 
 pub seek-spec : {M : Type 1} → statement M
-seek-spec = tie.close (tie.spec single-pattern-requires search-requires returns put-on-requires returns-2)
+seek-spec =
+    tie.close
+    (tie.spec
+    single-pattern-requires
+    search-requires
+    returns
+    cast-put-on
+    put-on-requires
+    returns-2)

@@ -1,21 +1,21 @@
--- `inner_code::single_pattern` meets its contract: of no power of 2 before the one that is tried do the rows leave the same.
-use mathlib.Core.Path.{_≡_, sym, ap, _∙_}
-use Prim.Native.Nat.{ℕ, _-_, _^_, _<_, _≤_}
-use borrow.Author.Count.{below-more}
+-- `inner_code::single_pattern` meets its contract: after b turns `found` tells of the powers of 2 below 2^b.
+use mathlib.Core.Logic.{⊎-elim}
+use mathlib.Core.Path.{_≡_, sym, ap, ap₂, _∙_}
+use Prim.Native.Nat.{_-_, _≤_}
 use borrow.Author.Needs.{needs}
 use native.Mathlib.Omega.{arith}
 use denote.Ref.{now}
-use Rattle.inner_code.specs.Finding.{leftIn, digitsIn}
+use Rattle.inner_code.specs.Finding.{leftIn, singleMore, singleBelow}
 use Rattle.bits.proofs.Windows.{shifted-one}
-use Rattle.inner_code.proofs.Finding.{single-few, single-met, single-none}
+use Rattle.inner_code.proofs.Finding.{single-few, single-all, single-start, single-met, single-missed}
 use Rattle.inner_code.proofs.finder.single_pattern.Statement.{statement}
 use Rattle.inner_code.proofs.finder.single_pattern.Tie as tie
 
 abbrev Inv-loop : tie.InvT-loop
-Inv-loop finder left digits b₀ b = (b ≤ digits) × ((a : ℕ) → a < b → leftIn finder (2 ^ a) ≡ left → ⊥)
+Inv-loop finder left digits found₀ b₀ found b = (b ≤ digits) × (found ≡ singleBelow finder left b)
 
 abbrev μ-loop : tie.MeasureT-loop
-μ-loop finder left digits b₀ b = digits - b
+μ-loop finder left digits found₀ b₀ found b = digits - b
 
 shared-slice-read-if1 : tie.Need-shared-slice-read-if1 Inv-loop μ-loop
 shared-slice-read-if1 c = search needs
@@ -29,7 +29,7 @@ digits-in-requires : tie.Need-digits-in-requires Inv-loop μ-loop
 digits-in-requires c κs = search needs
 
 loop-holds : tie.Need-loop-holds Inv-loop μ-loop
-loop-holds c = (search needs, λ a l. absurd (omega arith))
+loop-holds c = (search needs, single-start _ _)
 
 cast-pattern : tie.Need-cast-pattern Inv-loop μ-loop
 cast-pattern c = search needs
@@ -40,19 +40,8 @@ shl-pattern c = search needs
 left-of-requires : tie.Need-left-of-requires Inv-loop μ-loop
 left-of-requires c κs = search needs
 
--- the call, from the loop on
-abbrev start : tie.At-loop Inv-loop μ-loop → tie.Start Inv-loop μ-loop
-start c = c .before .before .before .before .before
-
-returns-2 : tie.Need-returns-2 Inv-loop μ-loop
-returns-2 c =
-    let tried = c .before in
-    let head = tried .before .before in
-    let args = start head .args in
-    let b-lt : head .loop .b < digitsIn (now (args .finder)) = omega (arith, head .before .digits-in .ensures) in
-    let is = shifted-one (head .loop .b) 16 (omega arith) in
-    is ∙ sym (single-met (now (args .finder)) (args .left) (omega arith) (head .loop .b) b-lt (head .loop .inv .1)
-    (ap (leftIn (now (args .finder))) (sym is) ∙ sym (tried .left-of .ensures) ∙ c .if2 .taken))
+single-more-requires : tie.Need-single-more-requires Inv-loop μ-loop
+single-more-requires c κs = search needs
 
 add-b : tie.Need-add-b Inv-loop μ-loop
 add-b c = search needs
@@ -60,23 +49,32 @@ add-b c = search needs
 loop-less : tie.Need-loop-less Inv-loop μ-loop
 loop-less c = search needs
 
+-- the call, from the loop on
+abbrev start : tie.At-loop Inv-loop μ-loop → tie.Start Inv-loop μ-loop
+start c = c .before .before .before .before .before
+
 loop-again : tie.Need-loop-again Inv-loop μ-loop
 loop-again c =
     let tried = c .before in
     let head = tried .before .before in
     let args = start head .args in
-    let is = shifted-one (head .loop .b) 16 (omega arith) in (
+    let is = shifted-one (head .loop .b) 16 (omega arith) in
+    let left = tried .left-of .ensures ∙ ap (leftIn (now (args .finder))) is in (
       search needs,
-      below-more _ _ (head .loop .inv .1)
-          (λ e. c .if2 .left (tried .left-of .ensures ∙ ap (leftIn (now (args .finder))) is ∙ e)),
+      ⊎-elim
+          (λ w. w .2 ∙ w .1 .ensures ∙ ap₂ singleMore (head .loop .inv .1) is
+          ∙ single-met (now (args .finder)) (args .left) (head .loop .b) (sym left ∙ w .0 .taken))
+          (λ w. w .1 ∙ head .loop .inv .1 ∙ single-missed (now (args .finder)) (args .left) (head .loop .b) (λ e. w .0 .left (left ∙ e)))
+          (c .if2 .came),
     )
 
-returns-3 : tie.Need-returns-3 Inv-loop μ-loop
-returns-3 c =
+returns-2 : tie.Need-returns-2 Inv-loop μ-loop
+returns-2 c =
     let head = c .before in
     let args = start head .args in
-    sym (single-none (now (args .finder)) (args .left) (omega arith)
-    (λ a l. head .loop .inv .1 a (omega (arith, head .before .digits-in .ensures))))
+    let all : head .loop .b ≡ head .before .digits-in .result = omega arith in
+    head .loop .inv .1 ∙ ap (singleBelow (now (args .finder)) (args .left)) (all ∙ head .before .digits-in .ensures)
+    ∙ sym (single-all (now (args .finder)) (args .left) (omega (arith, head .before .before .if1 .left)))
 
 pub single-pattern-spec : {M : Type 1} → statement M
 single-pattern-spec =
@@ -91,8 +89,8 @@ single-pattern-spec =
     cast-pattern
     shl-pattern
     left-of-requires
-    returns-2
+    single-more-requires
     add-b
     loop-less
     loop-again
-    returns-3)
+    returns-2)
