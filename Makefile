@@ -1,6 +1,6 @@
 # make run       proves and builds everything, writes the margin sheets of two built-in plans and carries a caption over a simulated link
 # make test      the gate: every proof, every wrong program refused, every stored run, the C host's tests
-# make bench     the library beside plain C; make bench EXPERT=FILE also beside the decoder expert_decode in that C file
+# make bench     the library beside plain C; make bench EXPERT=FILE also beside the decoder expert_decode8 in that C file
 # make install   the library, its header and pkg-config file, the program margin and its man page, below PREFIX
 # make uninstall takes them away again
 SHELL = /bin/bash

@@ -128,18 +128,24 @@ static int is_word(const code *c, unsigned word)
     return 0;
 }
 
-/* Also adds the ones of the pattern to `changed`: the search has them at hand. */
+/* The word stays as it is where more than one pattern has the fewest ones. Also adds the bits changed to `changed`: the search
+ * has them at hand. */
 static unsigned nearest(const code *c, unsigned word, unsigned *changed)
 {
-    unsigned best = 0, fewest = 17;
+    unsigned best = 0, fewest = 17, ways = 0;
     for (size_t m = 0; m < c->count; m++) {
         unsigned pattern = c->words[m] ^ word;
         unsigned ones = (unsigned)__builtin_popcount(pattern);
-        if (ones < fewest || (ones == fewest && pattern < best)) {
+        if (ones < fewest) {
             fewest = ones;
             best = pattern;
+            ways = 1;
+        } else if (ones == fewest) {
+            ways++;
         }
     }
+    if (ways != 1)
+        return word;
     *changed += fewest;
     return word ^ best;
 }
@@ -198,6 +204,7 @@ int plain_decode(const uint8_t *left_sheet, size_t left_sheet_bytes, const uint8
         return 14;
     memcpy(output, received, received_bytes);
     for (size_t count = 0;; count++) {
+        /* both sides, also the one just swept, which may hold ties */
         if (is_codeword(&p, wiring, output)) {
             *sweeps = count;
             return 0;

@@ -5,7 +5,7 @@
 #include <stddef.h>
 #include <stdint.h>
 
-/* The nearest word by search over the codewords, and the bits that it changed. */
+/* The nearest word by search over the codewords, the word as it is at a tie, and the bits that it changed. */
 int plain_nearest_word(const uint8_t *sheet, size_t sheet_bytes, uint64_t word, uint64_t *nearest_word, uint64_t *changed);
 
 /* The straightforward port of the paper: nearest word by search over the codewords, both sides tested before each sweep. The

@@ -119,8 +119,8 @@ static size_t message_bits(void)
 }
 
 /* The meter: a line a sweep, with a mark for each bit that the sweep changed. Dots fill the bar up to the flips that are
- * covered, so that it can be seen how much of the margin the link takes. The sweeps made are `limit` where the block is
- * unsettled. */
+ * covered, so that it can be seen how much of the margin the link takes. Two flips on one carrier are a tie: the carrier waits,
+ * and the time slots change these bits in a later sweep. The sweeps made are `limit` where the block is unsettled. */
 #define LONGEST_BAR 60
 
 static void show_meter(const lembikat_decode_answer *answer, uint64_t limit, size_t covered)

@@ -1,6 +1,6 @@
 /* The services as documents 01 and 02 state them, by the plainest means: codewords are listed, the nearest word and the test
- * try all of them, a block is held with one byte a bit, what a sweep changed is counted on the blocks before and after it, the
- * spread fills a table of all pairs of vertices. */
+ * try all of them, the patterns with the fewest ones are counted, a block is held with one byte a bit, what a sweep changed is
+ * counted on the blocks before and after it, the spread fills a table of all pairs of vertices. */
 #include "reference.h"
 
 #include <stdio.h>
@@ -181,20 +181,24 @@ static int is_inner_codeword(const code *c, unsigned word)
     return 0;
 }
 
-/* Every codeword is tried; the pattern that leads to it has to be lighter, or as light and smaller, than the best so far. */
+/* One pattern leads to each codeword. Those with the fewest ones are counted: if there is exactly one, it is put on the word;
+ * if there are more, a tie, the word stays as it is. */
 static unsigned nearest(const code *c, unsigned word)
 {
-    unsigned best = word; /* leads to the codeword 0, which is always there */
-    unsigned best_ones = ones(best);
+    unsigned fewest = c->d; /* no pattern has more ones */
+    for (size_t j = 0; j < c->words; j++)
+        if (ones(word ^ c->word[j]) < fewest)
+            fewest = ones(word ^ c->word[j]);
+    unsigned found = 0;
+    size_t ways = 0;
     for (size_t j = 0; j < c->words; j++) {
         unsigned pattern = word ^ c->word[j];
-        unsigned pattern_ones = ones(pattern);
-        if (pattern_ones < best_ones || (pattern_ones == best_ones && pattern < best)) {
-            best = pattern;
-            best_ones = pattern_ones;
+        if (ones(pattern) == fewest) {
+            found = pattern;
+            ways++;
         }
     }
-    return word ^ best;
+    return ways == 1 ? word ^ found : word;
 }
 
 static lembikat_answer first_unsatisfied(const graph *g, const uint8_t *bit)
@@ -230,7 +234,8 @@ static unsigned differences(const uint8_t *bit, const uint8_t *other, size_t bit
     return count;
 }
 
-/* The whole block is tested before each sweep, and kept, so that it can be compared with the block after the sweep. */
+/* The whole block, both sides of it, is tested at every count from 0 to the limit: the side just swept may hold ties, so that
+ * its vertices need not read codewords. It is kept before each sweep, so that it can be compared with the block after it. */
 static lembikat_answer settle(const graph *g, size_t limit, uint8_t *bit, uint16_t *sums)
 {
     static uint8_t before[MAX_EDGES];

@@ -756,52 +756,63 @@ static call decoder_call(uint64_t limit)
     return c;
 }
 
-/* A chain: each vertex reads two bits that must be alike and, where they are not, gives its second bit the value of the first.
- * A 1 at the head is handed on by one place in each sweep, so the block settles only after 2n - 2 sweeps, or 2n - 1 where the
- * first to hand it on is a right vertex. The last bit hears from the head too, and is changed to and fro until the 1 arrives:
- * sweep 1 changes one bit, every later one two. */
+/* A chain: each vertex reads four bits that must be alike, and a fifth that may be anything. Two of the four are ones from the
+ * start; one comes from the vertex before it in the chain and one goes to the vertex after it, and these are 0 but for the
+ * first of them all, the head, whose other end is a fifth bit. Where two of four are ones there is a tie, and the vertex waits:
+ * only when the bit from the vertex before has become 1 does it read three ones, and then it hands the 1 on. The sides take
+ * turns along the chain, so that each sweep changes one bit, in one vertex, and all vertices behind it, on both sides, still
+ * wait. The block settles only after 2n sweeps, or 2n + 1 where the head is at a right vertex: sweep 1 then changes nothing. */
 static void chain_call(size_t n, int right_first, size_t limit)
 {
     static size_t calls;
-    size_t count = right_first ? 2 * n - 1 : 2 * n - 2, made = count <= limit ? count : limit;
-    set_plan(pair_code, pair_code, n);
-    for (size_t v = 0; v < n; v++) {
-        put_pair(wiring, 2 * v, 2 * v + 1);
-        put_pair(wiring, 2 * v + 1, 2 * v + 2);
-    }
-    if (right_first) { /* from bit 0 by right vertex 0 to bit 2, .. to bit 2n - 1, by the last right vertex to bit 1 */
-        put_pair(wiring, 0, 0);
-        put_pair(wiring, 2 * n - 1, 1);
-    } else { /* from bit 0 by left vertex 0 to bit 1, .. by the last left vertex to bit 2n - 1 */
-        put_pair(wiring, 2 * n - 2, 0);
-        put_pair(wiring, 2 * n - 1, 2 * n - 1);
-    }
+    const side code = {.d = 5, .k = 2, .row = {0x1e, 0x01}};
+    size_t count = right_first ? 2 * n + 1 : 2 * n, made = count <= limit ? count : limit;
+    set_plan(code, code, n);
+    /* Left vertex u has its bit from the vertex before, that to the vertex after, its two ones, its fifth. Right vertex v has
+     * the ones and, as a rule, the fifth of left vertex v. */
     memset(first, 0, plan.block);
-    flip(first, 0);
+    for (size_t v = 0; v < n; v++) {
+        const size_t from = 5 * v, to = 5 * v + 1, last = v + 1 == n;
+        if (right_first) { /* right vertex v is before left vertex v; the head is the fifth bit of the last left vertex */
+            put_pair(wiring, 5 * v, v == 0 ? 5 * n - 1 : to - 5);
+            put_pair(wiring, 5 * v + 1, from);
+            put_pair(wiring, 5 * v + 4, last ? to : 5 * v + 4);
+        } else { /* left vertex v is before right vertex v; the head, bit 0, is the fifth bit of the last right vertex */
+            put_pair(wiring, 5 * v, to);
+            put_pair(wiring, 5 * v + 1, last ? 5 * n - 1 : from + 5);
+            put_pair(wiring, 5 * v + 4, last ? 0 : 5 * v + 4);
+        }
+        put_pair(wiring, 5 * v + 2, 5 * v + 2);
+        put_pair(wiring, 5 * v + 3, 5 * v + 3);
+        flip(first, 5 * v + 2);
+        flip(first, 5 * v + 3);
+    }
+    flip(first, right_first ? 5 * n - 1 : 0);
     call c = decoder_call(limit);
     compare("chain", calls++, &c);
 
     int right = by_library.answer.number == (count <= limit ? LEMBIKAT_DONE : LEMBIKAT_UNSETTLED) &&
                 by_library.answer.value == (count <= limit ? count : 0);
     for (size_t i = 0; i < LEMBIKAT_SUMS; i++)
-        right &= by_library.sums[i] == (i >= made ? 0 : i == 0 ? 1 : 2);
+        right &= by_library.sums[i] == (i >= made ? 0 : i == 0 && right_first ? 0 : 1);
     if (failed(!right)) {
         printf("FAILED: chain of n %zu with limit %zu, which settles after %zu sweeps\n", n, limit, count);
         show("library  ", &c, &by_library);
     }
 }
 
-/* Counts and limits below, at and above the sweeps whose sums are told, and the latest count of all chains. */
+/* Counts and limits below, at and above the sweeps whose sums are told, and the largest limit of all. */
 static void chain_calls(void)
 {
-    static const size_t sizes[] = {2, 3, 31, 32, 33, 34}, limits[] = {0, 1, 2, 3, 62, 63, 64, 65, 66, 67, LEMBIKAT_MAX_LIMIT};
+    static const size_t sizes[] = {1, 2, 3, 30, 31, 32, 33},
+                        limits[] = {0, 1, 2, 3, 4, 60, 61, 62, 63, 64, 65, 66, 67, 68, LEMBIKAT_MAX_LIMIT};
     for (size_t i = 0; i < sizeof sizes / sizeof sizes[0]; i++)
         for (size_t j = 0; j < sizeof limits / sizeof limits[0]; j++) {
             chain_call(sizes[i], 0, limits[j]);
             chain_call(sizes[i], 1, limits[j]);
         }
-    chain_call(LEMBIKAT_MAX_VERTICES, 1, LEMBIKAT_MAX_LIMIT - 2);
-    chain_call(LEMBIKAT_MAX_VERTICES, 1, LEMBIKAT_MAX_LIMIT - 1);
+    chain_call(LEMBIKAT_MAX_VERTICES, 0, LEMBIKAT_MAX_LIMIT - 1);
+    chain_call(LEMBIKAT_MAX_VERTICES, 0, LEMBIKAT_MAX_LIMIT);
 }
 
 /* The largest sum: at each of 2,048 vertices the word is sixteen ones, the codewords are zero and a lone 1, and 15 bits are
@@ -828,49 +839,53 @@ static void largest_sums(void)
     largest_sum(2, and_all_ones, lone_one);
 }
 
-/* A lone vertex that reads no codeword, on a side with more vertices than the other has. Its code is the pair code, and
- * whatever the other side reads is a codeword. The locator must name it, and the decoder mend it in the side's own first sweep.
- */
-static void lone_vertex_call(int right, size_t n, unsigned other_d, size_t vertex)
+/* A lone vertex that reads no codeword, on a side with more vertices than the other has. Its bits must be alike, and whatever
+ * the other side reads is a codeword. The locator must name it. Of three bits the decoder mends the one that is flipped, in the
+ * side's own first sweep; with two bits there is a tie, which stays. */
+static void lone_vertex_call(int right, unsigned d, size_t n, unsigned other_d, size_t vertex)
 {
     if (right) {
-        set_plan(free_code(other_d), pair_code, n * 2 / other_d);
+        set_plan(free_code(other_d), alike_code(d), n * d / other_d);
         for (size_t i = 0; i < plan.edges; i++) /* from the last edge down, so that a vertex's edges are not its number's */
             put_pair(wiring, i, plan.edges - 1 - i);
     } else {
-        set_plan(pair_code, free_code(other_d), n);
+        set_plan(alike_code(d), free_code(other_d), n);
         lay_in_order();
     }
     memset(first, 0, plan.block);
-    flip(first, right ? plan.edges - 1 - 2 * vertex : 2 * vertex); /* its first bit */
+    flip(first, right ? plan.edges - 1 - d * vertex : d * vertex); /* its first bit */
     call c = plan_call(3);
     c.field[FIRST] = (bytes){first, plan.block};
     compare("lone vertex", vertex, &c);
     must_answer("lone vertex", &c, LEMBIKAT_DONE, right ? LEMBIKAT_RIGHT : LEMBIKAT_LEFT, vertex);
     c = decoder_call(2);
     compare("lone vertex", vertex, &c);
-    must_answer("lone vertex", &c, LEMBIKAT_DONE, 0, right ? 2 : 1);
+    if (d == 2)
+        must_answer("lone vertex", &c, LEMBIKAT_UNSETTLED, 0, 0);
+    else
+        must_answer("lone vertex", &c, LEMBIKAT_DONE, 0, right ? 2 : 1);
 }
 
 static void lone_vertex_calls(void)
 {
-    for (int right = 0; right < 2; right++) {
-        for (size_t vertex = 0; vertex < 33; vertex++)
-            lone_vertex_call(right, 33, 11, vertex);
-        for (size_t vertex = 255; vertex < LEMBIKAT_MAX_VERTICES; vertex = 2 * vertex + 1)
-            lone_vertex_call(right, LEMBIKAT_MAX_VERTICES, 8, vertex);
-    }
+    for (int right = 0; right < 2; right++)
+        for (unsigned d = 2; d <= 3; d++) {
+            for (size_t vertex = 0; vertex < 33; vertex++)
+                lone_vertex_call(right, d, 33, 11, vertex);
+            for (size_t vertex = 255; vertex < LEMBIKAT_MAX_VERTICES; vertex = 2 * vertex + 1)
+                lone_vertex_call(right, d, LEMBIKAT_MAX_VERTICES, 8, vertex);
+        }
 }
 
-/* Sheets that differ though n and d are equal, and the same two swapped. Vertex 0 of each side reads 10, which is no codeword
- * of the pair code alone; the side that has this code is located, and its first sweep mends it. */
+/* Sheets that differ though n and d are equal, and the same two swapped. Vertex 0 of each side reads 100, which is no codeword
+ * where bits must be alike; the side that has this code is located, and its first sweep mends it. */
 static void sheet_calls(void)
 {
     for (int swapped = 0; swapped < 2; swapped++) {
         if (swapped)
-            set_plan(free_code(2), pair_code, 2);
+            set_plan(free_code(3), alike_code(3), 2);
         else
-            set_plan(pair_code, free_code(2), 2);
+            set_plan(alike_code(3), free_code(3), 2);
         lay_in_order();
         first[0] = 0x80;
         call c = plan_call(3);
@@ -880,6 +895,129 @@ static void sheet_calls(void)
         c = decoder_call(2);
         compare("sheets", (size_t)swapped, &c);
         must_answer("sheets", &c, LEMBIKAT_DONE, 0, swapped ? 2 : 1);
+    }
+}
+
+/* Every word of a sheet, beside the reference, and how many words stay: the codewords and, by the number given, the ties. */
+static void all_words_of(const char *name, side s, size_t ties)
+{
+    size_t words = (size_t)1 << s.d, stay = 0, differ = 0, last_word = 0;
+    put_sheet(left_sheet, &s);
+    for (size_t word = 0; word < words; word++) {
+        lembikat_word_answer a = lembikat_nearest_word(left_sheet, sheet_size(&s), word);
+        lembikat_word_answer b = reference_nearest_word(left_sheet, sheet_size(&s), word);
+        stay += a.number == LEMBIKAT_DONE && a.value == word && a.changed == 0;
+        if (a.number != b.number || a.place != b.place || a.value != b.value || a.changed != b.changed) {
+            last_word = word;
+            differ++;
+        }
+    }
+    if (failed(differ != 0))
+        printf("FAILED: all words of %s: %zu are not as in the reference, the last of them %zx\n", name, differ, last_word);
+    if (failed(stay != ((size_t)1 << s.k) + ties))
+        printf("FAILED: all words of %s: %zu stay, not the %zu codewords and %zu ties\n", name, stay, (size_t)1 << s.k, ties);
+}
+
+/* One word of one sheet, and what comes of it. */
+static void word_call(side s, unsigned word, unsigned value, unsigned changed)
+{
+    set_plan(s, s, 1);
+    call c = plan_call(1);
+    c.field[RIGHT_SHEET] = c.field[WIRING] = (bytes){NULL, 0};
+    c.number = word;
+    compare("word", word, &c);
+    must_answer("word", &c, LEMBIKAT_DONE, 0, value);
+    if (failed(by_library.changed != changed))
+        printf("FAILED: of word %x %llu bits are changed, not %u\n", word, (unsigned long long)by_library.changed, changed);
+}
+
+/* Words that are known, and all words of some sheets. How many ties there are: with all bits alike the words that have as many
+ * ones as zeros, so none if d is odd. The code of 7 bits is perfect: each word is a codeword or one bit from one alone. The
+ * house code and the one with 11 rows are perfect codes with a parity bit: the words two bits away tie, 7 and 15 classes of
+ * them. With 5 rows a word more than 3 bits away ties, since any four bits are half of the eight ones of some codeword. Of the
+ * last two codes some words three bits away have one nearest codeword and some have more; these were counted from the codewords
+ * outwards, a bit at a time. */
+static void word_calls(void)
+{
+    const side house = {.d = 8, .k = 4, .row = {0xff, 0x0f, 0x33, 0x55}};
+    const side perfect = {.d = 7, .k = 4, .row = {0x0b, 0x16, 0x2c, 0x58}};
+    const side rows_5 = {.d = 16, .k = 5, .row = {0x5555, 0x3333, 0x0f0f, 0x00ff, 0xffff}};
+    const side rows_11 = {
+        .d = 16, .k = 11, .row = {0x5555, 0x3333, 0x0f0f, 0x00ff, 0xffff, 0x1111, 0x0505, 0x0303, 0x0055, 0x0033, 0x000f}};
+    const side rows_7 = {.d = 16, .k = 7, .row = {0x03a3, 0x0745, 0x0e89, 0x1d11, 0x3a21, 0x7441, 0xe881}};
+    const side odd_d = {.d = 15, .k = 7, .row = {0x01d1, 0x03a2, 0x0744, 0x0e88, 0x1d10, 0x3a20, 0x7440}};
+    word_call(house, 0x01, 0x00, 1);
+    word_call(house, 0x07, 0x0f, 1);
+    word_call(house, 0x03, 0x03, 0);
+    word_call(house, 0xc0, 0xc0, 0);
+    word_call(pair_code, 1, 1, 0);
+    word_call(pair_code, 2, 2, 0);
+    word_call(alike_code(3), 0x4, 0x0, 1);
+    word_call(alike_code(4), 0xe, 0xf, 1);
+    word_call(alike_code(4), 0xc, 0xc, 0);
+
+    all_words_of("the house code", house, 112);
+    all_words_of("16 bits alike", alike_code(16), 12870);
+    all_words_of("15 bits alike", alike_code(15), 0);
+    all_words_of("d 7 k 4", perfect, 0);
+    all_words_of("d 16 k 5", rows_5, 43232);
+    all_words_of("d 16 k 11", rows_11, 30720);
+    all_words_of("d 16 k 7", rows_7, 37760);
+    all_words_of("d 15 k 7", odd_d, 8960);
+}
+
+/* A decoder call on the plan and on what stands in the first block. It must settle after so many sweeps, if the limit is not
+ * below them, or never where that is 0. The sums of sweeps 1 and 2 are given, as far as the limit lets them be made; no later
+ * sweep changes a bit. */
+static void tie_call(uint64_t limit, uint64_t sweeps, unsigned sum_1, unsigned sum_2)
+{
+    static size_t calls;
+    int settles = sweeps != 0 && sweeps <= limit, right = 1;
+    call c = decoder_call(limit);
+    compare("tie", calls++, &c);
+    must_answer("tie", &c, settles ? LEMBIKAT_DONE : LEMBIKAT_UNSETTLED, 0, settles ? sweeps : 0);
+    for (size_t i = 0; i < LEMBIKAT_SUMS; i++)
+        right &= by_library.sums[i] == (i >= limit ? 0 : i == 0 ? sum_1 : i == 1 ? sum_2 : 0);
+    if (failed(!right)) {
+        printf("FAILED: tie: the sums of sweeps 1 and 2 must be %u and %u, limit %llu\n", sum_1, sum_2,
+               (unsigned long long)limit);
+        show("library  ", &c, &by_library);
+    }
+}
+
+/* Ties: the word stays, and as long as some vertex reads it the block is no codeword, whichever side was swept last. */
+static void tie_calls(void)
+{
+    static const uint64_t limits[] = {0, 1, 2, 3, 4, 5, 63, 64, 65, LEMBIKAT_MAX_LIMIT - 1, LEMBIKAT_MAX_LIMIT};
+    for (size_t i = 0; i < sizeof limits / sizeof limits[0]; i++) {
+        for (unsigned block = 0x40; block <= 0x80; block += 0x40) {
+            /* The pair plan: both vertices tie, and nothing is ever changed. */
+            set_plan(pair_code, pair_code, 1);
+            lay_in_order();
+            first[0] = (uint8_t)block;
+            tie_call(limits[i], 0, 0, 0);
+            /* Whatever the right vertex reads is a codeword: the tie is on the side that sweeps 1, 3, .. have just swept. */
+            set_plan(pair_code, free_code(2), 1);
+            tie_call(limits[i], 0, 0, 0);
+            /* Whatever the left vertex reads is one: the tie is on the side that sweeps 2, 4, .. have just swept. */
+            set_plan(free_code(2), pair_code, 1);
+            tie_call(limits[i], 0, 0, 0);
+        }
+        /* Of two left vertices sweep 1 mends the first, 1110, and leaves the second, 1100; on the right all are codewords. */
+        set_plan(alike_code(4), free_code(4), 2);
+        lay_in_order();
+        first[0] = 0xec;
+        tie_call(limits[i], 0, 1, 0);
+        /* Three left vertices of two bits, two right ones of three, one bit flipped: its left vertex waits in sweep 1, and its
+         * right vertex mends it in sweep 2. */
+        set_plan(pair_code, alike_code(3), 3);
+        lay_evenly();
+        first[0] = 0x80;
+        tie_call(limits[i], 2, 0, 1);
+        /* The same with the sides swapped: the left vertex mends it in sweep 1. */
+        set_plan(alike_code(3), pair_code, 2);
+        lay_evenly();
+        tie_call(limits[i], 1, 1, 0);
     }
 }
 
@@ -1803,6 +1941,8 @@ int main(int argc, char **argv)
     largest_sums();
     lone_vertex_calls();
     sheet_calls();
+    word_calls();
+    tie_calls();
     all_count_calls();
     all_fault_calls();
     random_calls();

@@ -76,9 +76,9 @@ extern "C" {
 /* The version, as text (pkg-config tells the same) and as numbers; the last two are below 1,000 each. LEMBIKAT_VERSION_NUMBER
  * rises with every version, the first number where a caller must change its code. A host asks for a version or a later one so:
  *   #if LEMBIKAT_VERSION_AT_LEAST(3, 0, 0) */
-#define LEMBIKAT_VERSION "3.1"
+#define LEMBIKAT_VERSION "3.2"
 #define LEMBIKAT_VERSION_MAJOR 3
-#define LEMBIKAT_VERSION_MINOR 1
+#define LEMBIKAT_VERSION_MINOR 2
 #define LEMBIKAT_VERSION_PATCH 0
 #define LEMBIKAT_VERSION_AS_NUMBER(major, minor, patch) (1000000L * (major) + 1000L * (minor) + (patch))
 #define LEMBIKAT_VERSION_NUMBER                                                                                                \
@@ -142,7 +142,7 @@ typedef struct {
 } lembikat_answer;
 
 /* What lembikat_nearest_word answers: number, place and value as above, and
- *   changed  how many bits of the word it changed, 0 where the word is a codeword; 0 with a refusal
+ *   changed  how many bits of the word it changed, 0 where the word is a codeword or a tie; 0 with a refusal
  */
 typedef struct {
     uint32_t number;
@@ -175,9 +175,11 @@ typedef struct {
 
 /* The calls. All but the nearest word, which needs one sheet alone, begin with the eight parameters of the plan. */
 
-/* The nearest inner codeword of a word of d bits: of all error patterns that turn the word into a codeword the one with
- * fewest ones, of those the smallest as a number, is put on the word.
- *   value: the codeword.  changed: the ones of the pattern.  Refusals: 1 to 6, 12.  Stack: at most 5 KiB. */
+/* The nearest word of a word of d bits. Of all error patterns that turn the word into an inner codeword those with the fewest
+ * ones are taken. If there is exactly one, it is put on the word. If there is more than one, a tie, the word stays as it is: it
+ * is no codeword, and 0 bits are changed. A codeword stays too; the answer does not say which of the two the word was.
+ *   value: the codeword, or the word itself at a tie.  changed: the ones of the pattern, or 0 at a tie.
+ *   Refusals: 1 to 6, 12.  Stack: at most 5 KiB. */
 lembikat_word_answer lembikat_nearest_word(const uint8_t *sheet, size_t sheet_bytes, uint64_t word);
 
 /* The first vertex that reads no inner codeword of its side, the left side before the right, the lowest number first.
@@ -189,9 +191,10 @@ lembikat_answer lembikat_locate(const uint8_t *left_sheet, size_t left_sheet_byt
                                 const uint8_t *block, size_t block_bytes);
 
 /* Decodes a received block. Sweep 1 puts the nearest word of the left code at every left vertex, sweep 2 the nearest word of
- * the right code at every right vertex, and so on; the block settles at the first count from 0 to `limit` after which it is a
- * codeword. A block that differs from a codeword in no more bits than lembikat_margin covers settles at that codeword within
- * the sweeps that it names.
+ * the right code at every right vertex, and so on. Where more than one pattern has the fewest ones a vertex's word stays as it
+ * is for that sweep: it is no codeword, 0 of its bits are changed, and it waits for its neighbours. The block settles at the
+ * first count from 0 to `limit` after which it is a codeword, on both sides. A block that differs from a codeword in no more
+ * bits than lembikat_margin covers settles at that codeword within the sweeps that it names.
  *   output: the settled block at the front; with LEMBIKAT_UNSETTLED the received block; else untouched.  value: the sweeps.
  *   sums: the bits that each of the first 64 sweeps changed, with LEMBIKAT_UNSETTLED too.
  *   Refusals: the plan's, 11, 12, 13, 14, 15.  Stack: at most 90 KiB. */

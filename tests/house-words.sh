@@ -1,6 +1,7 @@
 #!/usr/bin/env bash
-# The 256 house words through the program `vectors`, against GUAVA's list: the nearest word is a codeword, the pattern that leads to it
-# has as few ones as GUAVA found, and as many bits are told to be changed.
+# The 256 house words through the program `vectors`, against GUAVA's list. Where GUAVA found one pattern with the fewest ones, the nearest
+# word is a codeword, the pattern that leads to it has as few ones, and as many bits are told to be changed. Where it found more than one,
+# a tie, the word stays and no bit is told to be changed. There are 112 ties: a list without them would not test the second half.
 set -u
 cd "$(dirname "$0")/.." || exit 1
 
@@ -29,8 +30,17 @@ stream | target/bin/vectors | paste - tests/house-words-guava.jsonl | awk '
     {
         match($0, /"word": [0-9]+/); word = substr($0, RSTART + 8, RLENGTH - 8) + 0
         match($0, /"fewest": [0-9]+/); fewest = substr($0, RSTART + 10, RLENGTH - 10) + 0
-        # the bits changed are compared as text, so that a missing word is not taken for 0
-        right = $1 == "ok" && word == NR - 1 && ($2 in codeword) && ones(xor(word, $2 + 0)) == fewest && $3 "" == fewest ""
-        if (!right) { print "wrong: " $0; wrong++ }
+        match($0, /"ways": [0-9]+/); ways = substr($0, RSTART + 8, RLENGTH - 8) + 0
+        # the word and the bits changed are compared as text, so that a missing word is not taken for 0
+        if (ways == 1) {
+            right = ($2 in codeword) && ones(xor(word, $2 + 0)) == fewest && $3 "" == fewest ""
+        } else {
+            right = ways > 1 && !(word in codeword) && $2 "" == word "" && $3 "" == "0"
+            ties++
+        }
+        if (!right || $1 != "ok" || word != NR - 1) { print "wrong: " $0; wrong++ }
     }
-    END { exit (NR != 256 || wrong > 0) }'
+    END {
+        if (NR != 256 || ties != 112) { print NR " words and " ties + 0 " ties, not 256 and 112"; wrong++ }
+        exit (wrong > 0)
+    }'

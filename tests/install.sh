@@ -10,7 +10,7 @@ make -s install PREFIX="$prefix"
 sed -n '/^```c$/,/^```$/p' README.md | sed '1d;$d' >"$prefix/example.c"
 export PKG_CONFIG_PATH="$prefix/lib/pkgconfig"
 gcc -Wall -Wextra -Werror "$prefix/example.c" $(pkg-config --cflags --libs lembikat) -o "$prefix/example"
-[ "$("$prefix/example")" = 'settled as C0 after 1 sweep' ]
+[ "$("$prefix/example")" = 'settled as E0 after 1 sweep' ]
 
 printf '\002\001\000\003\002\001\000\003\000\001\000\001\000\000\000\001' | "$prefix/bin/margin" |
     diff - <(printf 'n 1 1 d 2 2 k 1 1 distance 2 2 spread 0\n0 1\nbeyond 1\n')
