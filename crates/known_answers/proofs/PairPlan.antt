@@ -1,6 +1,6 @@
 -- Byte 80 of the pair plan, at every limit: its one vertex a side reads a tie, so no sweep changes it, and it never settles.
 --   received     the byte, as the block received
---   pair-waits   the decoder's answer, its sums and its output, at every limit up to 4,096
+--   pair-waits   the decoder's answer, its sums and its output, at every limit up to 4,096; pair-waits-longest: its answer at that one
 use Prim.Native.Nat.{ℕ, _+_, _≤_, zero-le, min}
 use mathlib.Core.Bool.{false}
 use mathlib.Core.List.{List, [], _∷_}
@@ -82,3 +82,7 @@ pair-waits H limited =
           ∙ sym (sums-zero pairPlan received),
       ends .leaves,
     )
+
+-- the row of document 02: 15, with as many sweeps as a call may allow
+pub pair-waits-longest : decodeAnswer pairPlan received (0 ∷ []) 4096 ≡ refused 15 0
+pair-waits-longest = pair-waits 4096 (lit≤ tt) .0
