@@ -269,42 +269,17 @@ module _ {plan : Plan} {received : List ℕ} (b : Begun plan received) where
   ended-same {i} low a none =
       after-ended (sideOf plan) (joined .whole) mends i received low (b .block-done) (sym (after-one-more (sideOf plan) i received) ∙ a .same none)
 
-  -- the block is settled where neither that sweep nor the one before left a tie
-  ended-settled : {H count ties : ℕ} {tally : Tally} {block after sums : List ℕ} → Swept plan received H count ties block sums
-      → Pass plan received count tally after → tally .changed ≡ 0 → ties ≡ 0 → tally .ties ≡ 0 → settledAfter plan received count ≡ true
-  ended-settled {count = count} so-far a none before here =
-      other-side (sideOf plan) (sweptBlock plan count received) (turn count)
-      (ap (firstUnsatisfied (sideOf plan (turn count))) (sym (a .same none)) ∙ a .satisfied-side here)
-      ∙ eq-eqb _ _ (so-far .satisfied-side before)
+  -- both sides satisfied
+  both-satisfied : (i : ℕ) → firstUnsatisfied (sideOf plan (turn i)) (sweptBlock plan i received) ≡ countOf plan (turn i)
+      → firstUnsatisfied (sideOf plan (other (turn i))) (sweptBlock plan i received) ≡ countOf plan (other (turn i))
+      → settledAfter plan received i ≡ true
+  both-satisfied i here there = other-side (sideOf plan) (sweptBlock plan i received) (turn i) here ∙ eq-eqb _ _ there
 
   -- ---- the ways out
 
   abbrev Answer : ℕ → ℕ → List ℕ → List ℕ → Type 0
   Answer H count block sums =
       (count ≡ settlesAt plan received H) × ((sums ≡ sweepSums plan received (min count H)) × (count ≤ H → block ≡ sweptBlock plan count received))
-
-  -- the block settled at `count`, and some more sweeps have not changed it
-  found : (H count more : ℕ) {block sums : List ℕ} → count ≤ H + 1 → ((j : ℕ) → j < count → settledAfter plan received j ≡ false)
-      → settledAfter plan received count ≡ true → block ≡ sweptBlock plan (count + more) received → Told plan received H count sums
-      → Answer H count block sums
-  found H count more h before here e told = (
-    elim (decLe count H) [
-      | yes l ↦ sym (settles-at plan received H count l here before)
-      | no l ↦
-          let past : count ≡ H + 1 = omega arith in
-          past ∙ sym (settles-none plan received H (λ i q. before i (omega arith)))
-    ],
-    (told .sums-are, λ l. e ∙ settled-stays count more here),
-  )
-
-  -- it never settles, and no sweep from some count on changes anything
-  lost : (H i : ℕ) {block sums : List ℕ} → ((j : ℕ) → settledAfter plan received j ≡ false)
-      → ((j : ℕ) → i ≤ j → sweepSum plan received j ≡ 0) → Told plan received H i sums → Answer H (H + 1) block sums
-  lost H i never still told =
-      let all : min (H + 1) H ≡ H = min-eq-right (omega arith) in (
-        sym (settles-none plan received H (λ j q. never j)),
-        (told .sums-are ∙ noted-still plan received H i still ∙ ap (sweepSums plan received) (sym all), λ l. absurd (omega arith)),
-      )
 
   -- later sweeps that change nothing have the sum 0
   still-sums : (i : ℕ) → ((j : ℕ) → sweptBlock plan (i + j) received ≡ sweptBlock plan i received) → (j : ℕ) → i ≤ j → sweepSum plan received j ≡ 0
@@ -316,83 +291,90 @@ module _ {plan : Plan} {received : List ℕ} (b : Begun plan received) where
       let after : sweptBlock plan (j + 1) received ≡ sweptBlock plan i received = ap (λ (x : ℕ). sweptBlock plan x received) next ∙ same (m + 1) in
       ap₂ (flips (edgeCount plan)) here after ∙ flips-none (edgeCount plan) (sweptBlock plan i received)
 
-  -- from a count on, unsettled
-  still-unsettled : (i : ℕ) → ((j : ℕ) → sweptBlock plan (i + j) received ≡ sweptBlock plan i received)
-      → ((j : ℕ) → j < i → settledAfter plan received j ≡ false) → settledAfter plan received i ≡ false
-      → (j : ℕ) → settledAfter plan received j ≡ false
-  still-unsettled i same before here j =
-      elim (decLe i j) [
-        | yes l ↦
-            let (m, is) = le-dest l in
-            ap (λ (x : ℕ). settledAfter plan received x) (sym is) ∙ ap (isCodewordBlock (sideOf plan)) (same m) ∙ here
-        | no l ↦ before j (omega arith)
-      ]
+  -- no sweep from `count` on changes anything: the block settled there where neither side has a tie, or it never does
+  module _ {H count : ℕ} {sums : List ℕ} (same : (j : ℕ) → sweptBlock plan (count + j) received ≡ sweptBlock plan count received)
+      (unsettled : (j : ℕ) → j < count → settledAfter plan received j ≡ false) (high : count ≤ H + 1) (told : Told plan received H count sums) where
+    found : {left : List ℕ} → settledAfter plan received count ≡ true → (more : ℕ) → left ≡ sweptBlock plan (count + more) received → Answer H count left sums
+    found settled more e = (
+      elim (decLe count H) [
+        | yes l ↦ sym (settles-at plan received H count l settled unsettled)
+        | no l ↦
+            let past : count ≡ H + 1 = omega arith in
+            past ∙ sym (settles-none plan received H (λ i q. unsettled i (omega arith)))
+      ],
+      (told .sums-are, λ l. e ∙ same more),
+    )
+
+    never : settledAfter plan received count ≡ false → (j : ℕ) → settledAfter plan received j ≡ false
+    never missed j =
+        elim (decLe count j) [
+          | yes l ↦
+              let (m, is) = le-dest l in
+              ap (λ (x : ℕ). settledAfter plan received x) (sym is) ∙ ap (isCodewordBlock (sideOf plan)) (same m) ∙ missed
+          | no l ↦ unsettled j (omega arith)
+        ]
+
+    lost : {left : List ℕ} → settledAfter plan received count ≡ false → Answer H (H + 1) left sums
+    lost missed =
+        let all : min (H + 1) H ≡ H = min-eq-right (omega arith) in (
+          sym (settles-none plan received H (λ j q. never missed j)),
+          (
+            told .sums-are ∙ noted-still plan received H count (still-sums count same) ∙ ap (sweepSums plan received) (sym all),
+            λ l. absurd (omega arith),
+          ),
+        )
+
+    ended : {before here r : ℕ} {left : List ℕ} → (before ≡ 0 → here ≡ 0 → settledAfter plan received count ≡ true)
+        → ((before ≡ 0 → ⊥) → settledAfter plan received count ≡ false)
+        → ((here ≡ 0 → ⊥) → settledAfter plan received count ≡ false) → (more : ℕ) → left ≡ sweptBlock plan (count + more) received
+        → r ≡ endedAt count before here (H + 1) → Answer H r left sums
+    ended {before} {here} settled tied-before tied-here more e is =
+        elim (ℕ-discrete before 0) [
+          | no some ↦ rw (is ∙ ended-before count before here (H + 1) some) (lost (tied-before some))
+          | yes none ↦
+              elim (ℕ-discrete here 0) [
+                | no some ↦ rw (is ∙ ended-here count before here (H + 1) some) (lost (tied-here some))
+                | yes still ↦ rw (is ∙ ended-none count before here (H + 1) none still) (found (settled none still) more e)
+              ]
+        ]
 
   -- from the second sweep on, one that changes nothing ends it, also where some more are made
   pub settle-ended : {H count ties r : ℕ} {tally : Tally} {block after left sums : List ℕ} → Swept plan received H count ties block sums
       → Pass plan received count tally after → tally .changed ≡ 0 → 1 ≤ count → count ≤ H + 1
       → (more : ℕ) → left ≡ sweptBlock plan (count + more) received → r ≡ endedAt count ties (tally .ties) (H + 1) → Answer H r left sums
-  settle-ended {H} {count} {ties} {r} {tally} {left = left} {sums = sums} so-far a none low high more e told =
-      elim (ℕ-discrete ties 0) [
-        | no some ↦ rw (told ∙ ended-before count ties (tally .ties) (H + 1) some) (never (so-far .tied-block some))
-        | yes before ↦
-            elim (ℕ-discrete (tally .ties) 0) [
-              | no some ↦ rw (told ∙ ended-here count ties (tally .ties) (H + 1) some) (never (a .tied-before some))
-              | yes here ↦
-                  rw (told ∙ ended-none count ties (tally .ties) (H + 1) before here)
-                  (found H count more high (so-far .unsettled) (ended-settled so-far a none before here) e (so-far .told))
-            ]
-      ]
-    where
-      never : settledAfter plan received count ≡ false → Answer H (H + 1) left sums
-      never open-still =
-          let same = ended-same low a none in
-          lost H count (still-unsettled count same (so-far .unsettled) open-still) (still-sums count same) (so-far .told)
+  settle-ended {count = count} so-far a none low high =
+      ended (ended-same low a none) (so-far .unsettled) high (so-far .told)
+      (λ before here. both-satisfied count
+      (ap (firstUnsatisfied (sideOf plan (turn count))) (sym (a .same none)) ∙ a .satisfied-side here) (so-far .satisfied-side before))
+      (so-far .tied-block) (a .tied-before)
 
   -- neither of the first two sweeps changes anything
   pub settle-first : {H r : ℕ} {first second : Tally} {one-left two-left sums : List ℕ} → Pass plan received 0 first one-left
       → Pass plan received 1 second two-left → first .changed ≡ 0 → second .changed ≡ 0 → Told plan received H 1 sums
       → r ≡ endedAt 0 (first .ties) (second .ties) (H + 1) → Answer H r two-left sums
-  settle-first {H} {r} {first} {second} {two-left = two-left} {sums = sums} one two none still told is =
-      elim (ℕ-discrete (first .ties) 0) [
-        | no some ↦ rw (is ∙ ended-before 0 (first .ties) (second .ties) (H + 1) some) (never (one .tied-after some))
-        | yes before ↦
-            elim (ℕ-discrete (second .ties) 0) [
-              | no some ↦ rw (is ∙ ended-here 0 (first .ties) (second .ties) (H + 1) some) (never (two .tied-before some))
-              | yes here ↦
-                  rw (is ∙ ended-none 0 (first .ties) (second .ties) (H + 1) before here)
-                  (found H 0 2 zero-le (λ j l. absurd (omega arith)) (ap (isCodewordBlock (sideOf plan)) (sym (one .same none)) ∙ settled before here)
-                  (two .leaves) (record { sums-are = told .sums-are ∙ first-still }))
-            ]
-      ]
+  unfolding turn
+  settle-first {H} {first = first} {second} one two none still told =
+      ended same (λ j l. absurd (omega arith)) zero-le (record { sums-are = told .sums-are ∙ first-sum })
+      (λ before here. both-satisfied 0
+      (ap (firstUnsatisfied (sideOf plan (turn 0))) (sym (one .same none)) ∙ one .satisfied-side before)
+      (ap (firstUnsatisfied (sideOf plan (turn 1))) (sym (two .same still ∙ one .same none)) ∙ two .satisfied-side here))
+      (one .tied-before) (λ some. ap (isCodewordBlock (sideOf plan)) (sym (one .same none)) ∙ two .tied-before some) 2 (two .leaves)
     where
-      same : (j : ℕ) → sweptBlock plan (1 + j) received ≡ sweptBlock plan 1 received
-      same = ended-same (le-refl 1) two still
-
-      never : settledAfter plan received 1 ≡ false → Answer H (H + 1) two-left sums
-      never missed-one =
-          lost H 1 (still-unsettled 1 same
-          (below-more _ 0 (λ j l. absurd (omega arith)) (ap (isCodewordBlock (sideOf plan)) (sym (one .same none)) ∙ missed-one)) missed-one)
-          (still-sums 1 same) told
-
-      settled : first .ties ≡ 0 → second .ties ≡ 0 → settledAfter plan received 1 ≡ true
-      settled before here =
-          other-side (sideOf plan) (sweptBlock plan 1 received) (turn 1)
-          (ap (firstUnsatisfied (sideOf plan (turn 1))) (sym (two .same still)) ∙ two .satisfied-side here)
-          ∙ eq-eqb _ _ (swept-side one before)
-
-      -- the first sum is 0
-      first-still : sweepSums plan received (min 1 H) ≡ sweepSums plan received (min 0 H)
-      first-still =
-          let all-still : (j : ℕ) → 0 ≤ j → sweepSum plan received j ≡ 0 =
-          still-sums 0 (λ j.
+      same : (j : ℕ) → sweptBlock plan (0 + j) received ≡ sweptBlock plan 0 received
+      same j =
           let whole : 0 + j ≡ j = omega arith in
           ap (λ (x : ℕ). sweptBlock plan x received) whole
           ∙ elim (decLe 1 j) [
-            | yes l ↦ let (m, is-more) = le-dest l in ap (λ (x : ℕ). sweptBlock plan x received) (sym is-more) ∙ same m ∙ one .same none
+            | yes l ↦
+                let (m, is) = le-dest l in
+                ap (λ (x : ℕ). sweptBlock plan x received) (sym is) ∙ ended-same (le-refl 1) two still m ∙ one .same none
             | no l ↦ let none-made : j ≡ 0 = omega arith in ap (λ (x : ℕ). sweptBlock plan x received) none-made
-          ]) in
-          noted-still plan received H 1 (λ j l. all-still j zero-le) ∙ sym (noted-still plan received H 0 all-still)
+          ]
+
+      -- the first sum, which is noted, is 0
+      first-sum : sweepSums plan received (min 1 H) ≡ sweepSums plan received (min 0 H)
+      first-sum =
+          noted-still plan received H 1 (λ j l. still-sums 0 same j zero-le) ∙ sym (noted-still plan received H 0 (still-sums 0 same))
 
   pub settle-never : {H count ties : ℕ} {block sums : List ℕ} → Swept plan received H count ties block sums → H < count → Answer H (H + 1) block sums
   settle-never {H} {count} so-far past =

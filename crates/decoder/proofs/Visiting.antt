@@ -14,7 +14,7 @@ use mathlib.Core.List.{List, []}
 use mathlib.Core.Path.{_≡_, refl, sym, ap, ap₂, _∙_}
 use native.Mathlib.Nat.{le-refl, le-trans, le-of-eq, min-eq-left}
 use native.Mathlib.Omega.{arith}
-use Rattle.bits.proofs.Sums.{sum-zero, sum-one-more, sum-mono, sum-const, sum-none, sum-none-each, sum-some}
+use Rattle.bits.proofs.Sums.{sum-zero, sum-one-more, sum-mono, sum-const, sum-none-each, sum-some}
 use lib.Bits.{bitXor, xor-lt}
 use lib.Dec.{eqb}
 use lib.ListN.{length}
@@ -51,16 +51,10 @@ module _ (side : Side) (block : List ℕ) where
   unfolding changedBy
   changed-one-more v = sum-one-more v _
 
-  -- none, exactly if every word of the side is its own nearest one
+  -- where none does, every word of the side is its own nearest one
   pub changed-zero : (m : ℕ) → changedBy side m block ≡ 0 → (v : ℕ) → v < m → nearestOf side (vertexWord side block v) ≡ vertexWord side block v
   unfolding changedBy
   changed-zero m e v l = changed-none _ _ _ _ (sum-none-each m (λ v. changedAt side (vertexWord side block v)) e v l)
-
-  pub changed-zero-back : (m : ℕ) → ((v : ℕ) → v < m → nearestOf side (vertexWord side block v) ≡ vertexWord side block v)
-      → changedBy side m block ≡ 0
-  unfolding changedBy
-  changed-zero-back m same =
-      sum-none m (λ v. changedAt side (vertexWord side block v)) (λ v l. changed-none-back _ _ _ _ (same v l))
 
 -- ---- how many vertices wait
 

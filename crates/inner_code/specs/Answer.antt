@@ -1,5 +1,5 @@
 -- What the service of this layer answers.
---   nearestAnswer sheet w   the nearest word: 1 to 6, 12, or the codeword and the bits changed
+--   nearestAnswer sheet w   the nearest word: 1 to 6, 12, or the word and the bits changed
 --   nearestReply r          the paper's number, place and values for each case of the answer in the code
 use Prim.Native.Nat.{ℕ, _^_}
 use mathlib.Core.List.{List, [], _∷_}

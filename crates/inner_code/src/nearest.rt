@@ -99,10 +99,9 @@ pub fn nearest_listed(words: &[u16], word: u16) -> Step
         back = smaller(back, ones + (65535 - pattern as u32));
         m += 1;
     }
-    put_on(
-        word,
-        sole((least % 65536) as u16, 65535 - (back % 65536) as u16),
-    )
+    let first = (least % 65536) as u16;
+    let last = 65535 - (back % 65536) as u16;
+    put_on(word, sole(first, last))
 }
 
 // The smaller of two numbers.

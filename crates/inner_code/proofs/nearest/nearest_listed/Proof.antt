@@ -83,14 +83,14 @@ loop-again c =
       c .smaller2 .ensures ∙ ap (λ (x : ℕ). min x (back m)) (head .loop .inv .2) ∙ sym (least-one-more noKey back m),
     )
 
-cast-sole : tie.Need-cast-sole Inv-loop μ-loop
-cast-sole c = search needs
+cast-first : tie.Need-cast-first Inv-loop μ-loop
+cast-first c = search needs
 
-cast-sole-2 : tie.Need-cast-sole-2 Inv-loop μ-loop
-cast-sole-2 c = search needs
+cast-last : tie.Need-cast-last Inv-loop μ-loop
+cast-last c = search needs
 
-sub-sole : tie.Need-sub-sole Inv-loop μ-loop
-sub-sole c = search needs
+sub-last : tie.Need-sub-last Inv-loop μ-loop
+sub-last c = search needs
 
 sole-requires : tie.Need-sole-requires Inv-loop μ-loop
 sole-requires c κs = search needs
@@ -132,9 +132,9 @@ nearest-listed-spec =
     add-m
     loop-less
     loop-again
-    cast-sole
-    cast-sole-2
-    sub-sole
+    cast-first
+    cast-last
+    sub-last
     sole-requires
     put-on-requires
     returns)
