@@ -25,9 +25,9 @@ use Rattle.inner_code.specs.Sheet.{degree, rowCount, rowOf}
 use Rattle.inner_code.specs.declared.nearest.Step.{Step}
 use Rattle.inner_code.proofs.NearestWord.{nearest-lt, nearest-fixed, untied-codeword, changed-none, changed-none-back, changed-tied, changed-le}
 use Rattle.inner_code.specs.Reply.{done}
-use Rattle.inner_code.specs.Finding.{Finds}
+use Rattle.tables.specs.Finding.{Finds, Found}
 use Rattle.inner_code.proofs.SheetChecks.{Sound, sound}
-use Rattle.inner_code.proofs.Finding.{Member, Found}
+use Rattle.tables.proofs.Finding.{Member}
 use Rattle.wiring.specs.Plan.{Plan, Side, left, sheetOf, countOf, sideBit, sideBy}
 use Rattle.wiring.specs.Wiring.{planCheck}
 use Rattle.wiring.specs.declared.side.SideName.{SideName}
@@ -231,18 +231,18 @@ module _ {sheet : List ℕ} {n : ℕ} {wiring finder : List ℕ} (ready : SideRe
     word-untied e = untied-codeword _ _ _ (ok .degree-high) (ok .rows-lt) _ (sym word-tells ∙ e)
 
     -- any other word is a tie exactly if its step changes nothing
-    pub word-waits : {step : Step} {after : List ℕ} {tie : ℕ} → Found finder word step after → r ≡ false → tie ≡ waits (eqb (step .changed) 0)
+    pub word-waits : {step : Step} {after : List ℕ} {tie : ℕ} → Found sheet finder word step after → r ≡ false → tie ≡ waits (eqb (step .changed) 0)
         → tie ≡ waits (tiedAt side (vertexWord side block v))
     word-waits found e told =
-        told ∙ ap waits (ap (λ (x : ℕ). eqb x 0) (found .counted sheet (ready .finds) word-lt ∙ ap (changedAt side) word-is)
+        told ∙ ap waits (ap (λ (x : ℕ). eqb x 0) (found .counted (ready .finds) word-lt ∙ ap (changedAt side) word-is)
         ∙ changed-tied _ _ _ (ok .degree-high) (ok .rows-lt) _ (vertex-lt side block v) (sym word-tells ∙ e))
 
-  module _ {step : Step} {after : List ℕ} (found : Found finder word step after) where
+  module _ {step : Step} {after : List ℕ} (found : Found sheet finder word step after) where
     pub word-found : step .word ≡ nearestOf side (vertexWord side block v)
-    word-found = found .nearest sheet (ready .finds) word-lt ∙ ap (nearestOf side) word-is
+    word-found = found .nearest (ready .finds) word-lt ∙ ap (nearestOf side) word-is
 
     pub word-counted : step .changed ≡ changedAt side (vertexWord side block v)
-    word-counted = found .counted sheet (ready .finds) word-lt ∙ ap (changedAt side) word-is
+    word-counted = found .counted (ready .finds) word-lt ∙ ap (changedAt side) word-is
 
     pub found-lt : step .word < 2 ^ degree sheet
     found-lt =

@@ -29,7 +29,7 @@ use Rattle.bits.specs.Sum.{sum}
 use Rattle.bits.specs.Window.{at, turned}
 use Rattle.inner_code.specs.Reply.{done}
 use Rattle.inner_code.specs.Code.{tied, nearestWord, bitsChanged}
-use Rattle.inner_code.specs.Finding.{Finds}
+use Rattle.tables.specs.Finding.{Finds}
 use Rattle.inner_code.specs.Sheet.{degree}
 use Rattle.wiring.specs.Plan.{Plan, Side, edgeOf, edgeCount, left, right, sideOf}
 use Rattle.wiring.specs.Wiring.{planCheck}

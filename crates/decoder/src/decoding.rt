@@ -1,9 +1,9 @@
 // The decoder: refusals 1 to 15 and 23.
 use crate::settle::SUMS;
 use crate::settle::settle;
-use inner_code::FINDER_WORDS;
 use inner_code::Refusal;
 use inner_code::refusal;
+use tables::FINDER_WORDS;
 use wiring::Checked;
 use wiring::Located;
 use wiring::SideCode;
@@ -122,7 +122,7 @@ fn decode_checked(
     }
     let left_basis = left_code.basis;
     let mut left_finder = [0u16; FINDER_WORDS];
-    inner_code::prepare_finder(left, left_code.k, &left_basis, &mut left_finder);
+    tables::prepare_finder(left, left_code.k, &left_basis, &mut left_finder);
     if bits::same(left, right) {
         let mut none = [0u16; 0];
         return decode_copy(
@@ -140,7 +140,7 @@ fn decode_checked(
     }
     let right_basis = right_code.basis;
     let mut right_finder = [0u16; FINDER_WORDS];
-    inner_code::prepare_finder(right, right_code.k, &right_basis, &mut right_finder);
+    tables::prepare_finder(right, right_code.k, &right_basis, &mut right_finder);
     decode_copy(
         left,
         right,

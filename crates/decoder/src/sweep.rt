@@ -5,14 +5,14 @@
 use crate::pattern::put_pattern;
 use crate::pattern::put_pattern_told;
 use crate::words::left_word;
-use inner_code::FINDER_WORDS;
+use tables::FINDER_WORDS;
 use wiring::MAX_VERTICES;
 use wiring::SideName;
 ghost use mathlib.Core.Bool.{true, cond};
 ghost use lib.Dec.{eqb};
 ghost use mathlib.Core.List.{[]};
 ghost use mathlib.Core.Path.{_≡_};
-ghost use Rattle.inner_code.specs.Finding.{Finds};
+ghost use Rattle.tables.specs.Finding.{Finds};
 ghost use Rattle.inner_code.specs.Reply.{done};
 ghost use Rattle.wiring.specs.Plan.{planOf, sideBy, sideOf};
 ghost use Rattle.wiring.specs.declared.side.SideName.{SideName};
@@ -52,10 +52,10 @@ pub(crate) fn sweep_first(
     let mut v = 0;
     while v < n {
         let word = left_word(wiring, block, v, d);
-        if inner_code::is_codeword(finder, word) {
+        if tables::is_codeword(finder, word) {
             v += 1;
         } else {
-            let step = inner_code::find_nearest(finder, word);
+            let step = tables::find_nearest(sheet, finder, word);
             put_pattern(SideName::Left, wiring, v * d, d, word ^ step.word, block);
             changed += step.changed as usize;
             ties += tie(step.changed);
@@ -92,10 +92,10 @@ fn sweep_words(
     let mut v = 0;
     while v < n {
         let word = words[v];
-        if inner_code::is_codeword(finder, word) {
+        if tables::is_codeword(finder, word) {
             v += 1;
         } else {
-            let step = inner_code::find_nearest(finder, word);
+            let step = tables::find_nearest(sheet, finder, word);
             words[v] = step.word;
             put_pattern(SideName::Right, wiring, v * d, d, word ^ step.word, block);
             changed += step.changed as usize;
@@ -163,10 +163,10 @@ pub(crate) fn sweep_left(
     let mut v = 0;
     while v < nl {
         let word = left_word(wiring, block, v, d);
-        if inner_code::is_codeword(finder, word) {
+        if tables::is_codeword(finder, word) {
             v += 1;
         } else {
-            let step = inner_code::find_nearest(finder, word);
+            let step = tables::find_nearest(left, finder, word);
             put_pattern_told(
                 left,
                 right,
@@ -212,7 +212,7 @@ pub(crate) fn all_codewords(
     let mut v = 0;
     while v < n {
         let word = left_word(wiring, block, v, d);
-        if !inner_code::is_codeword(finder, word) {
+        if !tables::is_codeword(finder, word) {
             return false;
         }
         v += 1;

@@ -31,7 +31,7 @@ coset-residue row k v w e =
     reduced-codeword row k (bitXor v w) (reduced-xor row k v w ∙ ap (λ (x : ℕ). bitXor x (reduced row k w)) e ∙ xor-self (reduced row k w))
 
 -- and of words that differ by a codeword the rows leave the same
-coset-same : (row : ℕ → ℕ) (k v w : ℕ) → isCodeword row k (bitXor v w) ≡ true → reduced row k v ≡ reduced row k w
+pub coset-same : (row : ℕ → ℕ) (k v w : ℕ) → isCodeword row k (bitXor v w) ≡ true → reduced row k v ≡ reduced row k w
 coset-same row k v w e = xor-zero-eq _ _ (sym (reduced-xor row k v w) ∙ codeword-reduced row k (bitXor v w) e)
 
 module _ (row : ℕ → ℕ) (k : ℕ) (words : ℕ → ℕ) (all : (m : ℕ) → m < 2 ^ k → words m ≡ combination row k m) (measure : ℕ → ℕ) where
@@ -80,7 +80,7 @@ ones-one : ones 1 ≡ 1
 unfolding ones onesIn
 ones-one = refl
 
-ones-pow : (b : ℕ) → ones (2 ^ b) ≡ 1
+pub ones-pow : (b : ℕ) → ones (2 ^ b) ≡ 1
 ones-pow b =
     let power : 2 ^ b ≡ 1 * 2 ^ b + 0 = omega arith in
     ap ones power ∙ ones-cat b 1 0 (pow-pos b) ∙ omega (arith, ones-one, ones-zero)

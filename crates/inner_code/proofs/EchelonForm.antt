@@ -37,11 +37,11 @@ below-pow zero = pow-pos 0
 below-pow (suc b) = omega (arith, below-pow b, pow-suc 2 b)
 
 -- a number's highest digit
-highest : (b : ℕ) → 0 < b → (p : ℕ) × (2 ^ p ≤ b) × (b < 2 ^ suc p)
+pub highest : (b : ℕ) → 0 < b → (p : ℕ) × (2 ^ p ≤ b) × (b < 2 ^ suc p)
 highest b h = let t = leading-top b b h (below-pow b) in (t .0, t .2, t .3)
 
 -- one step puts b on w exactly where w has b's highest digit
-reduceBy-digit : (b p w : ℕ) → 2 ^ p ≤ b → b < 2 ^ suc p → reduceBy b w ≡ bitXor w (digit w p * b)
+pub reduceBy-digit : (b p w : ℕ) → 2 ^ p ≤ b → b < 2 ^ suc p → reduceBy b w ≡ bitXor w (digit w p * b)
 unfolding reduceBy digit
 reduceBy-digit b p w low high = go (w / 2 ^ p % 2) refl (digit-lt w p)
   where
@@ -191,7 +191,7 @@ last-step row k w before last = ⊎-elim kept put (reduceBy-either e x)
         (codeword-xor row (suc k) (bitXor w x) e apart e-codeword)
 
 -- what was taken off is a codeword
-reduced-apart : (row : ℕ → ℕ) (k w : ℕ) → isCodeword row k (bitXor w (reduced row k w)) ≡ true
+pub reduced-apart : (row : ℕ → ℕ) (k w : ℕ) → isCodeword row k (bitXor w (reduced row k w)) ≡ true
 unfolding reduced echelon
 reduced-apart row zero w = subst (λ (x : ℕ). isCodeword row 0 x ≡ true) (sym (xor-self w)) (codeword-zero row 0)
 reduced-apart row (suc k) w = last-step row k w (reduced-apart row k w) (reduced-apart row k (row k))
@@ -236,12 +236,12 @@ pub reducedBy-kept : (basis : ℕ → ℕ) (n w left : ℕ) → left ≡ reduced
 unfolding reducedBy reduceBy
 reducedBy-kept basis n w left e h = rw (add-one, ← e) (sym (min-eq-left h))
 
-length-withEchelon : (row : ℕ → ℕ) (n : ℕ) (l : List ℕ) → length (withEchelon row n l) ≡ length l
+pub length-withEchelon : (row : ℕ → ℕ) (n : ℕ) (l : List ℕ) → length (withEchelon row n l) ≡ length l
 unfolding withEchelon
 length-withEchelon row zero l = refl
 length-withEchelon row (suc n) l = length-set (withEchelon row n l) n (echelon row n) ∙ length-withEchelon row n l
 
-withEchelon-at : (row : ℕ → ℕ) (n : ℕ) (l : List ℕ) (i : ℕ) → i < n → n ≤ length l → getD (withEchelon row n l) i 0 ≡ echelon row i
+pub withEchelon-at : (row : ℕ → ℕ) (n : ℕ) (l : List ℕ) (i : ℕ) → i < n → n ≤ length l → getD (withEchelon row n l) i 0 ≡ echelon row i
 unfolding withEchelon
 withEchelon-at row zero l i h f = absurd (not-suc-le-zero h)
 withEchelon-at row (suc n) l i h f =

@@ -7,4 +7,3 @@ pub mod Replies
 pub mod Listings
 pub mod SheetChecks
 pub mod HouseWords
-pub mod Finding

@@ -1,7 +1,7 @@
 -- The sheet's place in the table of refusals, row by row, and what an accepted sheet is.
---   rowCheck, rowsCheck   one row by 5 and 6, and the first faulty one below n
---   Sound sheet           what holds of an accepted sheet
---   Accepted sheet r d k  what a caller learns from a check that accepts
+--   rowCheck, rowsCheck       one row by 5 and 6, and the first faulty one below n
+--   Sound sheet               what holds of an accepted sheet
+--   Accepted sheet basis d k  what a caller learns from a check over zeros that accepts
 -- `row-` laws give one row's outcome, `rows-` laws that of the rows so far, `sound-` laws the two directions of acceptance.
 use mathlib.Core.Path.{_≡_, refl, sym, ap, _∙_, subst, subst⁻¹}
 use mathlib.Core.Logic.{_⊎_, ⊎-elim}
@@ -18,10 +18,9 @@ use Rattle.inner_code.specs.Reply.{Reply, done, refused, refuseIf, andTh
 use Rattle.inner_code.specs.Code.{isCodeword}
 use Rattle.inner_code.specs.Reduction.{reduced, withEchelon}
 use Rattle.inner_code.specs.Sheet.{degree, rowCount, rowOf, rowCheck, rowsCheck, sheetCheck}
-use Rattle.inner_code.specs.Checking.{sheetAnswer, rowsAnswer, refusedSheet, soundRows, sheetReply, SheetChecked}
+use Rattle.inner_code.specs.Checking.{sheetAnswer, rowsAnswer, refusedSheet, soundRows, sheetReply, SheetInto}
 use Rattle.inner_code.specs.declared.refusal.Refusal.{Refusal}
 use Rattle.inner_code.specs.declared.sheet.Sheet.{Sheet}
-use Rattle.inner_code.specs.declared.sheet.CheckedSheet.{CheckedSheet}
 use Rattle.bits.proofs.Tests.{or-left, or-right, or-neither}
 use Rattle.inner_code.proofs.Replies.{refuse-taken, refuse-passed, refuse-done, andThen-passed, andThen-refused, andThen-done, andThen-back}
 use Rattle.inner_code.proofs.EchelonForm.{codeword-test, reduced-codeword}
@@ -173,10 +172,10 @@ module _ (sheet : List ℕ) where
           unfolding sheetAnswer rowsAnswer
           sheet-rows-answer = ap (λ (r : Reply). andThen r (done (degree sheet ∷ rowCount sheet ∷ []))) sheet-rows
 
--- a refusal that is about no row leaves no row in the echelon form
-pub refused-checked : (sheet : List ℕ) (r : CheckedSheet) (n : ℕ) → r ≡ refusedSheet n → sheetAnswer sheet ≡ refused n 0 → SheetChecked sheet r
+-- a refusal that is about no row leaves the list as it was
+pub refused-into : (sheet before : List ℕ) (r : Sheet) (n : ℕ) → r ≡ refusedSheet n → sheetAnswer sheet ≡ refused n 0 → SheetInto sheet before r before
 unfolding withEchelon
-refused-checked sheet r n e a = subst⁻¹ (SheetChecked sheet) e (record { answer = sym a; rows = refl })
+refused-into sheet before r n e a = subst⁻¹ (λ (x : Sheet). SheetInto sheet before x before) e (record { answer = sym a; rows = refl })
 
 -- ---- acceptance, both ways
 
@@ -257,12 +256,12 @@ sound-accepted sheet s =
 
 -- ---- what a caller of the check learns
 
-pub record Accepted (sheet : List ℕ) (r : CheckedSheet) (d k : ℕ) : Type 0 where
+pub record Accepted (sheet basis : List ℕ) (d k : ℕ) : Type 0 where
   pub sheet-sound : Sound sheet
   pub sheet-done : sheetCheck sheet ≡ done []
   pub d-is : d ≡ degree sheet
   pub k-is : k ≡ rowCount sheet
-  pub basis-is : r .basis ≡ withEchelon (rowOf sheet) (rowCount sheet) (replicate 11 0)
+  pub basis-is : basis ≡ withEchelon (rowOf sheet) (rowCount sheet) (replicate 11 0)
 
 first-of : Reply → ℕ
 first-of (done values) = getD values 0 0
@@ -272,16 +271,16 @@ second-of : Reply → ℕ
 second-of (done values) = getD values 1 0
 second-of (refused n p) = 0
 
-pub accepted : (sheet : List ℕ) (r : CheckedSheet) (d k : ℕ) → SheetChecked sheet r → r .sheet ≡ Sheet.Accepted d k → Accepted sheet r d k
+pub accepted : {sheet basis : List ℕ} {r : Sheet} {d k : ℕ} → SheetInto sheet (replicate 11 0) r basis → r ≡ Sheet.Accepted d k
+    → Accepted sheet basis d k
 unfolding sheetAnswer first-of second-of
-accepted sheet r d k c e =
+accepted {sheet} {basis} {r} {d} {k} c e =
     record {
       sheet-sound = is-sound;
       sheet-done = sound-accepted sheet is-sound;
       d-is = ap first-of (answer ∙ andThen-passed _ _ _ (t .0 .1));
-      k-is = ap second-of (answer ∙ andThen-passed _ _ _ (t .0 .1));
-      basis-is = c .rows ∙ ap (λ (x : Sheet). withEchelon (rowOf sheet) (soundRows x) (replicate 11 0)) e
-          ∙ ap (λ (n : ℕ). withEchelon (rowOf sheet) n (replicate 11 0)) (ap second-of (answer ∙ andThen-passed _ _ _ (t .0 .1)));
+      k-is = count;
+      basis-is = c .rows ∙ ap (λ (n : ℕ). withEchelon (rowOf sheet) n (replicate 11 0)) (ap soundRows e ∙ count);
     }
   where
     answer : done (d ∷ k ∷ []) ≡ andThen (sheetCheck sheet) (done (degree sheet ∷ rowCount sheet ∷ []))
@@ -290,10 +289,13 @@ accepted sheet r d k c e =
     t : ((passed : List ℕ) × (sheetCheck sheet ≡ done passed)) × (done (degree sheet ∷ rowCount sheet ∷ []) ≡ done (d ∷ k ∷ []))
     t = andThen-done (sheetCheck sheet) (done (degree sheet ∷ rowCount sheet ∷ [])) (d ∷ k ∷ []) (sym answer)
 
+    count : k ≡ rowCount sheet
+    count = ap second-of (answer ∙ andThen-passed _ _ _ (t .0 .1))
+
     is-sound : Sound sheet
     is-sound = sound sheet (t .0 .0) (t .0 .1)
 
-pub turned-back : (sheet : List ℕ) (r : CheckedSheet) (f : Refusal) → SheetChecked sheet r → r .sheet ≡ Sheet.Refused f
+pub turned-back : {sheet before after : List ℕ} {r : Sheet} {f : Refusal} → SheetInto sheet before r after → r ≡ Sheet.Refused f
     → sheetCheck sheet ≡ refused (f .number) (f .place)
 unfolding sheetAnswer
-turned-back sheet r f c e = andThen-back (sheetCheck sheet) _ _ _ (sym (c .answer) ∙ ap sheetReply e)
+turned-back {sheet} c e = andThen-back (sheetCheck sheet) _ _ _ (sym (c .answer) ∙ ap sheetReply e)

@@ -3,7 +3,9 @@
 --   sheetAnswer sheet        the values d and k of an accepted sheet, or its refusal
 --   sheetReply r             the number, place and values for each case of the check's answer in the code
 --   soundRows r              how many rows come before the first faulty one: the place of 5 and 6, all k of an accepted sheet, none with 1 to 4
---   SheetChecked, RowsChecked  the checks of a sheet and of its rows: the answer, and the echelon form of the sound rows before zeros
+--   SheetInto, RowsInto      the checks of a sheet and of its rows into a list: the answer, and the list with the echelon form of the sound rows
+--                            at its front
+--   SheetChecked sheet r     the check of a sheet with the list in its answer: the echelon form of the sound rows before zeros
 --   refusedSheet number      a refusal that is not about a row
 use Prim.Native.Nat.{ℕ}
 use mathlib.Core.List.{List, [], _∷_}
@@ -31,13 +33,16 @@ abbrev pub soundRows : Sheet → ℕ
 soundRows (Sheet.Accepted d k) = k
 soundRows (Sheet.Refused r) = r .place
 
-pub record SheetChecked (sheet : List ℕ) (r : CheckedSheet) : Type 0 where
-  pub answer : sheetReply (r .sheet) ≡ sheetAnswer sheet
-  pub rows : r .basis ≡ withEchelon (rowOf sheet) (soundRows (r .sheet)) (replicate 11 0)
+pub record SheetInto (sheet before : List ℕ) (r : Sheet) (after : List ℕ) : Type 0 where
+  pub answer : sheetReply r ≡ sheetAnswer sheet
+  pub rows : after ≡ withEchelon (rowOf sheet) (soundRows r) before
 
-pub record RowsChecked (sheet : List ℕ) (d k : ℕ) (r : CheckedSheet) : Type 0 where
-  pub answer : sheetReply (r .sheet) ≡ rowsAnswer sheet d k
-  pub rows : r .basis ≡ withEchelon (rowOf sheet) (soundRows (r .sheet)) (replicate 11 0)
+pub record RowsInto (sheet : List ℕ) (d k : ℕ) (before : List ℕ) (r : Sheet) (after : List ℕ) : Type 0 where
+  pub answer : sheetReply r ≡ rowsAnswer sheet d k
+  pub rows : after ≡ withEchelon (rowOf sheet) (soundRows r) before
 
-abbrev pub refusedSheet : ℕ → CheckedSheet
-refusedSheet number = record { sheet = Sheet.Refused (record { number = number; place = 0 }); basis = replicate 11 0 }
+abbrev pub SheetChecked : List ℕ → CheckedSheet → Type 0
+SheetChecked sheet r = SheetInto sheet (replicate 11 0) (r .sheet) (r .basis)
+
+abbrev pub refusedSheet : ℕ → Sheet
+refusedSheet number = Sheet.Refused (record { number = number; place = 0 })

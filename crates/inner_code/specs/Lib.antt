@@ -5,4 +5,3 @@ pub mod House
 pub mod Answer
 pub mod Reduction
 pub mod Checking
-pub mod Finding

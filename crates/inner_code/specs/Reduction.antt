@@ -13,6 +13,7 @@
 --   searched words n w    w with the one pattern of the fewest ones on it, that leads to one of the words; w itself where there are more
 --   stepTo w x            the step from a word to another: that one, and the number of bits that it changes
 --   doubled n r m l       the list l with r put on its words 0 .. m - 1, at the places n .. n + m - 1
+--   Doubles n r l m       the list m is l so doubled with r on all its words 0 .. n - 1; where l has no room for them, m is l
 --   listed row k l        the list l with the codewords of k rows at its places 0 .. 2^k - 1, by doubling
 --   Lists row k l r m     the list m is l with the codewords of k rows listed, of 11 at most, and r is how many they are; where l has no
 --                         room for them, m is l and r is 0
@@ -81,6 +82,10 @@ stepTo w x = record { word = x; changed = ones (bitXor w x) }
 unfoldable pub doubled : ℕ → ℕ → ℕ → List ℕ → List ℕ
 doubled count row zero l = l
 doubled count row (suc m) l = set (doubled count row m l) (count + m) (bitXor (getD (doubled count row m l) m 0) row)
+
+pub record Doubles (count row : ℕ) (before after : List ℕ) : Type 0 where
+  pub room : 2 * count ≤ length before → after ≡ doubled count row count before
+  pub short : length before < 2 * count → after ≡ before
 
 unfoldable pub listed : (ℕ → ℕ) → ℕ → List ℕ → List ℕ
 unfolding doubled

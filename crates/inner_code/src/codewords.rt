@@ -1,10 +1,10 @@
 // The codewords as a list, and the inner distance.
 ghost use mathlib.Core.Path.{_≡_};
-ghost use Prim.Native.Nat.{_*_, _≤_, min};
+ghost use Prim.Native.Nat.{min};
 ghost use lib.ListN.{length};
 ghost use Rattle.bits.specs.Window.{at};
 ghost use Rattle.inner_code.specs.Sheet.{rowOf};
-ghost use Rattle.inner_code.specs.Reduction.{Lists, doubled, fewestOnes};
+ghost use Rattle.inner_code.specs.Reduction.{Lists, Doubles, fewestOnes};
 
 // The most codewords of a sheet, 2^11.
 pub const MAX_CODEWORDS: usize = 2048;
@@ -39,11 +39,13 @@ fn at_most_eleven(k: usize) -> usize
     11
 }
 
-// Words 0 to count - 1 again, with `row` put on each, behind themselves.
-pub(crate) fn double(words: &mut [u16], count: usize, row: u16)
-    requires { ⌜ 2 * count ≤ length (now words) ⌝ }
-    ensures { λ _. ⌜ now (words .exit) ≡ doubled count row count (now (words .entry)) ⌝ }
+// Words 0 to count - 1 again, with `row` put on each, behind themselves, where there is room for them; where there is none nothing is written.
+pub fn double(words: &mut [u16], count: usize, row: u16)
+    ensures { λ _. ⌜ Doubles count row (now (words .entry)) (now (words .exit)) ⌝ }
 {
+    if words.len() / 2 < count {
+        return;
+    }
     let mut m = 0;
     while m < count {
         words[count + m] = words[m] ^ row;

@@ -1,6 +1,5 @@
 // The inner code: the sheet's check, codewords, distance, the nearest word and the house code.
 mod codewords;
-mod finder;
 mod house;
 mod membership;
 mod nearest;
@@ -9,20 +8,19 @@ mod sheet;
 
 pub use codewords::MAX_CODEWORDS;
 pub use codewords::distance;
+pub use codewords::double;
 pub use codewords::list_codewords;
-pub use finder::FINDER_WORDS;
-pub use finder::find_nearest;
-pub use finder::is_codeword;
-pub use finder::prepare_finder;
 pub use house::HouseCode;
 pub use membership::residue;
 pub use nearest::Nearest;
 pub use nearest::Step;
 pub use nearest::nearest_listed;
 pub use nearest::nearest_word;
+pub use nearest::put_on;
 pub use refusal::Refusal;
 pub use sheet::CheckedSheet;
 pub use sheet::MAX_DEGREE;
 pub use sheet::MAX_ROWS;
 pub use sheet::Sheet;
+pub use sheet::check_into;
 pub use sheet::check_sheet;

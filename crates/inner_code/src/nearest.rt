@@ -5,7 +5,7 @@ use crate::codewords::list_codewords;
 use crate::refusal;
 use crate::refusal::Refusal;
 use crate::sheet::Sheet;
-use crate::sheet::check_sheet;
+use crate::sheet::check_into;
 ghost use mathlib.Core.Path.{_≡_};
 ghost use Prim.Native.Nat.{_^_, _≤_, min};
 ghost use lib.Bits.{bitXor};
@@ -37,9 +37,8 @@ pub struct Step {
 pub fn nearest_word(sheet: &[u8], word: u64) -> Nearest
     ensures { λ r. ⌜ nearestReply r ≡ nearestAnswer (now (sheet .entry)) word ⌝ }
 {
-    let checked = check_sheet(sheet);
-    let values = checked.sheet;
-    match values {
+    let mut basis = [0u16; 11];
+    match check_into(sheet, &mut basis) {
         Sheet::Refused(r) => Nearest::Refused(r),
         Sheet::Accepted { d, k } => {
             if 1u64 << d <= word {
@@ -125,7 +124,7 @@ fn sole(first: u16, last: u16) -> u16
 }
 
 // The step that a pattern makes: it is put on the word and changes as many bits as it has ones.
-pub(crate) fn put_on(word: u16, pattern: u16) -> Step
+pub fn put_on(word: u16, pattern: u16) -> Step
     ensures { λ r. ⌜ r ≡ stepTo word (bitXor word pattern) ⌝ }
 {
     Step {

@@ -78,7 +78,7 @@ module _ (plan : Plan) where
   pub checked-left-refused : (l : CheckedSheet) (f : Refusal) → SheetChecked (plan .leftSheet) l → l .sheet ≡ Sheet.Refused f
       → PlanChecked plan (refusedPlan f)
   unfolding planCheck
-  checked-left-refused l f c e = checked-refused f (andThen-refused _ _ _ _ (turned-back (plan .leftSheet) l f c e))
+  checked-left-refused l f c e = checked-refused f (andThen-refused _ _ _ _ (turned-back c e))
 
   module _ (l : CheckedSheet) (dl kl : ℕ) (c : SheetChecked (plan .leftSheet) l) (e : l .sheet ≡ Sheet.Accepted dl kl) where
     pub checked-right-refused : (r : CheckedSheet) (f : Refusal) → SheetChecked (plan .rightSheet) r → r .sheet ≡ Sheet.Refused f
@@ -86,15 +86,15 @@ module _ (plan : Plan) where
     unfolding planCheck
     checked-right-refused r f c' e' =
         checked-refused f
-        (andThen-passed _ _ [] (accepted (plan .leftSheet) l dl kl c e .sheet-done)
-        ∙ andThen-refused _ _ _ _ (turned-back (plan .rightSheet) r f c' e'))
+        (andThen-passed _ _ [] (accepted c e .sheet-done)
+        ∙ andThen-refused _ _ _ _ (turned-back c' e'))
 
     module _ (r : CheckedSheet) (dr kr : ℕ) (c' : SheetChecked (plan .rightSheet) r) (e' : r .sheet ≡ Sheet.Accepted dr kr) where
       past-sheets : planCheck plan ≡ wiringCheck dl dr (plan .nl) (plan .nr) (plan .wiring)
       unfolding planCheck
       past-sheets =
-          let a = accepted (plan .leftSheet) l dl kl c e in
-          let b = accepted (plan .rightSheet) r dr kr c' e' in
+          let a = accepted c e in
+          let b = accepted c' e' in
           andThen-passed _ _ [] (a .sheet-done) ∙ andThen-passed _ _ [] (b .sheet-done)
           ∙ ap₂ (λ (x y : ℕ). wiringCheck x y (plan .nl) (plan .nr) (plan .wiring)) (sym (a .d-is)) (sym (b .d-is))
 
@@ -119,10 +119,10 @@ module _ (plan : Plan) where
 
           go : (name : SideName) → codeIn told name ≡ codeOf plan name
           go SideName.Left =
-              let a = accepted (plan .leftSheet) l dl kl c e in
+              let a = accepted c e in
               rw (a .d-is, a .k-is, a .basis-is)
           go SideName.Right =
-              let b = accepted (plan .rightSheet) r dr kr c' e' in
+              let b = accepted c' e' in
               rw (b .d-is, b .k-is, b .basis-is)
 
 -- ---- what a caller of the check learns

@@ -8,9 +8,9 @@ use borrow.Author.Needs.{needs}
 use denote.Ref.{now}
 use lib.ListN.{replicate}
 use Rattle.inner_code.specs.Reply.{done}
-use Rattle.inner_code.specs.Finding.{preparedFinder, Finds}
+use Rattle.tables.specs.Finding.{preparedFinder, Finds}
 use Rattle.inner_code.proofs.SheetChecks.{sound-accepted}
-use Rattle.inner_code.proofs.Finding.{prepared-finds}
+use Rattle.tables.proofs.Finding.{prepared-finds}
 use Rattle.wiring.specs.Plan.{Plan, planOf, left, right, sheetOf}
 use Rattle.wiring.specs.Wiring.{planCheck}
 use Rattle.wiring.specs.Checking.{codeOf}

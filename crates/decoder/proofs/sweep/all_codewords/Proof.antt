@@ -6,7 +6,7 @@ use native.Mathlib.Omega.{arith}
 use borrow.Author.Needs.{needs}
 use borrow.Author.Tests.{not-false}
 use Rattle.inner_code.specs.Sheet.{degree}
-use Rattle.inner_code.proofs.Finding.{member-means}
+use Rattle.tables.proofs.Finding.{member-means}
 use Rattle.wiring.specs.Plan.{sideBy, left}
 use Rattle.wiring.specs.declared.side.SideName.{SideName}
 use Rattle.wiring.proofs.Permutation.{fitted-vertex}

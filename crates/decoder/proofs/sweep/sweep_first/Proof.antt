@@ -8,7 +8,8 @@ use borrow.Author.Needs.{needs}
 use denote.Ref.{now}
 use lib.Dec.{eqb}
 use Rattle.inner_code.specs.Sheet.{degree}
-use Rattle.inner_code.proofs.Finding.{Member, Found, member-means, found-means}
+use Rattle.tables.specs.Finding.{Found}
+use Rattle.tables.proofs.Finding.{Member, member-means}
 use Rattle.wiring.specs.Block.{vertexWord}
 use Rattle.wiring.specs.Plan.{Side, sideBy, left}
 use Rattle.wiring.specs.declared.side.SideName.{SideName}
@@ -107,8 +108,8 @@ missed : (c : tie.After-find-nearest Inv-loop μ-loop) → c .before .before .be
 missed c = c .before .before .if2 .left
 
 found : (c : tie.After-find-nearest Inv-loop μ-loop)
-    → Found (head (word c) .loop .finder) (word c .left-word .result) (c .find-nearest .result) (c .find-nearest .last .0)
-found c = found-means _ _ (c .find-nearest .ensures .0) (c .find-nearest .ensures .1)
+    → Found (now (start (head (word c)) .args .sheet)) (head (word c) .loop .finder) (word c .left-word .result) (c .find-nearest .result) (c .find-nearest .last .1 .0)
+found c = c .find-nearest .ensures
 
 mul-put-pattern : tie.Need-mul-put-pattern Inv-loop μ-loop
 unfolding degree
@@ -171,7 +172,7 @@ loop-again-2 c =
           (word-waits ready left (turn .block) (below read) (read-is read) (member last) (found last) (missed last) (c .tie .ensures))
           (word-put ready left (turn .block) (below read) (read-is read) (last .find-nearest .result .word)
           (c .before .before .before .before .put-pattern .ensures)),
-      record { fits = ready .fits; permuted = ready .permuted; finds = found last .finds _ (ready .finds) },
+      record { fits = ready .fits; permuted = ready .permuted; finds = found last .finds (ready .finds) },
     )
 
 -- a finder that finds has one length

@@ -11,7 +11,8 @@ use lib.Dec.{eqb}
 use lib.ListN.{getD}
 use Rattle.bits.specs.Window.{at}
 use Rattle.inner_code.specs.Sheet.{degree}
-use Rattle.inner_code.proofs.Finding.{Member, Found, member-means, found-means}
+use Rattle.tables.specs.Finding.{Found}
+use Rattle.tables.proofs.Finding.{Member, member-means}
 use Rattle.wiring.specs.Block.{vertexWord}
 use Rattle.wiring.specs.Plan.{Side, sideBy, right}
 use Rattle.wiring.specs.declared.side.SideName.{SideName}
@@ -117,8 +118,8 @@ missed : (c : tie.After-find-nearest Inv-loop μ-loop) → c .before .before .be
 missed c = c .before .before .if2 .left
 
 found : (c : tie.After-find-nearest Inv-loop μ-loop)
-    → Found (head c .loop .finder) (getD (head c .loop .words) (head c .loop .v) 0) (c .find-nearest .result) (c .find-nearest .last .0)
-found c = found-means _ _ (c .find-nearest .ensures .0) (c .find-nearest .ensures .1)
+    → Found (now (start (head c) .args .sheet)) (head c .loop .finder) (getD (head c .loop .words) (head c .loop .v) 0) (c .find-nearest .result) (c .find-nearest .last .1 .0)
+found c = c .find-nearest .ensures
 
 mul-words : tie.Need-mul-words Inv-loop μ-loop
 mul-words c = omega (arith, few (inside (c .before .before)))
@@ -190,7 +191,7 @@ loop-again-2 c =
           (word-counted ready right (turn .block) low is (found last))
           (word-waits ready right (turn .block) low is (member last) (found last) (missed last) (c .tie .ensures))
           put,
-      record { fits = ready .fits; permuted = ready .permuted; finds = found last .finds _ (ready .finds) },
+      record { fits = ready .fits; permuted = ready .permuted; finds = found last .finds (ready .finds) },
       words-put (ready-whole ready right) (turn .inv .3) (ready .fits .n-high) (turn .v) _ low
           (found-lt ready right (turn .block) low is (found last)) put refl,
     )

@@ -18,6 +18,9 @@ Inv-loop words₀ count row m₀ words m = (m ≤ count) × (length words ≡ le
 abbrev μ-loop : tie.MeasureT-loop
 μ-loop words₀ count row m₀ words m = count - m
 
+returns : tie.Need-returns Inv-loop μ-loop
+returns c = record { room = λ h. absurd (omega arith); short = λ h. refl }
+
 loop-holds : tie.Need-loop-holds Inv-loop μ-loop
 unfolding doubled
 loop-holds c = (search needs, refl, refl)
@@ -46,7 +49,7 @@ loop-less c = search needs
 loop-again : tie.Need-loop-again Inv-loop μ-loop
 loop-again c =
     let before = c .before .before .loop in
-    let args = c .before .before .before .args in (
+    let args = c .before .before .before .before .args in (
       search needs,
       length-set (before .words) (args .count + before .m) _ ∙ before .inv .1,
       ap (λ (l : List ℕ). set l (args .count + before .m) (bitXor (getD l (before .m) 0) (args .row))) (before .inv .2)
@@ -56,11 +59,14 @@ loop-again c =
 same-length : tie.Need-same-length Inv-loop μ-loop
 same-length c = search needs
 
-returns : tie.Need-returns Inv-loop μ-loop
-returns c =
-    let args = c .before .before .args in
+returns-2 : tie.Need-returns-2 Inv-loop μ-loop
+returns-2 c =
+    let args = c .before .before .before .args in
     let end : c .before .loop .m ≡ args .count = omega arith in
-    c .before .loop .inv .2 ∙ ap (λ (m : ℕ). doubled (args .count) (args .row) m (now (args .words))) end
+    record {
+      room = λ h. c .before .loop .inv .2 ∙ ap (λ (m : ℕ). doubled (args .count) (args .row) m (now (args .words))) end;
+      short = λ h. absurd (omega arith);
+    }
 
 pub double-spec : {M : Type 1} → statement M
 double-spec =
@@ -68,6 +74,7 @@ double-spec =
     (tie.spec
     Inv-loop
     μ-loop
+    returns
     loop-holds
     mul-words
     slice-read-words
@@ -78,4 +85,4 @@ double-spec =
     loop-less
     loop-again
     same-length
-    returns)
+    returns-2)

@@ -78,9 +78,7 @@ count-fits c =
     omega (arith, before .inv .1, pow-suc 2 (before .i), pow-mono {i = suc (before .i)} {j = min k 11} more)
 
 double-requires : tie.Need-double-requires Inv-loop μ-loop
-double-requires c κs =
-    let turn = c .before .before in
-    omega (arith, count-fits turn, room (turn .before .before), sized (turn .before))
+double-requires c κs = search needs
 
 abbrev head : tie.After-slice-known2 Inv-loop μ-loop → tie.In-loop Inv-loop μ-loop
 head c = c .before .before .before .before .before
@@ -100,16 +98,17 @@ loop-again c =
     let before = head c .before .loop in
     let args = start (head c .before) .args in
     let pair = c .before .before .before .pair in
-    let doubling = c .before .before .double in
+    let turn = head c in
+    let doubling = c .before .before .double .ensures .room (omega (arith, count-fits turn, room (turn .before .before), sized (turn .before))) in
     let count = before .inv .1 in (
       search needs,
       rw add-one (omega (arith, count, pow-suc 2 (before .i))),
-      doubling .ensures
+      doubling
           ∙ ap₂ (λ (n : ℕ) (l : List ℕ). doubled n (pair .result) n l) count (before .inv .2)
           ∙ ap (λ (r : ℕ). doubled (2 ^ before .i) r (2 ^ before .i) (listed (rowOf (now (args .sheet))) (before .i) (set (now (args .words)) 0 0)))
           (pair .ensures)
           ∙ sym (listed-one-more (rowOf (now (args .sheet))) (before .i) (set (now (args .words)) 0 0)),
-      ap length (doubling .ensures) ∙ length-doubled _ _ _ _ ∙ before .inv .3,
+      ap length doubling ∙ length-doubled _ _ _ _ ∙ before .inv .3,
     )
 
 same-length : tie.Need-same-length Inv-loop μ-loop

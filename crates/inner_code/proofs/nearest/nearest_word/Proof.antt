@@ -20,29 +20,29 @@ use Rattle.inner_code.proofs.nearest.nearest_word.Tie as tie
 use Rattle.inner_code.proofs.nearest.nearest_word.Reads as reads
 use Rattle.inner_code.proofs.nearest.nearest_word.Lts as lts
 use Rattle.inner_code.proofs.nearest.nearest_of_rows.Reads as nearest-of-rows-reads
-use Rattle.inner_code.proofs.sheet.check_sheet.Reads as check-sheet-reads
+use Rattle.inner_code.proofs.sheet.check_into.Reads as check-into-reads
 
-check-sheet-requires : tie.Need-check-sheet-requires
-check-sheet-requires c κs = search needs
+check-into-requires : tie.Need-check-into-requires
+check-into-requires c κs = search needs
 
-enum-known-values : tie.Need-enum-known-values
-enum-known-values c = search needs
+enum-known-r : tie.Need-enum-known-r
+enum-known-r c = search needs
 
-enum-known-values-2 : tie.Need-enum-known-values-2
-enum-known-values-2 c = search needs
+enum-known-d : tie.Need-enum-known-d
+enum-known-d c = search needs
 
 -- ---- the sheet's check, the call, and what an accepted sheet gives
 
-abbrev checked : tie.After-known-told2 → tie.After-check-sheet
+abbrev checked : tie.After-known-told2 → tie.After-check-into
 checked c = c .before .before .before
 
-abbrev start : tie.After-check-sheet → tie.Start
-start c = c .before .before
+abbrev start : tie.After-check-into → tie.Start
+start c = c .before .before .before
 
 plan : (c : tie.After-known-told2)
-    → Accepted (now (start (checked c) .args .sheet)) (checked c .check-sheet .result)
-    (c .before .values2 .given .0 .0) (c .before .values2 .given .0 .1 .0)
-plan c = accepted _ _ _ _ (checked c .check-sheet .ensures) (c .before .values2 .given .1)
+    → Accepted (now (start (checked c) .args .sheet)) (checked c .check-into .last .1 .0)
+    (c .before .d .given .0 .0) (c .before .d .given .0 .1 .0)
+plan c = accepted (checked c .check-into .ensures) (c .before .d .given .1)
 
 -- a word of 64 bits holds 2^d
 power : (d : ℕ) → d ≤ 16 → (1 * 2 ^ d) % 18446744073709551616 ≡ 2 ^ d
@@ -78,7 +78,7 @@ cast-changed c = search needs
 
 returns-2 : tie.Need-returns-2
 returns-2 c =
-    sym (nearest-answer-refused _ _ _ _ (turned-back _ _ _ (c .before .before .before .check-sheet .ensures) (c .before .values .given .1)))
+    sym (nearest-answer-refused _ _ _ _ (turned-back (c .before .before .before .check-into .ensures) (c .before .r .given .1)))
 
 returns-3 : tie.Need-returns-3
 returns-3 c =
@@ -87,7 +87,7 @@ returns-3 c =
     let args = start (checked (found .before .before)) .args in
     let sheet = now (args .sheet) in
     let word = args .word in
-    let rows : min (found .before .before .before .values2 .given .0 .1 .0) 11 ≡ rowCount sheet =
+    let rows : min (found .before .before .before .d .given .0 .1 .0) 11 ≡ rowCount sheet =
     ap (λ (k : ℕ). min k 11) (p .k-is) ∙ min-eq-left (p .sheet-sound .count-high) in
     let nearest = ap (λ (k : ℕ). searched (combination (rowOf sheet) k) (2 ^ k) word) rows
     ∙ nearest-searched (rowOf sheet) (rowCount sheet) (degree sheet) (p .sheet-sound .degree-high) (p .sheet-sound .rows-lt)
@@ -101,9 +101,9 @@ pub nearest-word-spec : {M : Type 1} → statement M
 nearest-word-spec =
     tie.close
     (tie.spec
-    check-sheet-requires
-    enum-known-values
-    enum-known-values-2
+    check-into-requires
+    enum-known-r
+    enum-known-d
     shl-if1
     returns
     cast-nearest-of-rows

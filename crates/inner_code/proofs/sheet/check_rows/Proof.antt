@@ -6,13 +6,13 @@ use borrow.Author.Needs.{needs}
 use native.Mathlib.Omega.{arith}
 use native.Mathlib.Nat.{min-eq-left}
 use denote.Ref.{now}
-use lib.ListN.{replicate, set}
+use lib.ListN.{length, set}
 use Rattle.bits.specs.Window.{at}
 use Rattle.bits.proofs.Windows.{shifted-one}
 use Rattle.inner_code.specs.Reply.{done}
 use Rattle.inner_code.specs.Sheet.{rowOf, rowsCheck}
 use Rattle.inner_code.specs.Reduction.{withEchelon, echelon, reducedBy}
-use Rattle.inner_code.proofs.EchelonForm.{withEchelon-one-more, reducedBy-stored}
+use Rattle.inner_code.proofs.EchelonForm.{length-withEchelon, withEchelon-one-more, reducedBy-stored}
 use Rattle.inner_code.proofs.SheetChecks.{row-high, row-made, row-sound, rows-one-more, rows-refused, rows-answer-refused, rows-answer-done}
 use Rattle.inner_code.proofs.sheet.check_rows.Statement.{statement}
 use Rattle.inner_code.proofs.sheet.check_rows.Tie as tie
@@ -20,22 +20,24 @@ use Rattle.inner_code.proofs.sheet.check_rows.Reads as reads
 use Rattle.inner_code.proofs.sheet.check_rows.Lts as lts
 use Rattle.bits.proofs.pair.Reads as pair-reads
 use Rattle.inner_code.proofs.membership.residue.Reads as residue-reads
+use Rattle.inner_code.proofs.sheet.put_row.Reads as put-row-reads
 
 -- what is left of row i by the stored rows is its echelon row
-left : (sheet basis : List ℕ) (i row result : ℕ) → i ≤ 11 → basis ≡ withEchelon (rowOf sheet) i (replicate 11 0) → row ≡ rowOf sheet i
+left : (sheet before basis : List ℕ) (i row result : ℕ) → i ≤ 11 → i ≤ length before → basis ≡ withEchelon (rowOf sheet) i before → row ≡ rowOf sheet i
     → result ≡ reducedBy (at basis) (min i 11) row → result ≡ echelon (rowOf sheet) i
 unfolding echelon
-left sheet basis i row result h b r e =
+left sheet before basis i row result h room b r e =
     e ∙ ap₂ (λ (l : List ℕ) (n : ℕ). reducedBy (at l) n row) b (min-eq-left h)
-    ∙ ap (reducedBy (at (withEchelon (rowOf sheet) i (replicate 11 0))) i) r
-    ∙ reducedBy-stored (rowOf sheet) i (replicate 11 0) (rowOf sheet i) h
+    ∙ ap (reducedBy (at (withEchelon (rowOf sheet) i before)) i) r
+    ∙ reducedBy-stored (rowOf sheet) i before (rowOf sheet i) room
 
 abbrev Inv-loop : tie.InvT-loop
-Inv-loop sheet d k limit basis₀ i₀ basis i =
-    (i ≤ k) × (k ≤ 11) × (limit ≡ 2 ^ d) × (rowsCheck d (rowOf sheet) i ≡ done []) × (basis ≡ withEchelon (rowOf sheet) i (replicate 11 0))
+Inv-loop sheet d k basis₀ limit i₀ basis i =
+    (i ≤ k) × (k ≤ 11) × (limit ≡ 2 ^ d) × (rowsCheck d (rowOf sheet) i ≡ done []) × (basis ≡ withEchelon (rowOf sheet) i basis₀)
+    × (i ≤ length basis₀)
 
 abbrev μ-loop : tie.MeasureT-loop
-μ-loop sheet d k limit basis₀ i₀ basis i = k - i
+μ-loop sheet d k basis₀ limit i₀ basis i = k - i
 
 cast-limit : tie.Need-cast-limit Inv-loop μ-loop
 cast-limit c = search needs
@@ -45,7 +47,7 @@ shl-limit c = search needs
 
 loop-holds : tie.Need-loop-holds Inv-loop μ-loop
 unfolding rowsCheck withEchelon
-loop-holds c = (search needs, search needs, shifted-one (c .before .args .d) 32 (omega arith), refl, refl)
+loop-holds c = (search needs, search needs, shifted-one (c .before .args .d) 32 (omega arith), refl, refl, search needs)
 
 mul-pair : tie.Need-mul-pair Inv-loop μ-loop
 mul-pair c = search needs
@@ -91,8 +93,8 @@ returns c =
 residue-requires : tie.Need-residue-requires Inv-loop μ-loop
 residue-requires c κs = search needs
 
-cast-t19 : tie.Need-cast-t19 Inv-loop μ-loop
-cast-t19 c = search needs
+cast-t17 : tie.Need-cast-t17 Inv-loop μ-loop
+cast-t17 c = search needs
 
 -- row i has no bit past the first d
 row-low : (c : tie.After-residue Inv-loop μ-loop)
@@ -106,8 +108,8 @@ left-is : (c : tie.After-residue Inv-loop μ-loop)
 unfolding rowOf
 left-is c =
     let turn = head (read c) .loop in
-    left (now (start (head (read c)) .args .sheet)) (turn .basis) (turn .i) (read c .pair .result) (c .residue .result) (search needs)
-    (turn .inv .4) (read c .pair .ensures) (c .residue .ensures)
+    left (now (start (head (read c)) .args .sheet)) _ (turn .basis) (turn .i) (read c .pair .result) (c .residue .result) (search needs)
+    (turn .inv .5) (turn .inv .4) (read c .pair .ensures) (c .residue .ensures)
 
 returns-2 : tie.Need-returns-2 Inv-loop μ-loop
 unfolding rowOf echelon
@@ -126,11 +128,8 @@ returns-2 c =
       rows = turn .inv .4;
     }
 
-mul-basis : tie.Need-mul-basis Inv-loop μ-loop
-mul-basis c = search needs
-
-array-write-basis : tie.Need-array-write-basis Inv-loop μ-loop
-array-write-basis c = search needs
+put-row-requires : tie.Need-put-row-requires Inv-loop μ-loop
+put-row-requires c κs = search needs
 
 add-i : tie.Need-add-i Inv-loop μ-loop
 add-i c = search needs
@@ -141,17 +140,19 @@ loop-less c = search needs
 loop-again : tie.Need-loop-again Inv-loop μ-loop
 unfolding rowOf echelon
 loop-again c =
-    let here = head (read (c .before)) in
+    let reduced = c .before .before .before in
+    let here = head (read reduced) in
     let turn = here .loop in
     let args = start here .args in
     let row = rowOf (now (args .sheet)) in
-    let sound = row-sound (args .d) row (turn .i) (row-low (c .before)) (λ z. c .if2 .left (left-is (c .before) ∙ z)) in (
+    let sound = row-sound (args .d) row (turn .i) (row-low reduced) (λ z. c .before .before .if2 .left (left-is reduced ∙ z)) in (
       search needs,
       search needs,
       turn .inv .2,
       rows-one-more (args .d) row (turn .i) (turn .inv .3) sound,
-      ap₂ (λ (l : List ℕ) (x : ℕ). set l (turn .i) x) (turn .inv .4) (left-is (c .before))
-          ∙ sym (withEchelon-one-more row (turn .i) (replicate 11 0)),
+      c .put-row .ensures ∙ ap₂ (λ (l : List ℕ) (x : ℕ). set l (turn .i) x) (turn .inv .4) (left-is reduced)
+          ∙ sym (withEchelon-one-more row (turn .i) (now (args .basis))),
+      omega (arith, c .before .put-row-arg .given .0, ap length (turn .inv .4), length-withEchelon row (turn .i) (now (args .basis))),
     )
 
 returns-3 : tie.Need-returns-3 Inv-loop μ-loop
@@ -162,7 +163,7 @@ returns-3 c =
     let end : turn .i ≡ args .k = omega arith in
     record {
       answer = sym (rows-answer-done (now (args .sheet)) (args .d) (args .k) (ap (rowsCheck (args .d) row) (sym end) ∙ turn .inv .3));
-      rows = turn .inv .4 ∙ ap (λ (n : ℕ). withEchelon row n (replicate 11 0)) end;
+      rows = turn .inv .4 ∙ ap (λ (n : ℕ). withEchelon row n (now (args .basis))) end;
     }
 
 pub check-rows-spec : {M : Type 1} → statement M
@@ -181,10 +182,9 @@ check-rows-spec =
     cast-t14
     returns
     residue-requires
-    cast-t19
+    cast-t17
     returns-2
-    mul-basis
-    array-write-basis
+    put-row-requires
     add-i
     loop-less
     loop-again

@@ -44,8 +44,8 @@ left-told c = c .before .before .before .before
 
 check-wiring-requires : tie.Need-check-wiring-requires
 check-wiring-requires c κs =
-    let l = accepted _ _ _ _ (left-sheet c .check-sheet .ensures) (left-told c .before .left-values2 .given .1) in
-    let r = accepted _ _ _ _ (right-sheet c .check-right .ensures) (c .before .right-values2 .given .1) in
+    let l = accepted (left-sheet c .check-sheet .ensures) (left-told c .before .left-values2 .given .1) in
+    let r = accepted (right-sheet c .check-right .ensures) (c .before .right-values2 .given .1) in
     (omega (arith, l .d-is, l .sheet-sound .degree-high), omega (arith, r .d-is, r .sheet-sound .degree-high))
 
 enum-known-r : tie.Need-enum-known-r

@@ -1,0 +1,5 @@
+pub mod Classes
+pub mod Answer
+pub mod Numbering
+pub mod Folding
+pub mod Finding
