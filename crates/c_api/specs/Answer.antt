@@ -1,6 +1,6 @@
 -- What a C host is told.
 --   told reply               a service's reply: its first value, 0 where it has none, or its refusal's number and place
---   toldWord reply           the nearest word's reply: as told, and beside it the bits changed, its second value
+--   toldWord reply           the reply of the nearest word or of the look-up: as told, and beside it the bits changed, its second value
 --   toldDecode reply counts  the decoder's reply: as told, and beside it the sums
 --   toldPlace reply          the locator's reply: nothing, or as place 1 for left (0) and 2 for right (1) and as value the vertex, or its refusal
 use Prim.Native.Nat.{ℕ, suc}

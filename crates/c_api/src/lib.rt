@@ -9,12 +9,14 @@ use messages::Taken;
 use radius::Margin;
 use radius::Spread;
 use report::Reported;
+use tables::Built;
 use wiring::Located;
 use wiring::SideName;
 ghost use mathlib.Core.List.{[], _∷_};
 ghost use mathlib.Core.Path.{_≡_};
 ghost use Rattle.inner_code.specs.Reply.{done, refused};
 ghost use Rattle.inner_code.specs.Answer.{nearestAnswer};
+ghost use Rattle.tables.specs.Answer.{buildAnswer, buildOutput, lookUpAnswer};
 ghost use Rattle.wiring.specs.Plan.{planOf};
 ghost use Rattle.wiring.specs.Answer.{locateAnswer, sideNumber};
 ghost use Rattle.decoder.specs.Answer.{decodeAnswer, decodeSums, decodeOutput};
@@ -33,7 +35,7 @@ pub struct Answer {
     pub value: u64,
 }
 
-// What the nearest word answers: as above, and how many bits it changed, 0 with a refusal.
+// What the nearest word and the look-up answer: as above, and how many bits it changed, 0 with a refusal.
 #[repr(C)]
 pub struct WordAnswer {
     pub number: u32,
@@ -64,6 +66,43 @@ pub extern "C" fn lembikat_nearest_word(sheet: &[u8], word: u64) -> WordAnswer
             number: 0,
             place: 0,
             value: nearest,
+            changed,
+        },
+        Nearest::Refused(refusal) => WordAnswer {
+            number: refusal.number,
+            place: refusal.place,
+            value: 0,
+            changed: 0,
+        },
+    }
+}
+
+// Builds the table of a sheet at the front of `output`. Refusals 1 to 6 and 13; a refusal writes nothing.
+#[no_mangle]
+pub extern "C" fn lembikat_build_table(sheet: &[u8], output: &mut [u8]) -> Answer
+    ensures { λ r. ⌜ r ≡ told (buildAnswer (now (sheet .entry)) (now (output .entry))) ⌝ }
+    ensures { λ _. ⌜ now (output .exit) ≡ buildOutput (now (sheet .entry)) (now (output .entry)) ⌝ }
+{
+    match tables::build_table(sheet, output) {
+        Built::Done => done(0),
+        Built::Refused(r) => refused(r),
+    }
+}
+
+// The word that a table has for a word, and how many bits it changes: on a table built for the sheet the nearest word. Refusals 1 to 6, 12 and
+// 13.
+#[no_mangle]
+pub extern "C" fn lembikat_look_up(sheet: &[u8], word: u64, table: &[u8]) -> WordAnswer
+    ensures { λ r. ⌜ r ≡ toldWord (lookUpAnswer (now (sheet .entry)) word (now (table .entry))) ⌝ }
+{
+    match tables::look_up(sheet, word, table) {
+        Nearest::Word {
+            word: found,
+            changed,
+        } => WordAnswer {
+            number: 0,
+            place: 0,
+            value: found,
             changed,
         },
         Nearest::Refused(refusal) => WordAnswer {

@@ -1,21 +1,26 @@
--- The papers' marked examples and a plan that settles, by which definitions are tried: none of this is needed to believe a contract of a service.
+-- Examples by which definitions are tried: none of this is needed to believe a contract of a service. They are the papers' marked ones, a plan
+-- that settles, and the table of the house sheet.
 --   Row         one example, with what it must give
 --   sameList, sameReply   two lists of numbers, and two replies, are the same
+--   pairs       numbers as bytes, two each, high byte first
+--   houseTable  the table of the house sheet: 16 classes, seven of them ties
 --   distances, named   the distance of each side, and the sweeps that the margin's numbers name
 --   lonePlan    a plan of one vertex a side: d, its one row, the wiring
 --   pairPlan    the pair plan: d 2, row 3, wiring 0, 1
 --   triplePlan  the smallest plan that mends a bit: d 3, row 7, wiring 0, 1, 2
 --   holds row   what the definitions give is what the row says
---   table       all rows
 --   allHold     every row of a list holds
-use Prim.Native.Nat.{ℕ, _*_}
-use mathlib.Core.List.{List, [], _∷_}
+--   examples    all rows but the whole table of the house sheet
+--   table       all rows
+use Prim.Native.Nat.{ℕ, _*_, _/_, _%_}
+use mathlib.Core.List.{List, [], _∷_, _++_}
 use mathlib.Core.Bool.{Bool, true, false, _&&_}
 use lib.Dec.{eqb}
 use lib.ListN.{replicate}
 use Rattle.inner_code.specs.Reply.{Reply, done, refused}
 use Rattle.inner_code.specs.Answer.{nearestAnswer}
 use Rattle.inner_code.specs.House.{houseSheet}
+use Rattle.tables.specs.Answer.{buildAnswer, buildOutput, lookUpAnswer}
 use Rattle.wiring.specs.Plan.{Plan, planOf}
 use Rattle.wiring.specs.Square.{squareWiring, squarePlan}
 use Rattle.wiring.specs.declared.side.SideName.{SideName}
@@ -37,6 +42,10 @@ pub data Row : Type 0 where
   decoded : Plan → ℕ → ℕ → Reply → ℕ → ℕ → Row
   -- the pair plan: a message byte and the byte that it encodes to
   message : ℕ → ℕ → Row
+  -- a house word looked up in a table, and the answer
+  lookedUp : ℕ → List ℕ → Reply → Row
+  -- the house sheet's table built in a lent output: the answer, and the output afterwards
+  built : List ℕ → Reply → List ℕ → Row
 
 -- two lists of numbers are the same
 unfoldable pub sameList : List ℕ → List ℕ → Bool
@@ -51,6 +60,19 @@ sameReply (done a) (done b) = sameList a b
 sameReply (done a) (refused n p) = false
 sameReply (refused n p) (done b) = false
 sameReply (refused n p) (refused m q) = eqb n m && eqb p q
+
+-- numbers as bytes, two each, high byte first
+unfoldable pub pairs : List ℕ → List ℕ
+pairs [] = []
+pairs (x ∷ xs) = x / 256 ∷ x % 256 ∷ pairs xs
+
+-- the table of the house sheet: 16 classes, seven of them ties
+unfoldable pub houseTable : List ℕ
+unfolding pairs
+houseTable =
+    pairs
+    (0x0000 ∷ 0x0001 ∷ 0x0002 ∷ 0xffff ∷ 0x0004 ∷ 0xffff ∷ 0xffff ∷ 0x0008
+    ∷ 0x0010 ∷ 0xffff ∷ 0xffff ∷ 0x0020 ∷ 0xffff ∷ 0x0040 ∷ 0x0080 ∷ 0xffff ∷ [])
 
 -- the inner distance of each side
 abbrev pub distances : ℕ → ℕ → SideName → ℕ
@@ -74,7 +96,9 @@ abbrev pub triplePlan : Plan
 triplePlan = lonePlan 3 7 (0 ∷ 0 ∷ 0 ∷ 1 ∷ 0 ∷ 2 ∷ [])
 
 unfoldable pub holds : Row → Bool
-unfolding nearestAnswer sameReply sameList squareWiring marginAnswer sweepsNamed decodeAnswer decodeSums decodeOutput encodedBlock
+unfolding
+    nearestAnswer sameReply sameList squareWiring marginAnswer sweepsNamed decodeAnswer decodeSums decodeOutput encodedBlock lookUpAnswer buildAnswer
+    buildOutput
 holds (house word nearest changed) = sameReply (nearestAnswer houseSheet word) (done (nearest ∷ changed ∷ []))
 holds (square flips reply) = sameReply (marginAnswer squarePlan flips) reply
 holds (margin n d D R flips sweeps) = eqb (named n d n D D R flips) sweeps
@@ -84,14 +108,17 @@ holds (decoded plan received limit reply left sum) =
     && (sameList (decodeOutput plan (received ∷ []) (0 ∷ []) limit) (left ∷ [])
     && sameList (decodeSums plan (received ∷ []) (0 ∷ []) limit) (sum ∷ replicate 63 0))
 holds (message byte encoded) = sameList (encodedBlock pairPlan (byte ∷ [])) (encoded ∷ [])
+holds (lookedUp word bytes reply) = sameReply (lookUpAnswer houseSheet word bytes) reply
+holds (built output reply left) = sameReply (buildAnswer houseSheet output) reply && sameList (buildOutput houseSheet output) left
 
 unfoldable pub allHold : List Row → Bool
 unfolding holds
 allHold [] = true
 allHold (row ∷ rows) = holds row && allHold rows
 
-unfoldable pub table : List Row
-table =
+unfoldable pub examples : List Row
+unfolding pairs houseTable
+examples =
     house 0x01 0x00 1
     ∷ house 0x07 0x0f 1
     ∷ house 0x03 0x03 0
@@ -113,4 +140,15 @@ table =
     ∷ decoded triplePlan 0xc0 0 (refused 15 0) 0xc0 0
     ∷ decoded triplePlan 0xc0 1 (done (1 ∷ [])) 0xe0 1
     ∷ message 0x80 0xc0
+    ∷ lookedUp 0x07 houseTable (done (0x0f ∷ 1 ∷ []))
+    ∷ lookedUp 0xc0 houseTable (done (0xc0 ∷ 0 ∷ []))
+    ∷ lookedUp 0xff houseTable (done (0xff ∷ 0 ∷ []))
+    ∷ lookedUp 0x10 (pairs (replicate 16 0xfe11)) (done (0x01 ∷ 2 ∷ []))
+    ∷ lookedUp 0xff (replicate 31 0) (refused 13 0)
+    ∷ lookedUp 0x100 [] (refused 12 0)
+    ∷ built (replicate 31 0) (refused 13 0) (replicate 31 0)
     ∷ []
+
+unfoldable pub table : List Row
+unfolding examples houseTable
+table = built (replicate 32 0 ++ (7 ∷ 8 ∷ [])) (done []) (houseTable ++ (7 ∷ 8 ∷ [])) ∷ examples

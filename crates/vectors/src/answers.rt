@@ -8,6 +8,7 @@ use messages::Taken;
 use radius::Margin;
 use radius::Spread;
 use report::Reported;
+use tables::Built;
 use wiring::Located;
 use wiring::SideName;
 
@@ -18,6 +19,17 @@ pub fn answer(service: u8) {
     if service == 1 {
         let word = input::number();
         nearest(&sheet_space[..sheet], word);
+        output::end_line();
+        return;
+    }
+    if service == 10 {
+        build(&sheet_space[..sheet]);
+        output::end_line();
+        return;
+    }
+    if service == 11 {
+        let word = input::number();
+        look_up(&sheet_space[..sheet], word);
         output::end_line();
         return;
     }
@@ -107,13 +119,40 @@ fn on_block(
 }
 
 fn nearest(sheet: &[u8], word: u64) {
-    match inner_code::nearest_word(sheet, word) {
-        Nearest::Word {
-            word: nearest,
-            changed,
-        } => {
+    word_line(inner_code::nearest_word(sheet, word));
+}
+
+fn build(sheet: &[u8]) {
+    let mut space = [0u8; 70000];
+    let table = input::bytes(&mut space);
+    build_into(sheet, &mut space[..table]);
+}
+
+fn build_into(sheet: &[u8], table: &mut [u8]) {
+    match tables::build_table(sheet, table) {
+        Built::Done => {
+            output::text(b"ok");
+        }
+        Built::Refused(r) => {
+            output::refused(r.number, r.place);
+        }
+    }
+    output::text(b" ");
+    output::bytes(table);
+}
+
+fn look_up(sheet: &[u8], word: u64) {
+    let mut space = [0u8; 70000];
+    let table = input::bytes(&mut space);
+    word_line(tables::look_up(sheet, word, &space[..table]));
+}
+
+// A word and the number of bits changed, or the refusal.
+fn word_line(answer: Nearest) {
+    match answer {
+        Nearest::Word { word, changed } => {
             output::text(b"ok ");
-            output::number(nearest);
+            output::number(word);
             output::text(b" ");
             output::number(changed);
         }
