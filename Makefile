@@ -66,10 +66,10 @@ $(BUILD)/test_vectors: host/test_vectors.c host/reference.c host/reference.h inc
 $(BUILD)/test_stack: host/test_stack.c include/lembikat.h $(LIBRARY)
 	$(CC) $(CFLAGS) -Iinclude -pthread host/test_stack.c $(LIBRARY) -o $@
 
-# The baseline is compiled apart from its callers, as the library is.
+# The baseline is compiled apart from its callers, and its functions begin at multiples of 64, as the library's do.
 $(BUILD)/plain.o: bench/plain.c bench/plain.h
 	@mkdir -p $(BUILD)
-	$(CC) -std=c11 -Wall -Wextra -Werror -O3 -c bench/plain.c -o $@
+	$(CC) -std=c11 -Wall -Wextra -Werror -O3 -falign-functions=64 -c bench/plain.c -o $@
 
 $(BUILD)/bench: bench/bench.c bench/plain.h include/lembikat.h $(BUILD)/plain.o $(LIBRARY)
 	$(CC) $(CFLAGS) -Iinclude bench/bench.c $(BUILD)/plain.o $(LIBRARY) -o $@

@@ -84,10 +84,11 @@ static void flip(uint8_t *block, size_t bit)
     block[bit / 8] ^= (uint8_t)(128u >> (bit % 8));
 }
 
-/* The house code; the code of the example host's time slots; Reed-Muller codes of length 16, the first k rows of one list. With
-   5 rows the all-ones word stands in the middle of the list of codewords. */
+/* The house code; the code of the example host's time slots; sixteen bits alike; Reed-Muller codes of length 16, the first k
+   rows of one list. With 5 rows the all-ones word stands in the middle of the list of codewords. */
 static const code house = {8, 4, {0xff, 0x0f, 0x33, 0x55}};
 static const code slots = {16, 7, {0x03a3, 0x0745, 0x0e89, 0x1d11, 0x3a21, 0x7441, 0xe881}};
+static const code k_1 = {16, 1, {0xffff}};
 static const code k_5 = {16, 5, {0x5555, 0x3333, 0x0f0f, 0x00ff, 0xffff}};
 static const code k_11 = {16, 11, {0x5555, 0x3333, 0x0f0f, 0x00ff, 0xffff, 0x1111, 0x0505, 0x0303, 0x0055, 0x0033, 0x000f}};
 
@@ -173,7 +174,8 @@ static uint8_t message[64];
 static size_t message_bytes;
 static uint64_t word;
 
-/* What the calls tell beside the value: the decoder its sums, the nearest word the bits changed as the first of them. */
+/* What the calls tell beside the value: the decoder its sums, the nearest word and the look-up the bits changed as the first of
+   them. */
 static uint16_t my_sums[LEMBIKAT_SUMS], their_sums[LEMBIKAT_SUMS];
 
 #define PLAN                                                                                                                   \
@@ -231,6 +233,44 @@ static uint64_t plain_finds(const plan *p)
     int number = plain_nearest_word(p->left.sheet, p->left.sheet_bytes, word, &nearest, &changed);
     their_sums[0] = (uint16_t)changed;
     return (uint64_t)number * 65536u + nearest;
+}
+
+/* The table that is built, the library's for the look-up too. */
+static uint8_t my_table[LEMBIKAT_MAX_TABLE_BYTES], their_table[LEMBIKAT_MAX_TABLE_BYTES];
+
+static size_t table_bytes(const plan *p)
+{
+    return LEMBIKAT_TABLE_BYTES(p->left.code.d, p->left.code.k);
+}
+
+static uint64_t library_builds(const plan *p)
+{
+    return lembikat_build_table(p->left.sheet, p->left.sheet_bytes, my_table, table_bytes(p)).number * 65536u;
+}
+
+static uint64_t plain_builds(const plan *p)
+{
+    return (uint64_t)plain_build_table(p->left.sheet, p->left.sheet_bytes, their_table, table_bytes(p)) * 65536u;
+}
+
+static uint64_t folded_builds(const plan *p)
+{
+    return (uint64_t)folded_build_table(p->left.sheet, p->left.sheet_bytes, their_table, table_bytes(p)) * 65536u;
+}
+
+static uint64_t library_looks_up(const plan *p)
+{
+    lembikat_word_answer a = lembikat_look_up(p->left.sheet, p->left.sheet_bytes, word, my_table, table_bytes(p));
+    my_sums[0] = (uint16_t)a.changed;
+    return a.number * 65536u + a.value;
+}
+
+static uint64_t plain_looks_up(const plan *p)
+{
+    uint64_t found = 0, changed = 0;
+    int number = plain_look_up(p->left.sheet, p->left.sheet_bytes, word, my_table, table_bytes(p), &found, &changed);
+    their_sums[0] = (uint16_t)changed;
+    return (uint64_t)number * 65536u + found;
 }
 
 /* What the locator, the report and the spread find, and the report's list. */
@@ -313,8 +353,9 @@ static const int with_expert = 0;
 
 static int differ(const plan *p, uint64_t says, uint64_t other)
 {
-    return says != other || my_value != their_value || memcmp(mine, theirs, block_bytes(p)) != 0
-           || memcmp(my_sums, their_sums, sizeof my_sums) != 0 || memcmp(my_list, their_list, sizeof my_list) != 0;
+    return says != other || my_value != their_value || memcmp(mine, theirs, block_bytes(p)) != 0 ||
+           memcmp(my_sums, their_sums, sizeof my_sums) != 0 || memcmp(my_list, their_list, sizeof my_list) != 0 ||
+           memcmp(my_table, their_table, sizeof my_table) != 0;
 }
 
 /* One line of the table. Answers whether the two differ. */
@@ -348,7 +389,9 @@ static int row(const plan *p, const char *input, work library, work plain)
         snprintf(ends, sizeof ends, "refused %u", (unsigned)(says / 65536));
     else if (library == library_encodes)
         snprintf(ends, sizeof ends, "encoded");
-    else if (library == library_finds)
+    else if (library == library_builds)
+        snprintf(ends, sizeof ends, "built");
+    else if (library == library_finds || library == library_looks_up)
         snprintf(ends, sizeof ends, "%u changed", my_sums[0]);
     else if (library == library_locates)
         snprintf(ends, sizeof ends, "%s", my_value ? "located" : "nowhere");
@@ -440,6 +483,25 @@ static int word_row(plan *p, const char *name, const code *c)
     return row(p, "a word", library_finds, plain_finds);
 }
 
+/* The building of a table, beside the search and beside the same steps in C. */
+static int table_rows(plan *p, const char *name, const code *c)
+{
+    int failed;
+    p->name = name;
+    set_side(&p->left, c, 1);
+    memset(my_table, 0, sizeof my_table);
+    memset(their_table, 0, sizeof their_table);
+    failed = row(p, "table, search", library_builds, plain_builds);
+    memset(their_table, 0, sizeof their_table);
+    return failed | row(p, "table, folded", library_builds, folded_builds);
+}
+
+/* The look-up in the table just built, of the word whose nearest word was found last. */
+static int look_up_row(const plan *p)
+{
+    return row(p, "look-up", library_looks_up, plain_looks_up);
+}
+
 int main(int count, char **words)
 {
     static plan p;
@@ -467,6 +529,11 @@ int main(int count, char **words)
     failed |= word_row(&p, "house", &house);
     failed |= word_row(&p, "d 16 k 5", &k_5);
     failed |= word_row(&p, "d 16 k 11", &k_11);
+    failed |= table_rows(&p, "d 16 k 11", &k_11);
+    failed |= look_up_row(&p);
+    failed |= table_rows(&p, "d 16 k 5", &k_5);
+    failed |= table_rows(&p, "d 16 k 1", &k_1);
+    failed |= look_up_row(&p);
 
     /* Unequal sides: more carriers, with the house code, than time slots. The smaller plan is the example host's. */
     set_rectangles(&p, "carriers, 16 by 8", &house, &slots, 1);

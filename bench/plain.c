@@ -1,4 +1,4 @@
-/* The plain C of the benchmark: decoder, nearest word, locator, report, spread and encoder. */
+/* The plain C of the benchmark: decoder, nearest word, locator, report, spread, encoder and tables. */
 #include "plain.h"
 
 #include <string.h>
@@ -128,9 +128,8 @@ static int is_word(const code *c, unsigned word)
     return 0;
 }
 
-/* The word stays as it is where more than one pattern has the fewest ones. Also adds the bits changed to `changed`: the search
- * has them at hand. */
-static unsigned nearest(const code *c, unsigned word, unsigned *changed)
+/* The search: the first pattern with the fewest ones, and how many ones it has. Answers how many patterns have so few. */
+static unsigned lightest(const code *c, unsigned word, unsigned *found, unsigned *ones_found)
 {
     unsigned best = 0, fewest = 17, ways = 0;
     for (size_t m = 0; m < c->count; m++) {
@@ -144,10 +143,20 @@ static unsigned nearest(const code *c, unsigned word, unsigned *changed)
             ways++;
         }
     }
-    if (ways != 1)
+    *found = best;
+    *ones_found = fewest;
+    return ways;
+}
+
+/* The word stays as it is where more than one pattern has the fewest ones. Also adds the bits changed to `changed`: the search
+ * has them at hand. */
+static unsigned nearest(const code *c, unsigned word, unsigned *changed)
+{
+    unsigned pattern, ones;
+    if (lightest(c, word, &pattern, &ones) != 1)
         return word;
-    *changed += fewest;
-    return word ^ best;
+    *changed += ones;
+    return word ^ pattern;
 }
 
 static int is_satisfied(const code *c, int right, size_t n, const uint8_t *wiring, const uint8_t *block)
@@ -426,5 +435,165 @@ int plain_encode(const uint8_t *left_sheet, size_t left_sheet_bytes, const uint8
         if (ones % 2)
             output[e / 8] |= (uint8_t)(128u >> (e % 8));
     }
+    return 0;
+}
+
+/* ---- tables ---- */
+
+/* A sheet by the echelon form of its rows, without a list of its codewords. What the form leaves of a word is the smallest word
+ * of its class: the pivots, the highest digits of the form's rows, are cleared in it. */
+typedef struct {
+    int d, k;
+    uint16_t basis[11];
+    unsigned pivots;
+} echelon;
+
+static int check_echelon(const uint8_t *sheet, size_t bytes, echelon *e)
+{
+    if (bytes < 2)
+        return 1;
+    e->d = sheet[0];
+    e->k = sheet[1];
+    e->pivots = 0;
+    if (e->d < 2 || e->d > 16)
+        return 2;
+    if (e->k < 1 || e->k > 11 || e->k > e->d)
+        return 3;
+    if (bytes != 2 + 2 * (size_t)e->k)
+        return 4;
+    for (int i = 0; i < e->k; i++) {
+        unsigned row = sheet[2 + 2 * i] * 256u + sheet[3 + 2 * i];
+        if (row >> e->d)
+            return 5;
+        row = left_of(e->basis, i, row);
+        if (row == 0)
+            return 6;
+        e->basis[i] = (uint16_t)row;
+        e->pivots |= 1u << (31 - __builtin_clz(row));
+    }
+    return 0;
+}
+
+static size_t table_bytes(const echelon *e)
+{
+    return (size_t)2 << (e->d - e->k);
+}
+
+/* The number of a class, of its smallest word: the pivots are squeezed out. */
+static unsigned squeezed(const echelon *e, unsigned word)
+{
+    unsigned number = 0;
+    for (int b = e->d - 1; b >= 0; b--)
+        if (!((e->pivots >> b) & 1u))
+            number = 2 * number + ((word >> b) & 1u);
+    return number;
+}
+
+static unsigned entry_at(const uint8_t *table, size_t i)
+{
+    return table[2 * i] * 256u + table[2 * i + 1];
+}
+
+static void put_entry(uint8_t *table, size_t i, unsigned entry)
+{
+    table[2 * i] = (uint8_t)(entry >> 8);
+    table[2 * i + 1] = (uint8_t)entry;
+}
+
+int plain_build_table(const uint8_t *sheet, size_t sheet_bytes, uint8_t *output, size_t output_bytes)
+{
+    code c;
+    echelon e;
+    int fault = check_sheet(sheet, sheet_bytes, &c);
+    if (!fault)
+        fault = check_echelon(sheet, sheet_bytes, &e);
+    if (fault)
+        return fault;
+    if (output_bytes < table_bytes(&e))
+        return 13;
+    size_t number = 0;
+    for (unsigned word = 0; word >> c.d == 0; word++) {
+        if (word & e.pivots)
+            continue; /* not the smallest of its class */
+        unsigned pattern, ones, ways = lightest(&c, word, &pattern, &ones);
+        put_entry(output, number++, ways == 1 ? pattern : 0xffff);
+    }
+    return 0;
+}
+
+/* The lighter of a class's key and of another one, with the digit that leads there put on; a tie where both have as many
+ * ones. */
+static uint32_t lighter(uint32_t own, uint32_t other)
+{
+    uint32_t key = own < other ? own : other;
+    return own >> 17 == other >> 17 ? key | 1u << 16 : key;
+}
+
+/* Folds every pair of classes whose numbers are so far apart, each once: from the side without the highest digit in which the
+ * two differ. */
+static void fold(uint8_t *output, uint8_t *cost, size_t count, unsigned apart, uint32_t put_on)
+{
+    size_t top = (size_t)1 << (31 - __builtin_clz(apart));
+    for (size_t from = 0; from < count; from += 2 * top)
+        for (size_t i = from; i < from + top; i++) {
+            size_t j = i ^ apart;
+            uint32_t one = cost[i] * 65536u + entry_at(output, i), two = cost[j] * 65536u + entry_at(output, j);
+            uint32_t new_one = lighter(one, two + put_on), new_two = lighter(two, one + put_on);
+            cost[i] = (uint8_t)(new_one >> 16);
+            cost[j] = (uint8_t)(new_two >> 16);
+            put_entry(output, i, new_one & 0xffff);
+            put_entry(output, j, new_two & 0xffff);
+        }
+}
+
+/* The digits are let in one after another, the lowest first. A key is 65536 times the cost of a class's lightest pattern among
+ * the digits let in, and the pattern; a cost is twice the ones, and one more for a tie. A free digit doubles the classes. A
+ * pivot leads from each class to another, so that each may take the other's pattern with this digit put on. */
+int folded_build_table(const uint8_t *sheet, size_t sheet_bytes, uint8_t *output, size_t output_bytes)
+{
+    echelon e;
+    uint8_t cost[32768];
+    int fault = check_echelon(sheet, sheet_bytes, &e);
+    if (fault)
+        return fault;
+    if (output_bytes < table_bytes(&e))
+        return 13;
+    size_t count = 1;
+    cost[0] = 0;
+    put_entry(output, 0, 0);
+    for (int b = 0; b < e.d; b++) {
+        unsigned digit = 1u << b, left = left_of(e.basis, e.k, digit);
+        if (left == digit) {
+            for (size_t i = 0; i < count; i++) {
+                cost[count + i] = (uint8_t)(cost[i] + 2);
+                put_entry(output, count + i, entry_at(output, i) | digit);
+            }
+            count *= 2;
+            continue;
+        }
+        if (left != 0) /* a codeword leads nowhere */
+            fold(output, cost, count, squeezed(&e, left), 2 * 65536u + digit);
+    }
+    for (size_t i = 0; i < count; i++)
+        if (cost[i] & 1)
+            put_entry(output, i, 0xffff);
+    return 0;
+}
+
+int plain_look_up(const uint8_t *sheet, size_t sheet_bytes, uint64_t word, const uint8_t *table, size_t bytes,
+                  uint64_t *nearest_word, uint64_t *changed)
+{
+    echelon e;
+    int fault = check_echelon(sheet, sheet_bytes, &e);
+    if (fault)
+        return fault;
+    if (word >> e.d)
+        return 12;
+    if (bytes < table_bytes(&e))
+        return 13;
+    unsigned entry = entry_at(table, squeezed(&e, left_of(e.basis, e.k, (unsigned)word)));
+    unsigned pattern = entry == 0xffff ? 0 : entry & ((1u << e.d) - 1);
+    *nearest_word = word ^ pattern;
+    *changed = (uint64_t)__builtin_popcount(pattern);
     return 0;
 }

@@ -8,6 +8,16 @@
 /* The nearest word by search over the codewords, the word as it is at a tie, and the bits that it changed. */
 int plain_nearest_word(const uint8_t *sheet, size_t sheet_bytes, uint64_t word, uint64_t *nearest_word, uint64_t *changed);
 
+/* The table of a sheet: for each class the search over the codewords. */
+int plain_build_table(const uint8_t *sheet, size_t sheet_bytes, uint8_t *output, size_t output_bytes);
+
+/* The same by the library's own steps, written in C: one digit after another, all classes at once. */
+int folded_build_table(const uint8_t *sheet, size_t sheet_bytes, uint8_t *output, size_t output_bytes);
+
+/* The look-up of a word in a table: the word and the bits changed. */
+int plain_look_up(const uint8_t *sheet, size_t sheet_bytes, uint64_t word, const uint8_t *table, size_t table_bytes,
+                  uint64_t *nearest_word, uint64_t *changed);
+
 /* The straightforward port of the paper: nearest word by search over the codewords, both sides tested before each sweep. The
  * sums are what the visits of each of the first 64 sweeps changed, added up. */
 int plain_decode(const uint8_t *left_sheet, size_t left_sheet_bytes, const uint8_t *right_sheet, size_t right_sheet_bytes,

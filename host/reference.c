@@ -1,6 +1,7 @@
 /* The services as documents 01 and 02 state them, by the plainest means: codewords are listed, the nearest word and the test
- * try all of them, the patterns with the fewest ones are counted, a block is held with one byte a bit, what a sweep changed is
- * counted on the blocks before and after it, the spread fills a table of all pairs of vertices. */
+ * try all of them, the patterns with the fewest ones are counted, the classes of a table are found by going through all words,
+ * a block is held with one byte a bit, what a sweep changed is counted on the blocks before and after it, the spread fills a
+ * table of all pairs of vertices. */
 #include "reference.h"
 
 #include <stdio.h>
@@ -9,6 +10,8 @@
 
 #define MAX_EDGES 32768
 #define MAX_WORDS 2048    /* 2 to the power of 11 rows */
+#define MAX_CLASSES 32768 /* of the words of 16 bits, with one row */
+#define MARK 0xffff       /* a table's entry for a tie */
 #define MESSAGE_EDGES 512 /* messages are for N up to this */
 #define SWEEPS_TOLD 64    /* the first sweeps, whose sums the decoder tells */
 
@@ -181,24 +184,52 @@ static int is_inner_codeword(const code *c, unsigned word)
     return 0;
 }
 
-/* One pattern leads to each codeword. Those with the fewest ones are counted: if there is exactly one, it is put on the word;
- * if there are more, a tie, the word stays as it is. */
-static unsigned nearest(const code *c, unsigned word)
+/* One pattern leads to each codeword. Those with the fewest ones are counted, and the last of them is told. */
+static size_t lightest(const code *c, unsigned word, unsigned *found)
 {
     unsigned fewest = c->d; /* no pattern has more ones */
     for (size_t j = 0; j < c->words; j++)
         if (ones(word ^ c->word[j]) < fewest)
             fewest = ones(word ^ c->word[j]);
-    unsigned found = 0;
     size_t ways = 0;
     for (size_t j = 0; j < c->words; j++) {
         unsigned pattern = word ^ c->word[j];
         if (ones(pattern) == fewest) {
-            found = pattern;
+            *found = pattern;
             ways++;
         }
     }
-    return ways == 1 ? word ^ found : word;
+    return ways;
+}
+
+/* If exactly one pattern has the fewest ones, it is put on the word; if there are more, a tie, the word stays as it is. */
+static unsigned nearest(const code *c, unsigned word)
+{
+    unsigned pattern = 0;
+    return lightest(c, word, &pattern) == 1 ? word ^ pattern : word;
+}
+
+/* The classes of words that differ by a codeword. All words are gone through in rising order: one that is in no class yet is
+ * the smallest of the next class, and every word that differs from it by a codeword is in it too. Answers their number. */
+typedef struct {
+    unsigned smallest[MAX_CLASSES];
+    unsigned class_of[1 << 16]; /* of each word */
+} class_list;
+
+static size_t list_classes(const code *c, class_list *list)
+{
+    const unsigned none = MAX_CLASSES;
+    size_t count = 0;
+    for (unsigned word = 0; word < 1u << c->d; word++)
+        list->class_of[word] = none;
+    for (unsigned word = 0; word < 1u << c->d; word++) {
+        if (list->class_of[word] != none)
+            continue;
+        for (size_t j = 0; j < c->words; j++)
+            list->class_of[word ^ c->word[j]] = (unsigned)count;
+        list->smallest[count++] = word;
+    }
+    return count;
 }
 
 static lembikat_answer first_unsatisfied(const graph *g, const uint8_t *bit)
@@ -422,6 +453,47 @@ lembikat_word_answer reference_nearest_word(const uint8_t *sheet, size_t sheet_b
         answer = done(0, nearest(&c, (unsigned)word));
         for (unsigned j = 0; j < c.d; j++)
             changed += (word >> j & 1) != (answer.value >> j & 1);
+    }
+    return (lembikat_word_answer){.number = answer.number, .place = answer.place, .value = answer.value, .changed = changed};
+}
+
+/* The same patterns lead from every word of a class to codewords, so its smallest word stands for it. */
+lembikat_answer reference_build_table(const uint8_t *sheet, size_t sheet_bytes, uint8_t *output, size_t output_bytes)
+{
+    static code c;
+    static class_list list;
+    lembikat_answer answer = check_sheet(sheet, sheet_bytes, &c);
+    if (answer.number != 0)
+        return answer;
+    size_t classes = list_classes(&c, &list);
+    if (output_bytes < 2 * classes)
+        return refused(13, 0);
+    for (size_t i = 0; i < classes; i++) {
+        unsigned entry = 0;
+        if (lightest(&c, list.smallest[i], &entry) != 1)
+            entry = MARK;
+        output[2 * i] = (uint8_t)(entry / 256);
+        output[2 * i + 1] = (uint8_t)(entry % 256);
+    }
+    return done(0, 0);
+}
+
+lembikat_word_answer reference_look_up(const uint8_t *sheet, size_t sheet_bytes, uint64_t word, const uint8_t *table,
+                                       size_t table_bytes)
+{
+    static code c;
+    static class_list list;
+    lembikat_answer answer = check_sheet(sheet, sheet_bytes, &c);
+    uint64_t changed = 0;
+    if (answer.number == 0 && word >= (uint64_t)1 << c.d)
+        answer = refused(12, 0);
+    if (answer.number == 0 && table_bytes < 2 * list_classes(&c, &list))
+        answer = refused(13, 0);
+    if (answer.number == 0) {
+        unsigned entry = pair_at(table, list.class_of[word]);
+        unsigned pattern = entry == MARK ? 0 : entry % (1u << c.d);
+        answer = done(0, word ^ pattern);
+        changed = ones(pattern);
     }
     return (lembikat_word_answer){.number = answer.number, .place = answer.place, .value = answer.value, .changed = changed};
 }

@@ -1,13 +1,18 @@
 /* A second, slow and plain set of the services, for tests alone: what documents 01 and 02 say, by listing and searching.
  *
- * Parameters and answers are those of the calls on a lembikat_plan, so that a test can put the two side by side. Only the types
- * of the plan and of the answers are shared with the library. */
+ * Parameters and answers are those of the calls on a sheet or on a lembikat_plan, so that a test can put the two side by side.
+ * Only the types of the plan and of the answers are shared with the library. */
 #ifndef REFERENCE_H
 #define REFERENCE_H
 
 #include "lembikat.h"
 
 lembikat_word_answer reference_nearest_word(const uint8_t *sheet, size_t sheet_bytes, uint64_t word);
+
+lembikat_answer reference_build_table(const uint8_t *sheet, size_t sheet_bytes, uint8_t *output, size_t output_bytes);
+
+lembikat_word_answer reference_look_up(const uint8_t *sheet, size_t sheet_bytes, uint64_t word, const uint8_t *table,
+                                       size_t table_bytes);
 
 lembikat_answer reference_locate(const lembikat_plan *plan, const uint8_t *block, size_t block_bytes);
 

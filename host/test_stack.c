@@ -1,8 +1,10 @@
-/* test_stack: how much stack each call takes, on the largest plan that it accepts, and the decoder on plans with unequal sides.
+/* test_stack: how much stack each call takes, on the largest plan or sheet that it accepts, the decoder also on plans with
+ * unequal sides, the building of a table also on the sheet with the most rows.
  *
  * Each call runs in a thread of its own, on a stack that was painted beforehand. What is no longer painted afterwards, down to
  * the lowest byte that was touched, less what a thread that does nothing touches, is the call's. Prints one line a call,
- * `NAME BYTES` and the plan; the exit status is 1 where a call takes more than the table allows, or did not end as it should.
+ * `NAME BYTES` and the plan or sheet; the exit status is 1 where a call takes more than the table allows, or did not end as it
+ * should.
  */
 #define _POSIX_C_SOURCE 200809L
 
@@ -13,12 +15,14 @@
 #include <stdlib.h>
 #include <string.h>
 
-static void nearest_word(void), locate(void), report(void), spread(void), margin(void), encode(void), read_block(void);
+static void nearest_word(void), build_largest_table(void), build_smallest_table(void), look_up(void);
+static void locate(void), report(void), spread(void), margin(void), encode(void), read_block(void);
 static void decode(void), decode_two_codes(void), decode_house_right(void), decode_house_left(void);
 
 /* The bytes that each call may take, as the header says, and the number that it must answer here. The decoder's blocks are such
  * that do not settle, so that it runs its sweeps and writes the received block back. */
-#define DECODE_BYTES (90 * 1024)
+#define DECODE_BYTES (96 * 1024)
+#define BUILD_BYTES (34 * 1024)
 
 static const struct {
     const char *name, *plan;
@@ -27,6 +31,9 @@ static const struct {
     void (*run)(void);
 } calls[] = {
     {"lembikat_nearest_word", "k 11", 5 * 1024, LEMBIKAT_DONE, nearest_word},
+    {"lembikat_build_table", "k 1", BUILD_BYTES, LEMBIKAT_DONE, build_largest_table},
+    {"lembikat_build_table", "k 11", BUILD_BYTES, LEMBIKAT_DONE, build_smallest_table},
+    {"lembikat_look_up", "k 11", 1024, LEMBIKAT_DONE, look_up},
     {"lembikat_locate", "largest", 38 * 1024, LEMBIKAT_DONE, locate},
     {"lembikat_decode", "largest", DECODE_BYTES, LEMBIKAT_UNSETTLED, decode},
     {"lembikat_decode", "two codes of k 11", DECODE_BYTES, LEMBIKAT_UNSETTLED, decode_two_codes},
@@ -44,11 +51,13 @@ static const struct {
 #define D 16
 #define SWEEPS 3
 
-/* The inner codes: two of 11 rows, the first of distance 4, the second with other codewords, and the house code. */
+/* The inner codes: two of 11 rows, the first of distance 4, the second with other codewords; one of one row, which has the
+ * largest table; the house code. */
 static const uint8_t sheet[LEMBIKAT_MAX_SHEET_BYTES] = {D,    11,   0xff, 0xff, 0x00, 0xff, 0x0f, 0x0f, 0x33, 0x33, 0x55, 0x55,
                                                         0x00, 0x0f, 0x00, 0x33, 0x00, 0x55, 0x03, 0x03, 0x05, 0x05, 0x11, 0x11};
 static const uint8_t other[LEMBIKAT_MAX_SHEET_BYTES] = {D,    11,   0x80, 0x1f, 0x40, 0x2d, 0x20, 0x33, 0x10, 0x47, 0x08, 0x4b,
                                                         0x04, 0x4d, 0x02, 0x53, 0x01, 0x55, 0x00, 0x99, 0x00, 0x07, 0x00, 0x19};
+static const uint8_t alike[] = {D, 1, 0xff, 0xff};
 #define HOUSE_D 8
 static const uint8_t house[] = {HOUSE_D, 4, 0x00, 0xff, 0x00, 0x0f, 0x00, 0x33, 0x00, 0x55};
 
@@ -64,7 +73,7 @@ static uint8_t large[2 * LARGE * D], small[2 * SMALL * D], mixed[2 * HALF * D];
 #define HOUSE_LEFT house, sizeof house, sheet, sizeof sheet, LARGE, HALF, mixed, sizeof mixed
 
 static uint8_t zeros[LEMBIKAT_MAX_BLOCK_BYTES], noise[LEMBIKAT_MAX_BLOCK_BYTES], output[LEMBIKAT_MAX_BLOCK_BYTES];
-static uint8_t list[LEMBIKAT_MAX_LIST_BYTES];
+static uint8_t list[LEMBIKAT_MAX_LIST_BYTES], table[LEMBIKAT_MAX_TABLE_BYTES];
 static uint8_t message[LEMBIKAT_MAX_MESSAGE_BYTES], block[LEMBIKAT_MAX_MESSAGE_BYTES];
 static size_t message_bytes;
 static uint32_t number; /* what the last call answered */
@@ -72,6 +81,21 @@ static uint32_t number; /* what the last call answered */
 static void nearest_word(void)
 {
     number = lembikat_nearest_word(sheet, sizeof sheet, 0xbeef).number;
+}
+
+static void build_largest_table(void)
+{
+    number = lembikat_build_table(alike, sizeof alike, table, LEMBIKAT_TABLE_BYTES(D, 1)).number;
+}
+
+static void build_smallest_table(void)
+{
+    number = lembikat_build_table(sheet, sizeof sheet, table, LEMBIKAT_TABLE_BYTES(D, 11)).number;
+}
+
+static void look_up(void)
+{
+    number = lembikat_look_up(sheet, sizeof sheet, 0xbeef, table, LEMBIKAT_TABLE_BYTES(D, 11)).number;
 }
 
 static void locate(void)

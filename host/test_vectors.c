@@ -1,15 +1,15 @@
 /* test_vectors STREAM EXPECTED: the library's exports against stored answers and against a second set of services.
  *
  * Part one runs every record of a stream of calls and compares the line that it gives with the expected one. Part two makes
- * calls that chance does not meet, among them every fault of every service alone and with every other one, and then 20,000
- * calls from a fixed seed, about half of them with faults and more than half on plans with unequal sides, and compares every
- * answer and every lent byte with reference.c. The last line is `test_vectors: N passed, M failed`; the exit status is 1 where
- * one failed.
+ * calls that chance does not meet, among them every fault of every service alone and with every other one and the tables of all
+ * d and k, and then 25,000 calls from a fixed seed, about half of them with faults and more than half of the plans with unequal
+ * sides, and compares every answer and every lent byte with reference.c. The last line is `test_vectors: N passed, M failed`;
+ * the exit status is 1 where one failed.
  *
  * The sanitizers do not see into the library. So every call is made twice: once by the call that takes the plan's parts, with
  * buffers on the heap, what is written between canaries, and once by the header's call on a plan in one piece, with every
  * buffer ending where a page begins that may neither be read nor written. Both must answer alike and leave what they only read
- * as it was.
+ * as it was. The calls on a sheet have one form, which is made in both ways.
  */
 #define _DEFAULT_SOURCE /* for MAP_ANONYMOUS */
 
@@ -26,14 +26,22 @@ _Static_assert(sizeof(size_t) == 8, "numbers of the stream have 64 bits and are 
 
 /* The library lays its answers out field by field: where a compiler put a gap the two would not speak of the same bytes. */
 _Static_assert(sizeof(lembikat_answer) == 16, "the answer has a gap");
-_Static_assert(sizeof(lembikat_word_answer) == 24, "the nearest word's answer has a gap");
+_Static_assert(sizeof(lembikat_word_answer) == 24, "the answer of the nearest word and the look-up has a gap");
 _Static_assert(sizeof(lembikat_decode_answer) == 144, "the decoder's answer has a gap");
 
-#define RANDOM_CALLS 20000
+#define RANDOM_CALLS 25000
 #define SHOWN_FAILURES 10
 #define LAST_REFUSAL LEMBIKAT_EDGE_COUNTS_DIFFER
-#define LAST_SERVICE 9
+#define LAST_SERVICE 11
 #define PIECE 2 /* the service that the C host does not call */
+
+/* Sets of services: on plans and on a sheet alone; with a block, a message or a table to be read; with a buffer to be
+ * written. */
+#define ON(service) (1u << (service))
+#define ON_PLANS (ON(2) | ON(3) | ON(4) | ON(5) | ON(6) | ON(7) | ON(8) | ON(9))
+#define ON_SHEETS (ON(1) | ON(10) | ON(11))
+#define READING (ON(3) | ON(4) | ON(5) | ON(8) | ON(9) | ON(11))
+#define WRITING (ON(4) | ON(5) | ON(8) | ON(9) | ON(10))
 
 #define MAX_EDGES LEMBIKAT_MAX_EDGES
 #define MAX_BLOCK LEMBIKAT_MAX_BLOCK_BYTES
@@ -49,8 +57,8 @@ typedef struct {
 
 typedef struct {
     unsigned service;
-    /* LEFT_SHEET: also the one sheet of the nearest word; FIRST: the block or the message; SECOND: the settled block; LENT: the
-     * buffer to be written */
+    /* LEFT_SHEET: also the one sheet of a service that takes no plan; FIRST: the block, the message or the table; SECOND: the
+     * settled block; LENT: the buffer to be written */
     bytes field[FIELDS];
     uint64_t nl, nr;
     uint64_t number; /* the word, the limit or the flips */
@@ -59,15 +67,17 @@ typedef struct {
 /* What came out of it. */
 typedef struct {
     lembikat_answer answer;       /* the part that all answers have */
-    uint64_t changed;             /* the nearest word's; 0 of the other services */
+    uint64_t changed;             /* the nearest word's and the look-up's; 0 of the other services */
     uint16_t sums[LEMBIKAT_SUMS]; /* the decoder's; 0 of the other services */
     uint8_t lent[ROOM];
     const char *trouble; /* what was touched that must not be, or NULL */
 } outcome;
 
-/* The library, by its two kinds of call, and the reference have the same eight functions. */
+/* The library, by its two kinds of call, and the reference have the same ten functions. */
 typedef struct {
     lembikat_word_answer (*nearest_word)(const uint8_t *, size_t, uint64_t);
+    lembikat_answer (*build_table)(const uint8_t *, size_t, uint8_t *, size_t);
+    lembikat_word_answer (*look_up)(const uint8_t *, size_t, uint64_t, const uint8_t *, size_t);
     lembikat_answer (*locate)(const lembikat_plan *, const uint8_t *, size_t);
     lembikat_decode_answer (*decode)(const lembikat_plan *, const uint8_t *, size_t, uint8_t *, size_t, size_t);
     lembikat_answer (*report)(const lembikat_plan *, const uint8_t *, size_t, const uint8_t *, size_t, uint8_t *, size_t);
@@ -119,15 +129,39 @@ static lembikat_answer read_by_parts(const lembikat_plan *p, const uint8_t *bloc
     return lembikat_read(PARTS, block, block_bytes, output, output_bytes);
 }
 
-static const services by_parts = {lembikat_nearest_word, locate_by_parts, decode_by_parts, report_by_parts,
-                                  spread_by_parts,       margin_by_parts, encode_by_parts, read_by_parts};
-static const services by_plan = {lembikat_nearest_word, lembikat_plan_locate, lembikat_plan_decode, lembikat_plan_report,
-                                 lembikat_plan_spread,  lembikat_plan_margin, lembikat_plan_encode, lembikat_plan_read};
-static const services reference = {reference_nearest_word, reference_locate, reference_decode, reference_report,
-                                   reference_spread,       reference_margin, reference_encode, reference_read};
+static const services by_parts = {.nearest_word = lembikat_nearest_word,
+                                  .build_table = lembikat_build_table,
+                                  .look_up = lembikat_look_up,
+                                  .locate = locate_by_parts,
+                                  .decode = decode_by_parts,
+                                  .report = report_by_parts,
+                                  .spread = spread_by_parts,
+                                  .margin = margin_by_parts,
+                                  .encode = encode_by_parts,
+                                  .read = read_by_parts};
+static const services by_plan = {.nearest_word = lembikat_nearest_word,
+                                 .build_table = lembikat_build_table,
+                                 .look_up = lembikat_look_up,
+                                 .locate = lembikat_plan_locate,
+                                 .decode = lembikat_plan_decode,
+                                 .report = lembikat_plan_report,
+                                 .spread = lembikat_plan_spread,
+                                 .margin = lembikat_plan_margin,
+                                 .encode = lembikat_plan_encode,
+                                 .read = lembikat_plan_read};
+static const services reference = {.nearest_word = reference_nearest_word,
+                                   .build_table = reference_build_table,
+                                   .look_up = reference_look_up,
+                                   .locate = reference_locate,
+                                   .decode = reference_decode,
+                                   .report = reference_report,
+                                   .spread = reference_spread,
+                                   .margin = reference_margin,
+                                   .encode = reference_encode,
+                                   .read = reference_read};
 
-static const char *const service_names[LAST_SERVICE + 1] = {"",       "nearest", "piece",  "locate", "decode",
-                                                            "report", "spread",  "margin", "encode", "read"};
+static const char *const service_names[LAST_SERVICE + 1] = {"",       "nearest", "piece",  "locate", "decode", "report",
+                                                            "spread", "margin",  "encode", "read",   "build",  "look up"};
 
 static size_t cases, failures;
 
@@ -163,8 +197,11 @@ static void invoke(const services *s, const call *c, uint8_t *const at[FIELDS], 
     o->changed = 0;
     memset(o->sums, 0, sizeof o->sums);
     switch (c->service) {
-    case 1: {
-        lembikat_word_answer word = s->nearest_word(plan.left_sheet, plan.left_sheet_bytes, c->number);
+    case 1:
+    case 11: {
+        lembikat_word_answer word = c->service == 1
+                                        ? s->nearest_word(plan.left_sheet, plan.left_sheet_bytes, c->number)
+                                        : s->look_up(plan.left_sheet, plan.left_sheet_bytes, c->number, first, first_size);
         o->answer = (lembikat_answer){word.number, word.place, word.value};
         o->changed = word.changed;
         break;
@@ -189,6 +226,9 @@ static void invoke(const services *s, const call *c, uint8_t *const at[FIELDS], 
         break;
     case 8:
         o->answer = s->encode(&plan, first, first_size, lent, lent_size);
+        break;
+    case 10:
+        o->answer = s->build_table(plan.left_sheet, plan.left_sheet_bytes, lent, lent_size);
         break;
     default:
         o->answer = s->read(&plan, first, first_size, lent, lent_size);
@@ -393,17 +433,19 @@ static call next_record(void)
     if (c.service < 1 || c.service > LAST_SERVICE)
         give_up("the stream names no such service");
     c.field[LEFT_SHEET] = next_bytes();
-    if (c.service != 1) {
+    if (ON(c.service) & ON_PLANS) {
         c.field[RIGHT_SHEET] = next_bytes();
         c.nl = next_number(8);
         c.nr = next_number(8);
         c.field[WIRING] = next_bytes();
     }
-    if (c.service == 3 || c.service == 4 || c.service == 5 || c.service >= 8)
+    if (c.service == 11) /* the only one whose number does not stand last */
+        c.number = next_number(8);
+    if (ON(c.service) & READING)
         c.field[FIRST] = next_bytes();
     if (c.service == 5)
         c.field[SECOND] = next_bytes();
-    if (c.service == 4 || c.service == 5 || c.service >= 8)
+    if (ON(c.service) & WRITING)
         c.field[LENT] = next_bytes();
     if (c.service == 1 || c.service == PIECE || c.service == 4 || c.service == 7)
         c.number = next_number(8);
@@ -418,7 +460,7 @@ static const char *line_of(const call *c, const outcome *o)
     lembikat_answer a = o->answer;
     if (a.number != LEMBIKAT_DONE)
         end += sprintf(end, "refused %u %u", a.number, a.place);
-    else if (c->service == 1)
+    else if (c->service == 1 || c->service == 11)
         end += sprintf(end, "ok %llu %llu", (unsigned long long)a.value, (unsigned long long)o->changed);
     else if (c->service >= 8)
         end += sprintf(end, "ok");
@@ -428,7 +470,7 @@ static const char *line_of(const call *c, const outcome *o)
         end += sprintf(end, "ok none");
     else
         end += sprintf(end, "ok %s %llu", a.place == LEMBIKAT_LEFT ? "left" : "right", (unsigned long long)a.value);
-    if (c->service == 4 || c->service == 5 || c->service >= 8) {
+    if (ON(c->service) & WRITING) {
         size_t size = c->field[LENT].size;
         end += sprintf(end, "%s", size == 0 ? " -" : " ");
         for (size_t i = 0; i < size; i++)
@@ -613,12 +655,16 @@ static int same_code(const side *a, const side *b)
     return a->d == b->d && a->k == b->k && memcmp(a->row, b->row, a->k * sizeof a->row[0]) == 0;
 }
 
-/* A call of the service on the plan. What it takes beside the plan is still to be put in. */
+/* A call of the service on the plan, or on its left sheet alone. What it takes beside that is still to be put in. */
 static call plan_call(unsigned service)
 {
-    call c = {.service = service, .nl = plan.left.n, .nr = plan.right.n};
+    call c = {.service = service};
     c.field[LEFT_SHEET] = (bytes){left_sheet, sheet_size(&plan.left)};
+    if (ON(service) & ON_SHEETS)
+        return c;
     c.field[RIGHT_SHEET] = (bytes){right_sheet, sheet_size(&plan.right)};
+    c.nl = plan.left.n;
+    c.nr = plan.right.n;
     c.field[WIRING] = (bytes){wiring, 2 * plan.edges};
     return c;
 }
@@ -660,6 +706,15 @@ static void must_answer(const char *kind, const call *c, uint32_t number, uint32
     }
 }
 
+/* The same of a call that answers a word. */
+static void must_tell(const char *kind, const call *c, uint64_t value, uint64_t changed)
+{
+    must_answer(kind, c, LEMBIKAT_DONE, 0, value);
+    if (failed(by_library.changed != changed))
+        printf("FAILED: %s (%s): of word %llx %llu bits are changed, not %llu\n", kind, service_names[c->service],
+               (unsigned long long)c->number, (unsigned long long)by_library.changed, (unsigned long long)changed);
+}
+
 /* ---- calls that chance does not meet ---- */
 
 static const side pair_code = {.d = 2, .k = 1, .row = {3}};
@@ -677,6 +732,50 @@ static side free_code(unsigned d)
 static side alike_code(unsigned d)
 {
     return (side){.d = d, .k = 1, .row = {(1u << d) - 1}};
+}
+
+/* All exclusive-ors of the rows. Answers their number. */
+static size_t all_codewords(const side *s, unsigned *codeword)
+{
+    size_t known = 1;
+    codeword[0] = 0;
+    for (unsigned i = 0; i < s->k; i++, known *= 2)
+        for (size_t j = 0; j < known; j++)
+            codeword[known + j] = codeword[j] ^ s->row[i];
+    return known;
+}
+
+/* Keeps the first rows and draws the others, so that none is made of earlier ones. */
+static void draw_rows(side *s, unsigned kept)
+{
+    static unsigned made[2048]; /* all exclusive-ors of the rows so far */
+    size_t known = 1;
+    made[0] = 0;
+    for (unsigned i = 0; i < s->k;) {
+        unsigned row = i < kept ? s->row[i] : (unsigned)draw((size_t)1 << s->d);
+        int fresh = 1;
+        for (size_t j = 0; j < known; j++)
+            fresh &= made[j] != row;
+        if (!fresh)
+            continue;
+        for (size_t j = 0; j < known; j++)
+            made[known + j] = made[j] ^ row;
+        known *= 2;
+        s->row[i++] = row;
+    }
+}
+
+/* Draws rows that begin at different digits, which may be any, in any order. */
+static void draw_scattered_rows(side *s)
+{
+    unsigned begun = 0;
+    for (unsigned i = 0; i < s->k;) {
+        unsigned top = 1u << draw(s->d);
+        if (begun & top)
+            continue;
+        begun |= top;
+        s->row[i++] = top | (unsigned)draw(top);
+    }
 }
 
 /* The edges in order: right vertex v reads the bits from v * dr on. */
@@ -898,16 +997,75 @@ static void sheet_calls(void)
     }
 }
 
-/* Every word of a sheet, beside the reference, and how many words stay: the codewords and, by the number given, the ties. */
+/* Takes the code for the services that need one sheet alone. */
+static void set_sheet(side s)
+{
+    set_plan(s, s, 1);
+}
+
+static int same_word_answer(lembikat_word_answer a, lembikat_word_answer b)
+{
+    return a.number == b.number && a.place == b.place && a.value == b.value && a.changed == b.changed;
+}
+
+static size_t table_bytes(void)
+{
+    return LEMBIKAT_TABLE_BYTES(plan.left.d, plan.left.k);
+}
+
+/* Builds the table of the sheet in a buffer with so many bytes to spare, which must stay as they were. It is then in the first
+ * buffer, to be looked up in. Answers how many of its entries are marks. */
+static size_t build(const char *kind, size_t spare)
+{
+    size_t size = table_bytes(), marks = 0;
+    call c = plan_call(10);
+    c.field[LENT] = (bytes){lent, size + spare};
+    draw_bytes(lent, size + spare);
+    compare(kind, spare, &c);
+    must_answer(kind, &c, LEMBIKAT_DONE, 0, 0);
+    if (failed(!same_bytes(by_library.lent + size, lent + size, spare)))
+        printf("FAILED: %s: a byte beyond the table was written\n", kind);
+    memcpy(first, by_library.lent, size + spare);
+    for (size_t i = 0; i < size; i += 2)
+        marks += first[i] * 256 + first[i + 1] == LEMBIKAT_TIE_MARK;
+    return marks;
+}
+
+/* A word of the sheet looked up in the first buffer. */
+static call look_up_call(uint64_t word, size_t size)
+{
+    call c = plan_call(11);
+    c.field[FIRST] = (bytes){first, size};
+    c.number = word;
+    return c;
+}
+
+/* Every word of the sheet looked up in its table, which is in the first buffer: the search answers the same. */
+static void all_look_ups(const char *name)
+{
+    size_t size = sheet_size(&plan.left), differ = 0, last_word = 0;
+    for (size_t word = 0; word < (size_t)1 << plan.left.d; word++)
+        if (!same_word_answer(lembikat_look_up(left_sheet, size, word, first, table_bytes()),
+                              lembikat_nearest_word(left_sheet, size, word))) {
+            last_word = word;
+            differ++;
+        }
+    if (failed(differ != 0))
+        printf("FAILED: all look-ups of %s (d %u k %u): %zu are not the nearest word, the last of them %zx\n", name,
+               plan.left.d, plan.left.k, differ, last_word);
+}
+
+/* Every word of a sheet, beside the reference, and how many words stay: the codewords and, by the number given, the ties. Then
+ * its table: as many marks as there are classes of ties, and every word looked up. */
 static void all_words_of(const char *name, side s, size_t ties)
 {
     size_t words = (size_t)1 << s.d, stay = 0, differ = 0, last_word = 0;
-    put_sheet(left_sheet, &s);
+    set_sheet(s);
     for (size_t word = 0; word < words; word++) {
         lembikat_word_answer a = lembikat_nearest_word(left_sheet, sheet_size(&s), word);
         lembikat_word_answer b = reference_nearest_word(left_sheet, sheet_size(&s), word);
         stay += a.number == LEMBIKAT_DONE && a.value == word && a.changed == 0;
-        if (a.number != b.number || a.place != b.place || a.value != b.value || a.changed != b.changed) {
+        if (!same_word_answer(a, b)) {
             last_word = word;
             differ++;
         }
@@ -916,19 +1074,21 @@ static void all_words_of(const char *name, side s, size_t ties)
         printf("FAILED: all words of %s: %zu are not as in the reference, the last of them %zx\n", name, differ, last_word);
     if (failed(stay != ((size_t)1 << s.k) + ties))
         printf("FAILED: all words of %s: %zu stay, not the %zu codewords and %zu ties\n", name, stay, (size_t)1 << s.k, ties);
+    size_t marks = build(name, 0);
+    if (failed(marks << s.k != ties))
+        printf("FAILED: the table of %s has %zu marks, not one for every %zu of %zu ties\n", name, marks, (size_t)1 << s.k,
+               ties);
+    all_look_ups(name);
 }
 
 /* One word of one sheet, and what comes of it. */
 static void word_call(side s, unsigned word, unsigned value, unsigned changed)
 {
-    set_plan(s, s, 1);
+    set_sheet(s);
     call c = plan_call(1);
-    c.field[RIGHT_SHEET] = c.field[WIRING] = (bytes){NULL, 0};
     c.number = word;
     compare("word", word, &c);
-    must_answer("word", &c, LEMBIKAT_DONE, 0, value);
-    if (failed(by_library.changed != changed))
-        printf("FAILED: of word %x %llu bits are changed, not %u\n", word, (unsigned long long)by_library.changed, changed);
+    must_tell("word", &c, value, changed);
 }
 
 /* Words that are known, and all words of some sheets. How many ties there are: with all bits alike the words that have as many
@@ -964,6 +1124,123 @@ static void word_calls(void)
     all_words_of("d 16 k 11", rows_11, 30720);
     all_words_of("d 16 k 7", rows_7, 37760);
     all_words_of("d 15 k 7", odd_d, 8960);
+}
+
+/* The classes of all words of the sheet: in a table whose entries are their own numbers, a look-up puts the class of a word on
+ * the word. Of the words in rising order each is in a class met before, or it is the smallest of the next one; all words that
+ * differ from that one by a codeword are in this class too. */
+static void class_calls(void)
+{
+    static size_t class_of[1 << 16];
+    static unsigned codeword[2048];
+    const side *s = &plan.left;
+    size_t words = (size_t)1 << s->d, codewords = all_codewords(s, codeword), classes = 0, differ = 0, last_word = 0;
+    for (size_t i = 0; i < table_bytes() / 2; i++)
+        put_pair(first, i, i);
+    for (size_t word = 0; word < words; word++)
+        class_of[word] = words;
+    for (size_t word = 0; word < words; word++) {
+        if (class_of[word] == words) {
+            for (size_t j = 0; j < codewords; j++)
+                class_of[word ^ codeword[j]] = classes;
+            classes++;
+        }
+        lembikat_word_answer a = lembikat_look_up(left_sheet, sheet_size(s), word, first, table_bytes());
+        if (a.number != LEMBIKAT_DONE || a.value != (word ^ class_of[word])) {
+            last_word = word;
+            differ++;
+        }
+    }
+    if (failed(differ != 0 || classes != table_bytes() / 2))
+        printf("FAILED: the classes of d %u k %u: %zu, and %zu words are in another one, the last of them %zx\n", s->d, s->k,
+               classes, differ, last_word);
+}
+
+/* Tables that have one entry for all classes, at, below and above 2^d, and the mark. The low d bits count; the mark is the mark
+ * whatever d is. */
+static void one_entry_calls(void)
+{
+    const unsigned d = plan.left.d, entries[] = {0, 1, 0x7fff, 0x8000, 0xfffe, 0xffff, (1u << d) - 1, 1u << d % 16, 0xff00};
+    for (size_t i = 0; i < sizeof entries / sizeof entries[0]; i++) {
+        for (size_t j = 0; j < table_bytes() / 2; j++)
+            put_pair(first, j, entries[i]);
+        size_t word = draw((size_t)1 << d), changed = 0;
+        unsigned pattern = entries[i] == LEMBIKAT_TIE_MARK ? 0 : entries[i] & ((1u << d) - 1);
+        for (unsigned j = 0; j < d; j++)
+            changed += pattern >> j & 1;
+        call c = look_up_call(word, table_bytes());
+        compare("one entry", entries[i], &c);
+        must_tell("one entry", &c, word ^ pattern, changed);
+    }
+}
+
+/* Tables that are too short, words that are too large, one of which would look right if it were cut to 32 bits, and both: the
+ * word is looked at first. The bytes of a table too short stay. */
+static void short_table_calls(void)
+{
+    const size_t sizes[] = {0, table_bytes() - 1, table_bytes()};
+    const uint64_t above = (uint64_t)1 << plan.left.d, words[] = {above - 1, above, ((uint64_t)1 << 32) + above - 1};
+    for (size_t i = 0; i < sizeof sizes / sizeof sizes[0]; i++) {
+        uint32_t number = sizes[i] < table_bytes() ? LEMBIKAT_OUTPUT_SHORT : LEMBIKAT_DONE;
+        call c = plan_call(10);
+        c.field[LENT] = (bytes){lent, sizes[i]};
+        compare("short table", i, &c);
+        must_answer("short table", &c, number, 0, 0);
+        memset(first, 0, sizes[i]);
+        for (size_t j = 0; j < sizeof words / sizeof words[0]; j++) {
+            c = look_up_call(words[j], sizes[i]);
+            compare("short table", i, &c);
+            if (words[j] >= above)
+                must_answer("short table", &c, LEMBIKAT_STRAY_BIT, 0, 0);
+            else
+                must_answer("short table", &c, number, 0, number == LEMBIKAT_DONE ? words[j] : 0);
+        }
+    }
+}
+
+/* Random words looked up in the first buffer. */
+static void random_look_ups(const char *kind, size_t size)
+{
+    for (size_t i = 0; i < 4; i++) {
+        call c = look_up_call(draw((size_t)1 << plan.left.d), size);
+        compare(kind, i, &c);
+    }
+}
+
+/* Tables of every d and k: faults, other tables than the sheet's own, all classes, and all words in the sheet's own. The sheets
+ * are drawn in two ways: rows at random, which mostly begin at the highest digits, and rows that begin at any digits, these
+ * with tables longer than needed. */
+static void table_calls(void)
+{
+    static const unsigned house_entries[16] = {0x0000, 0x0001, 0x0002, 0xffff, 0x0004, 0xffff, 0xffff, 0x0008,
+                                               0x0010, 0xffff, 0xffff, 0x0020, 0xffff, 0x0040, 0x0080, 0xffff};
+    set_sheet((side){.d = 8, .k = 4, .row = {0xff, 0x0f, 0x33, 0x55}});
+    build("house table", 0);
+    for (size_t i = 0; i < 16; i++)
+        if (failed(first[2 * i] * 256u + first[2 * i + 1] != house_entries[i]))
+            printf("FAILED: entry %zu of the house table is not %04x\n", i, house_entries[i]);
+
+    for (unsigned d = 2; d <= 16; d++)
+        for (unsigned k = 1; k <= smaller(d, 11); k++)
+            for (int scattered = 0; scattered < 2; scattered++) {
+                side s = {.d = d, .k = k};
+                if (scattered)
+                    draw_scattered_rows(&s);
+                else
+                    draw_rows(&s, 0);
+                set_sheet(s);
+                if (!scattered) {
+                    short_table_calls();
+                    one_entry_calls();
+                }
+                size_t spare = scattered ? 1 + draw(40) : 0;
+                class_calls();
+                draw_bytes(first, table_bytes() + spare);
+                random_look_ups("foreign table", table_bytes() + spare);
+                build("table", spare);
+                random_look_ups("table", table_bytes() + spare);
+                all_look_ups("a table");
+            }
 }
 
 /* A decoder call on the plan and on what stands in the first block. It must settle after so many sweeps, if the limit is not
@@ -1081,20 +1358,19 @@ typedef struct {
     size_t value; /* GROWTH by SIZE_MAX is a byte less */
 } fault;
 
-#define ON(service) (1u << (service))
-#define ON_PLANS (ON(3) | ON(4) | ON(5) | ON(6) | ON(7) | ON(8) | ON(9))
+#define ON_ALL (ON_PLANS | ON_SHEETS)
 #define ON_BLOCKS (ON(3) | ON(4) | ON(5) | ON(9))
 
 /* Every fault, in the order in which a call looks for them. Of rows, 5 stands before 6 and after it, of entries 9 and 10: the
  * first row or entry is answered, whichever number it has. */
 static const fault faults[] = {
-    {LEMBIKAT_SHEET_SHORT, 0, ON(1) | ON_PLANS, SIZE, LEFT_SHEET, 0, 1},
-    {LEMBIKAT_DEGREE_OUT_OF_RANGE, 0, ON(1) | ON_PLANS, BYTE, LEFT_SHEET, 0, 17},
-    {LEMBIKAT_ROWS_OUT_OF_RANGE, 0, ON(1) | ON_PLANS, BYTE, LEFT_SHEET, 1, 5},
-    {LEMBIKAT_SHEET_LENGTH_WRONG, 0, ON(1) | ON_PLANS, SIZE, LEFT_SHEET, 0, 9},
-    {LEMBIKAT_ROW_TOO_LARGE, 0, ON(1) | ON_PLANS, PAIR, LEFT_SHEET, 2, 0x10},
-    {LEMBIKAT_ROW_DEPENDENT, 1, ON(1) | ON_PLANS, PAIR, LEFT_SHEET, 4, 0x3},
-    {LEMBIKAT_ROW_TOO_LARGE, 2, ON(1) | ON_PLANS, PAIR, LEFT_SHEET, 6, 0xffff},
+    {LEMBIKAT_SHEET_SHORT, 0, ON_ALL, SIZE, LEFT_SHEET, 0, 1},
+    {LEMBIKAT_DEGREE_OUT_OF_RANGE, 0, ON_ALL, BYTE, LEFT_SHEET, 0, 17},
+    {LEMBIKAT_ROWS_OUT_OF_RANGE, 0, ON_ALL, BYTE, LEFT_SHEET, 1, 5},
+    {LEMBIKAT_SHEET_LENGTH_WRONG, 0, ON_ALL, SIZE, LEFT_SHEET, 0, 9},
+    {LEMBIKAT_ROW_TOO_LARGE, 0, ON_ALL, PAIR, LEFT_SHEET, 2, 0x10},
+    {LEMBIKAT_ROW_DEPENDENT, 1, ON_ALL, PAIR, LEFT_SHEET, 4, 0x3},
+    {LEMBIKAT_ROW_TOO_LARGE, 2, ON_ALL, PAIR, LEFT_SHEET, 6, 0xffff},
     {LEMBIKAT_SHEET_SHORT, 0, ON_PLANS, SIZE, RIGHT_SHEET, 0, 0},
     {LEMBIKAT_DEGREE_OUT_OF_RANGE, 0, ON_PLANS, BYTE, RIGHT_SHEET, 0, 1},
     {LEMBIKAT_ROWS_OUT_OF_RANGE, 0, ON_PLANS, BYTE, RIGHT_SHEET, 1, 0},
@@ -1115,11 +1391,14 @@ static const fault faults[] = {
     {LEMBIKAT_STRAY_BIT, 0, ON_BLOCKS, FLIP, FIRST, SMALL_EDGES, 0},
     {LEMBIKAT_BLOCK_LENGTH_WRONG, 0, ON(5), GROWTH, SECOND, 0, 1},
     {LEMBIKAT_STRAY_BIT, 0, ON(5), FLIP, SECOND, SMALL_EDGES + 3, 0},
-    {LEMBIKAT_STRAY_BIT, 0, ON(1), NUMBER, 0, 0, 0x10},
+    {LEMBIKAT_STRAY_BIT, 0, ON(1) | ON(11), NUMBER, 0, 0, 0x10},
     {LEMBIKAT_NO_CODEWORD, 0, ON(9), FLIP, FIRST, 0, 0},
     {LEMBIKAT_MESSAGE_LENGTH_WRONG, 0, ON(8), GROWTH, FIRST, 0, 1},
     {LEMBIKAT_MESSAGE_STRAY_BIT, 0, ON(8), FLIP, FIRST, SMALL_MESSAGE_BITS, 0},
-    {LEMBIKAT_OUTPUT_SHORT, 0, ON(4) | ON(8) | ON(9), GROWTH, LENT, 0, SIZE_MAX},
+    {LEMBIKAT_OUTPUT_SHORT, 0, ON(10), SIZE, LENT, 0, 0},
+    {LEMBIKAT_OUTPUT_SHORT, 0, ON(11), SIZE, FIRST, 0, 0},
+    {LEMBIKAT_OUTPUT_SHORT, 0, ON(4) | ON(8) | ON(9) | ON(10), GROWTH, LENT, 0, SIZE_MAX},
+    {LEMBIKAT_OUTPUT_SHORT, 0, ON(11), GROWTH, FIRST, 0, SIZE_MAX},
     {LEMBIKAT_LIMIT_TOO_LARGE, 0, ON(4), NUMBER, 0, 0, LEMBIKAT_MAX_LIMIT + 1},
     {LEMBIKAT_UNSETTLED, 0, ON(4), FLIP, FIRST, 0, 0}, /* within no sweeps */
     {LEMBIKAT_LIST_SHORT, 0, ON(5), GROWTH, LENT, 0, SIZE_MAX},
@@ -1162,8 +1441,8 @@ static void put_fault(call *c, const fault *f)
     }
 }
 
-/* A whole call of the service on so many times the small plan. The block and the message are zero, two bits of the settled
- * block differ, and limit, word and flips are 0. */
+/* A whole call of the service on so many times the small plan. The block, the message and the table are zero, two bits of the
+ * settled block differ, and limit, word and flips are 0. */
 static call small_call(unsigned service, size_t times)
 {
     set_plan(small_left, small_right, 3 * times);
@@ -1175,11 +1454,15 @@ static call small_call(unsigned service, size_t times)
     call c = plan_call(service);
     if (service == 8)
         c.field[FIRST] = (bytes){first, 1};
+    else if (service == 11)
+        c.field[FIRST] = (bytes){first, table_bytes()};
     else if (ON_BLOCKS & ON(service))
         c.field[FIRST] = (bytes){first, plan.block};
     if (service == 5)
         c.field[SECOND] = (bytes){second, plan.block};
-    if (service == 4 || service == 5 || service >= 8)
+    if (service == 10)
+        c.field[LENT] = (bytes){lent, table_bytes()};
+    else if (ON(service) & WRITING)
         c.field[LENT] = (bytes){lent, service == 5 ? 8 : service == 9 ? 1 : plan.block};
     return c;
 }
@@ -1227,26 +1510,6 @@ static unsigned draw_inner_codeword(const side *s)
         if (one_in(2))
             word ^= s->row[i];
     return word;
-}
-
-/* Keeps the first rows and draws the others, so that none is made of earlier ones. */
-static void draw_rows(side *s, unsigned kept)
-{
-    static unsigned made[2048]; /* all exclusive-ors of the rows so far */
-    size_t known = 1;
-    made[0] = 0;
-    for (unsigned i = 0; i < s->k;) {
-        unsigned row = i < kept ? s->row[i] : (unsigned)draw((size_t)1 << s->d);
-        int fresh = 1;
-        for (size_t j = 0; j < known; j++)
-            fresh &= made[j] != row;
-        if (!fresh)
-            continue;
-        for (size_t j = 0; j < known; j++)
-            made[known + j] = made[j] ^ row;
-        known *= 2;
-        s->row[i++] = row;
-    }
 }
 
 /* The house code, or one that looks like it: with some of its rows, or with all of them in another order. */
@@ -1535,6 +1798,17 @@ static void draw_block(uint8_t *block)
         flip(block, draw(plan.edges));
 }
 
+/* A table: the sheet's own, or any bytes, at times with many marks. */
+static void draw_table(uint8_t *table, size_t size)
+{
+    draw_bytes(table, size);
+    if (one_in(2))
+        reference_build_table(left_sheet, sheet_size(&plan.left), table, size);
+    else if (one_in(3))
+        for (size_t marks = size / 4; marks > 0; marks--)
+            put_pair(table, draw(size / 2), LEMBIKAT_TIE_MARK);
+}
+
 /* Faults. Each takes a call that is whole, or has other faults already, and spoils one thing. */
 
 static void resize(call *c, int field)
@@ -1643,9 +1917,16 @@ static void spoil_block(call *c, int field, uint8_t *block, size_t bits)
     flip(block, bits + draw(8 - bits % 8));
 }
 
+static void spoil_table(call *c, int field)
+{
+    c->field[field].size = one_in(2) ? table_bytes() - 1 : draw(table_bytes());
+}
+
 static void spoil_number(call *c)
 {
-    uint64_t above = c->service == 1 ? (uint64_t)1 << plan.left.d : c->service == 4 ? LEMBIKAT_MAX_LIMIT + 1 : plan.edges + 1;
+    uint64_t above = ON(c->service) & ON_SHEETS ? (uint64_t)1 << plan.left.d
+                     : c->service == 4          ? LEMBIKAT_MAX_LIMIT + 1
+                                                : plan.edges + 1;
     switch (draw(4)) {
     case 0:
         c->number = UINT64_MAX;
@@ -1664,9 +1945,10 @@ static void spoil_number(call *c)
 static void spoil(call *c)
 {
     size_t what = draw(10);
-    if (what < 2 || (what < 4 && c->service == 1)) {
-        spoil_sheet(c, c->service == 1 || one_in(2) ? LEFT_SHEET : RIGHT_SHEET);
-    } else if (what < 5 && c->service != 1) {
+    int on_sheet = (ON(c->service) & ON_SHEETS) != 0;
+    if (what < 2 || (what < 4 && on_sheet)) {
+        spoil_sheet(c, on_sheet || one_in(2) ? LEFT_SHEET : RIGHT_SHEET);
+    } else if (what < 5 && !on_sheet) {
         spoil_wiring(c);
     } else {
         switch (c->service) {
@@ -1705,6 +1987,15 @@ static void spoil(call *c)
                 c->field[LENT].size = draw((message_bits() + 7) / 8 + 1);
             else
                 spoil_block(c, FIRST, first, plan.edges);
+            break;
+        case 10:
+            spoil_table(c, LENT);
+            break;
+        case 11:
+            if (one_in(2))
+                spoil_table(c, FIRST);
+            else
+                spoil_number(c);
             break;
         default:
             spoil_number(c);
@@ -1749,15 +2040,13 @@ static call draw_whole_call(unsigned service)
     int sturdy = (service == 4 || service == 7) && one_in(2);
     plan_bits_known = 0;
     draw_codes(sturdy);
-    draw_wiring(service >= 8, sturdy);
+    draw_wiring(service == 8 || service == 9, sturdy);
     call c = plan_call(service);
-    if (service == 1) {
-        c.field[RIGHT_SHEET] = c.field[WIRING] = (bytes){NULL, 0};
-        c.number = draw((size_t)1 << plan.left.d);
-        return c;
-    }
     size_t spare = one_in(2) ? 0 : draw(20);
     switch (service) {
+    case 1:
+        c.number = draw((size_t)1 << plan.left.d);
+        break;
     case 3:
         draw_block(first);
         c.field[FIRST] = (bytes){first, plan.block};
@@ -1808,6 +2097,13 @@ static call draw_whole_call(unsigned service)
             draw_codeword(first);
         c.field[FIRST] = (bytes){first, plan.block};
         c.field[LENT] = (bytes){lent, (message_bits() + 7) / 8 + spare};
+        break;
+    case 10:
+        c.field[LENT] = (bytes){lent, table_bytes() + spare};
+        break;
+    case 11:
+        draw_table(first, table_bytes() + spare);
+        c = look_up_call(draw((size_t)1 << plan.left.d), table_bytes() + spare);
         break;
     default:
         break;
@@ -1876,10 +2172,11 @@ static void show_margins(void)
 
 static void random_calls(void)
 {
-    static const unsigned called[8] = {1, 3, 4, 5, 6, 7, 8, 9};
+    static const unsigned called[] = {1, 10, 11, 3, 4, 5, 6, 7, 8, 9};
+    const size_t services_called = sizeof called / sizeof called[0];
     static size_t ended[LAST_REFUSAL + 1][LAST_SERVICE + 1], ended_by_way[LAST_REFUSAL + 1][WAYS], plans[WAYS];
     for (size_t i = 0; i < RANDOM_CALLS; i++) {
-        call c = draw_whole_call(called[draw(8)]);
+        call c = draw_whole_call(called[draw(services_called)]);
         int way = way_of_plan();
         if (!one_in(2))
             for (size_t faults_put = one_in(3) ? 1 + draw(3) : 1; faults_put > 0; faults_put--)
@@ -1892,7 +2189,7 @@ static void random_calls(void)
             note_end(c.number, answer);
         if (c.service == 7 && answer.number == LEMBIKAT_DONE)
             sweeps_named[way][smaller(answer.value, SWEEPS_SHOWN)]++;
-        if (c.service != 1) {
+        if (ON(c.service) & ON_PLANS) {
             plans[way]++;
             if (answer.number <= LAST_REFUSAL)
                 ended_by_way[answer.number][way]++;
@@ -1901,7 +2198,7 @@ static void random_calls(void)
 
     printf("random calls: %d; how they ended, and how many were on plans with the same sides and with others\n  number",
            RANDOM_CALLS);
-    for (int s = 0; s < 8; s++)
+    for (size_t s = 0; s < services_called; s++)
         printf(" %8s", service_names[called[s]]);
     printf("      all     same   sheets  degrees\n");
     for (unsigned number = LEMBIKAT_DONE; number <= LAST_REFUSAL; number++) {
@@ -1911,7 +2208,7 @@ static void random_calls(void)
             printf("    done");
         else
             printf("%8u", number);
-        for (int s = 0; s < 8; s++) {
+        for (size_t s = 0; s < services_called; s++) {
             size_t count = ended[number][called[s]];
             all += count;
             if (count == 0)
@@ -1942,6 +2239,7 @@ int main(int argc, char **argv)
     lone_vertex_calls();
     sheet_calls();
     word_calls();
+    table_calls();
     tie_calls();
     all_count_calls();
     all_fault_calls();

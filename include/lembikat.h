@@ -1,7 +1,8 @@
 /* lembikat.h: blocks of Zemor's graph code, checked, decoded, explained and guaranteed.
  *
  * A plan is two sheets (the inner codes of the left and the right side), two counts of vertices and a wiring (the bipartite
- * graph). The sides may be unequal in all of it. Every call takes the plan anew and keeps nothing.
+ * graph). The sides may be unequal in all of it. Every call takes the plan, or the one sheet that it needs, anew and keeps
+ * nothing.
  * Link with -llembikat; of the host it needs nothing but memset and memcpy, which every C host has. The calls are proved: for
  * whatever bytes and numbers they are given they answer what this header says, end, and write no byte but those named here.
  *
@@ -45,11 +46,12 @@
  *       10  LEMBIKAT_ENTRY_REPEATED         entry  wiring: the first faulty entry stood before
  *       19  LEMBIKAT_PLAN_TOO_LARGE             0  encode, read: N is above 512
  *       11  LEMBIKAT_BLOCK_LENGTH_WRONG         0  block: its length is not N / 8 rounded up
- *       12  LEMBIKAT_STRAY_BIT                  0  block: a bit after N - 1 is set; nearest word: the word is at or above 2^d
+ *       12  LEMBIKAT_STRAY_BIT                  0  block: a bit after N - 1 is set; nearest word, look-up: word at or above 2^d
  *       22  LEMBIKAT_NO_CODEWORD                0  read: the block is no codeword
  *       20  LEMBIKAT_MESSAGE_LENGTH_WRONG       0  encode: the message's length is not K / 8 rounded up
  *       21  LEMBIKAT_MESSAGE_STRAY_BIT          0  encode: a bit after K - 1 is set
- *       13  LEMBIKAT_OUTPUT_SHORT               0  output: shorter than the block or message to be written
+ *       13  LEMBIKAT_OUTPUT_SHORT               0  output: shorter than the block, message or table to be written;
+ *                                                  look-up: the table has fewer than 2^(d - k) entries
  *       14  LEMBIKAT_LIMIT_TOO_LARGE            0  decode: limit is above 4,096
  *       15  LEMBIKAT_UNSETTLED                  0  decode: unsettled after `limit` sweeps
  *       16  LEMBIKAT_LIST_SHORT                 0  report: the list is shorter than 4 bytes a pair
@@ -60,7 +62,8 @@
  * THREADS AND BUFFERS
  *   There is no state: any number of threads may call at once, as long as no thread writes to a buffer that another call uses.
  *   The buffer that a call writes (output, list) must not overlap any that it reads; those that it only reads may overlap.
- *   A buffer of no bytes may be NULL. A buffer may be longer than needed where it is written: bytes beyond stay untouched.
+ *   A buffer of no bytes may be NULL. A buffer may be longer than needed where it is written: bytes beyond stay untouched. So
+ *   may the table of a look-up: bytes beyond do not matter. A table, once built, may serve any number of threads.
  *   No call takes memory from the heap. Stack use is given with each call.
  */
 #ifndef LEMBIKAT_H
@@ -76,9 +79,9 @@ extern "C" {
 /* The version, as text (pkg-config tells the same) and as numbers; the last two are below 1,000 each. LEMBIKAT_VERSION_NUMBER
  * rises with every version, the first number where a caller must change its code. A host asks for a version or a later one so:
  *   #if LEMBIKAT_VERSION_AT_LEAST(3, 0, 0) */
-#define LEMBIKAT_VERSION "3.2"
+#define LEMBIKAT_VERSION "3.3"
 #define LEMBIKAT_VERSION_MAJOR 3
-#define LEMBIKAT_VERSION_MINOR 2
+#define LEMBIKAT_VERSION_MINOR 3
 #define LEMBIKAT_VERSION_PATCH 0
 #define LEMBIKAT_VERSION_AS_NUMBER(major, minor, patch) (1000000L * (major) + 1000L * (minor) + (patch))
 #define LEMBIKAT_VERSION_NUMBER                                                                                                \
@@ -90,6 +93,7 @@ extern "C" {
 #define LEMBIKAT_MAX_VERTICES 2048      /* nl, nr, the vertices of a side */
 #define LEMBIKAT_MAX_EDGES 32768        /* N, the edges of a plan and the bits of a block */
 #define LEMBIKAT_MAX_SHEET_BYTES 24     /* a sheet of 11 rows */
+#define LEMBIKAT_MAX_TABLE_BYTES 65536  /* a table of d 16 and k 1, two bytes a class */
 #define LEMBIKAT_MAX_WIRING_BYTES 65536 /* two bytes an edge */
 #define LEMBIKAT_MAX_BLOCK_BYTES 4096   /* a bit an edge */
 #define LEMBIKAT_MAX_LIST_BYTES 65536   /* a report of (N + 1) / 2 runs, four bytes each */
@@ -100,6 +104,12 @@ extern "C" {
 /* The bytes of a block, where a side has n vertices that read d bits each. The left side's nl and dl and the right side's nr
  * and dr give the same. */
 #define LEMBIKAT_BLOCK_BYTES(n, d) (((size_t)(n) * (size_t)(d) + 7) / 8)
+
+/* The bytes of a table, for the d and k of a sheet that is not refused: two for each of 2^(d - k) classes. */
+#define LEMBIKAT_TABLE_BYTES(d, k) ((size_t)2 << ((d) - (k)))
+
+/* The entry of a table that marks a tie. */
+#define LEMBIKAT_TIE_MARK 0xFFFF
 
 /* How a call ended: the names of the table above, with their numbers. */
 enum lembikat_outcome {
@@ -129,7 +139,7 @@ enum lembikat_outcome {
     LEMBIKAT_EDGE_COUNTS_DIFFER = 23,
 };
 
-/* What a call answers. The answers of the nearest word and of the decoder begin alike and tell more.
+/* What a call answers. The answers of the nearest word, of the look-up and of the decoder begin alike and tell more.
  *   number   LEMBIKAT_DONE, else the number of the refusal. It is 32 bits wide whatever a compiler makes of an enum
  *   place    the row or entry at fault for 5, 6, 9 and 10; 0 with every other refusal. Of a call that is done: 0, but for
  *            lembikat_locate
@@ -141,8 +151,9 @@ typedef struct {
     uint64_t value;
 } lembikat_answer;
 
-/* What lembikat_nearest_word answers: number, place and value as above, and
- *   changed  how many bits of the word it changed, 0 where the word is a codeword or a tie; 0 with a refusal
+/* What lembikat_nearest_word and lembikat_look_up answer: number, place and value as above, and
+ *   changed  in how many bits `value` differs from the word, 0 where the word stays, as a codeword or a tie does; 0 with a
+ *            refusal
  */
 typedef struct {
     uint32_t number;
@@ -173,7 +184,7 @@ typedef struct {
 #define LEMBIKAT_LEFT 1
 #define LEMBIKAT_RIGHT 2
 
-/* The calls. All but the nearest word, which needs one sheet alone, begin with the eight parameters of the plan. */
+/* The calls. All but the first three, which need one sheet alone, begin with the eight parameters of the plan. */
 
 /* The nearest word of a word of d bits. Of all error patterns that turn the word into an inner codeword those with the fewest
  * ones are taken. If there is exactly one, it is put on the word. If there is more than one, a tie, the word stays as it is: it
@@ -181,6 +192,30 @@ typedef struct {
  *   value: the codeword, or the word itself at a tie.  changed: the ones of the pattern, or 0 at a tie.
  *   Refusals: 1 to 6, 12.  Stack: at most 5 KiB. */
 lembikat_word_answer lembikat_nearest_word(const uint8_t *sheet, size_t sheet_bytes, uint64_t word);
+
+/* Builds the table of a sheet, in which lembikat_look_up finds at once what lembikat_nearest_word searches all codewords for.
+ * Words that differ by a codeword are one class (a coset): the same error patterns turn them into codewords. A table has an
+ * entry for each of the 2^(d - k) classes, in the order of their smallest words. An entry is two bytes, high byte first: the
+ * pattern with the fewest ones (the coset leader), or LEMBIKAT_TIE_MARK where more than one pattern has the fewest. The mark is
+ * never a pattern, not even where d is 16: any nonzero codeword put on sixteen ones leaves fewer. Class 0 is the codewords, its
+ * entry 0000. The 16 entries of the house sheet (d 8, k 4, rows FF, 0F, 33, 55) are
+ *   0000 0001 0002 FFFF 0004 FFFF FFFF 0008 0010 FFFF FFFF 0020 FFFF 0040 0080 FFFF
+ * A table depends on its sheet alone, and a host may keep, copy and store it. It does not say which sheet that is.
+ *   output: the table at the front, LEMBIKAT_TABLE_BYTES(d, k) bytes.  value: 0.
+ *   Refusals: 1 to 6, 13.  Stack: at most 34 KiB. */
+lembikat_answer lembikat_build_table(const uint8_t *sheet, size_t sheet_bytes, uint8_t *output, size_t output_bytes);
+
+/* Looks a word of d bits up in a table. The sheet is checked anew and gives the word's class; of the table only the entry of
+ * this class counts. At LEMBIKAT_TIE_MARK the word stays as it is, else the low d bits of the entry are put on it. In a table
+ * that lembikat_build_table wrote for the same sheet this is the nearest word: the answer is that of lembikat_nearest_word,
+ * bits changed included, for every sheet and every word.
+ * Any bytes are taken for a table. With one that was built for another sheet, or not built at all, the answer is what the entry
+ * says, and the value need be no codeword.
+ *   value: the word exclusive-or the entry's low d bits, or the word itself at the mark.  changed: the ones of these bits, or 0
+ *   at the mark.
+ *   Refusals: 1 to 6, 12, 13.  Stack: at most 1 KiB. */
+lembikat_word_answer lembikat_look_up(const uint8_t *sheet, size_t sheet_bytes, uint64_t word, const uint8_t *table,
+                                      size_t table_bytes);
 
 /* The first vertex that reads no inner codeword of its side, the left side before the right, the lowest number first.
  *   place: LEMBIKAT_NONE where the block is a codeword, else LEMBIKAT_LEFT or LEMBIKAT_RIGHT; value: the vertex, below nl on
@@ -197,7 +232,7 @@ lembikat_answer lembikat_locate(const uint8_t *left_sheet, size_t left_sheet_byt
  * bits than lembikat_margin covers settles at that codeword within the sweeps that it names.
  *   output: the settled block at the front; with LEMBIKAT_UNSETTLED the received block; else untouched.  value: the sweeps.
  *   sums: the bits that each of the first 64 sweeps changed, with LEMBIKAT_UNSETTLED too.
- *   Refusals: the plan's, 11, 12, 13, 14, 15.  Stack: at most 90 KiB. */
+ *   Refusals: the plan's, 11, 12, 13, 14, 15.  Stack: at most 96 KiB. */
 lembikat_decode_answer lembikat_decode(const uint8_t *left_sheet, size_t left_sheet_bytes, const uint8_t *right_sheet,
                                        size_t right_sheet_bytes, size_t nl, size_t nr, const uint8_t *wiring,
                                        size_t wiring_bytes, const uint8_t *received, size_t received_bytes, uint8_t *output,

@@ -20,8 +20,12 @@
 #if LEMBIKAT_MAX_EDGES != LEMBIKAT_MAX_VERTICES * 16 || LEMBIKAT_MAX_SHEET_BYTES != 2 + 2 * 11 ||                              \
     LEMBIKAT_MAX_WIRING_BYTES != 2 * LEMBIKAT_MAX_EDGES || LEMBIKAT_MAX_BLOCK_BYTES != LEMBIKAT_MAX_EDGES / 8 ||               \
     LEMBIKAT_MAX_LIST_BYTES != (LEMBIKAT_MAX_EDGES + 1) / 2 * 4 ||                                                             \
-    LEMBIKAT_MAX_MESSAGE_BYTES != LEMBIKAT_MAX_MESSAGE_EDGES / 8
+    LEMBIKAT_MAX_MESSAGE_BYTES != LEMBIKAT_MAX_MESSAGE_EDGES / 8 || LEMBIKAT_MAX_TABLE_BYTES != 2 * (1 << (16 - 1))
 #error "the largest sizes do not fit one another"
+#endif
+
+#if LEMBIKAT_TIE_MARK != 65535
+#error "an entry of two bytes marks a tie where it is all ones"
 #endif
 
 #if LEMBIKAT_SUMS != 64 || LEMBIKAT_MAX_EDGES > 65535
@@ -79,12 +83,42 @@ static int calls_on_a_plan_fit(void)
            sizeof lembikat_plan_read(&plan, bytes, 1, written, 1) == sizeof(lembikat_answer);
 }
 
+/* The calls on a sheet take what the header says. No call is made. */
+static int calls_on_a_sheet_fit(void)
+{
+    const uint8_t bytes[1] = {0};
+    uint8_t written[1] = {0};
+    return bytes[0] == written[0] && sizeof lembikat_nearest_word(bytes, 1, 1) == sizeof(lembikat_word_answer) &&
+           sizeof lembikat_build_table(bytes, 1, written, 1) == sizeof(lembikat_answer) &&
+           sizeof lembikat_look_up(bytes, 1, 1, bytes, 1) == sizeof(lembikat_word_answer);
+}
+
+/* The bytes of a table: of constants, so that a host may size an array by them, of a sheet's own bytes, and of sums, within a
+ * sum. For every d and k there are two for each word of d - k digits. They are a size_t. */
+static int table_bytes_fit(void)
+{
+    static uint8_t house[LEMBIKAT_TABLE_BYTES(8, 4)], largest[LEMBIKAT_TABLE_BYTES(16, 1)];
+    uint8_t sheet[2];
+    for (sheet[0] = 2; sheet[0] <= 16; sheet[0]++)
+        for (sheet[1] = 1; sheet[1] <= 11 && sheet[1] <= sheet[0]; sheet[1]++) {
+            size_t bytes = 2;
+            int d = sheet[0], k = sheet[1];
+            for (int digits = k; digits < d; digits++)
+                bytes *= 2;
+            if (LEMBIKAT_TABLE_BYTES(sheet[0], sheet[1]) != bytes || LEMBIKAT_TABLE_BYTES(d + 1, k + 1) - bytes != 0 ||
+                bytes > LEMBIKAT_MAX_TABLE_BYTES)
+                return 0;
+        }
+    return sizeof house == 32 && sizeof largest == LEMBIKAT_MAX_TABLE_BYTES && house[0] == largest[0] &&
+           sizeof(LEMBIKAT_TABLE_BYTES(8, 4)) == sizeof(size_t);
+}
+
 int main(void)
 {
     lembikat_answer answer = {LEMBIKAT_DONE, LEMBIKAT_NONE, 0};
     lembikat_word_answer word;
     lembikat_decode_answer decoded;
-    if (!calls_on_a_plan_fit())
+    if (!calls_on_a_plan_fit() || !calls_on_a_sheet_fit() || !table_bytes_fit())
         return 1;
     if (sizeof answer.number != sizeof(uint32_t))
         return 1;
