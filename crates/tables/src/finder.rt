@@ -39,7 +39,7 @@ const NUMBERED: usize = 2;
 const SEARCHES: usize = 3;
 
 // What the rows leave of the words below 256, and of 256 times a number below 256: of any word they leave the exclusive-or of what they
-// leave of its two halves.
+// leave of its two halves. Where classes are numbered, the numbers of their classes stand here, which go together in the same way.
 const LOW: usize = 32;
 
 const HIGH: usize = 288;
@@ -266,7 +266,7 @@ fn tabulate_numbers(basis: &[u16; 11], k: usize, from: usize, digits: usize, tab
     }
 }
 
-// What the rows leave of a word.
+// What the rows leave of a word; where classes are numbered, the number of its class.
 fn left_of(finder: &[u16], word: u16) -> u16
     requires { ⌜ length (now finder) ≡ 4640 ⌝ }
     ensures { λ r. ⌜ r ≡ leftIn (now (finder .entry)) word ⌝ }
