@@ -10,9 +10,10 @@
 -- Laws are named by their subject, then by the fact: `placed-` is about a part put into a list, `single-` about the patterns of a single one
 -- (-few: none is tried), `search-` about the nearest of the listed codewords, `sought-` about the word sought, `left-` about what the rows
 -- leave of a word, `kept-` about the patterns kept, `number-` and `renumbered-` about classes that are numbered, `member-` about the test,
--- `found-` about the step that the code answers, by the case that it takes, and `listed-`, `filled-` and `prepared-` lead to a Finds.
+-- `means-` about what a step means where the finder finds, by the case that the code takes, `numbered-`, `missed-` and `found-` about the word
+-- found and the finder left in these cases, and `listed-`, `filled-` and `prepared-` lead to a Finds.
 use Prim.Native.Nat.{ℕ, zero, suc, _+_, _-_, _*_, _/_, _%_, _^_, _≤_, _<_, min}
-use mathlib.Core.Bool.{Bool, true}
+use mathlib.Core.Bool.{Bool, true, false, cond, _&&_}
 use mathlib.Core.Logic.{_⊎_, inl, inr, ⊎-elim}
 use mathlib.Mathlib.Data.Bool.Basic.{eq-false-of-not-eq-true}
 use mathlib.Core.List.{List, [], _++_}
@@ -22,27 +23,29 @@ use native.Mathlib.Decide.{ℕ-discrete, decLt}
 use native.Mathlib.Numerals.{add-one}
 use native.Mathlib.Omega.{arith}
 use borrow.Author.Count.{below-more}
-use borrow.Author.Tests.{eq-eqb, ne-eqb, le-leb, lt-leb}
+use borrow.Author.Tests.{eq-eqb, ne-eqb, le-leb, lt-leb, lt-ltb, le-ltb, leb-true}
 use lib.Bits.{bitXor, xor-comm, xor-shifted, xor-zero-r}
 use lib.Count.{ones}
-use lib.Dec.{eqb}
+use lib.Dec.{eqb, leb}
 use lib.ListN.{length, getD, set, take, drop, replicate, length-set, length-append, length-drop, length-replicate, getD-replicate, List·getD-append}
 use lib.Pow.{pow-mono, pow-pos, pow-lt, pow-add, shr-lt}
 use lib.Seq.{getD-append-add, length-take-le, getD-take, getD-drop, getD-set-same, getD-set-other}
 use Rattle.bits.specs.Bit.{digit, pairAt}
 use Rattle.bits.specs.Window.{at}
+use Rattle.bits.proofs.Tests.{and-both}
 use Rattle.bits.proofs.Xor.{xor-cancel, digit-lt}
-use Rattle.inner_code.specs.Reply.{done, refused}
+use Rattle.inner_code.specs.Reply.{Reply, done, refused}
 use Rattle.inner_code.specs.Code.{combination, isCodeword, nearestPattern, nearestWord}
 use Rattle.inner_code.specs.Reduction.{reduced, reducedBy, withEchelon, searched, stepTo, listed}
 use Rattle.inner_code.specs.declared.nearest.Step.{Step}
 use Rattle.inner_code.specs.Sheet.{degree, rowCount, rowOf, sheetCheck}
 use Rattle.tables.specs.Answer.{tableBytes, tableOf}
 use Rattle.tables.specs.Numbering.{weightOf, squeezed, numberOf}
-use Rattle.tables.specs.Finding.{listedIn, digitsIn, numberedIn, lowIn, highIn, leftIn, nameIn, patternIn, entryIn, wordIn}
+use Rattle.tables.specs.Finding.{listedIn, digitsIn, numberedIn, searchesIn, lowIn, highIn, leftIn, nameIn, patternIn, entryIn, wordIn}
 use Rattle.tables.specs.Finding.{Finds, Found, powerLeft, withPart, filledFinder, preparedFinder, codewordBy, slotOf}
 use Rattle.tables.specs.Finding.{singleMore, singleBelow, singleIn, searchedIn, soughtBy, entryPattern, entriesOf, sheetEntries, powerNumber}
-use Rattle.tables.specs.Finding.{renumberedFinder, Renumbered, Fewer}
+use Rattle.tables.specs.Finding.{renumberedFinder, Renumbered, Fewer, numbersPay, numberedFinder, entryWord, numberedWord, keptFinder}
+use Rattle.tables.specs.Finding.{missedWord, missedFinder, foundWord, foundFinder}
 use Rattle.tables.proofs.Numbers.{number-xor, number-zero, number-codeword, number-coset, combination-rows}
 use Rattle.tables.proofs.Tables.{number-low, number-is, table-length}
 use Rattle.tables.proofs.LookUps.{table-number}
@@ -52,7 +55,8 @@ use Rattle.inner_code.proofs.EchelonForm.{codeword-reduced, reduced-codeword, r
 use Rattle.inner_code.proofs.Combinations.{combination-xor, combination-none}
 use Rattle.inner_code.proofs.Cosets.{coset-pattern, single-one, single-many}
 use Rattle.inner_code.proofs.Listings.{length-listed, listed-word, words-most}
-use Rattle.inner_code.proofs.SheetChecks.{Sound, sound}
+use Rattle.inner_code.proofs.Replies.{ifDone-done, ifDone-refused}
+use Rattle.inner_code.proofs.SheetChecks.{Sound, sound, sound-accepted}
 
 -- ---- a part put into a list: one that was lent as a slice of its own and comes back
 
@@ -531,10 +535,10 @@ module _ (finder : List ℕ) (w : ℕ) where
       record { tells = λ sheet f w-lt. e ∙ sym (member-left (f .sized) (leftIn finder w) refl) ∙ left-tells f w w-lt }
 
 -- a step to a word that is the nearest
-found-by : {sheet before : List ℕ} {w : ℕ} {r : Step} {after : List ℕ} (x : ℕ) → r ≡ stepTo w x
+means-by : {sheet before : List ℕ} {w : ℕ} {r : Step} {after : List ℕ} (x : ℕ) → r ≡ stepTo w x
     → (Finds sheet before → w < 2 ^ degree sheet → x ≡ nearestWord (rowOf sheet) (rowCount sheet) (degree sheet) w)
     → (Finds sheet before → Finds sheet after) → Found sheet before w r after
-found-by {sheet = sheet} {w = w} x step leads kept =
+means-by {sheet = sheet} {w = w} x step leads kept =
     record {
       nearest = λ f w-lt. step-word w x step ∙ leads f w-lt;
       counted = λ f w-lt.
@@ -548,43 +552,43 @@ unfolding slotOf
 slot-lt left = omega arith
 
 module _ (sheet finder : List ℕ) (w : ℕ) (r : Step) where
-  pub found-none : (length finder ≡ 4640 → ⊥) → Found sheet finder w r finder
-  found-none other =
+  pub means-none : (length finder ≡ 4640 → ⊥) → Found sheet finder w r finder
+  means-none other =
       record {
         nearest = λ f w-lt. absurd (other (f .sized));
         counted = λ f w-lt. absurd (other (f .sized));
         finds = λ f. f;
       }
 
-  pub found-codeword : leftIn finder w ≡ 0 → r ≡ stepTo w (bitXor w 0) → Found sheet finder w r finder
-  found-codeword none step = found-by (bitXor w 0) step (λ f w-lt. xor-zero-r w ∙ sym (left-none f w w-lt none)) (λ f. f)
+  pub means-codeword : leftIn finder w ≡ 0 → r ≡ stepTo w (bitXor w 0) → Found sheet finder w r finder
+  means-codeword none step = means-by (bitXor w 0) step (λ f w-lt. xor-zero-r w ∙ sym (left-none f w w-lt none)) (λ f. f)
 
-  pub found-entry : numberedIn finder ≡ 1 → (left : ℕ) → left ≡ leftIn finder w → r ≡ stepTo w (bitXor w (entryIn finder (left % 2048)))
+  pub means-entry : numberedIn finder ≡ 1 → (left : ℕ) → left ≡ leftIn finder w → r ≡ stepTo w (bitXor w (entryIn finder (left % 2048)))
       → Found sheet finder w r finder
-  found-entry n left is step =
-      found-by (bitXor w (entryIn finder (left % 2048))) step
+  means-entry n left is step =
+      means-by (bitXor w (entryIn finder (left % 2048))) step
       (λ f w-lt. ap (λ (c : ℕ). bitXor w (entryIn finder (c % 2048))) is ∙ entry-met f w w-lt n) (λ f. f)
 
   module _ (n : numberedIn finder ≡ 1 → ⊥) (left : ℕ) (is : left ≡ leftIn finder w) (some : left ≡ 0 → ⊥) where
     there : leftIn finder w ≡ 0 → ⊥
     there e = some (is ∙ e)
 
-    pub found-kept : nameIn finder (slotOf left) ≡ left → r ≡ stepTo w (bitXor w (patternIn finder (slotOf left))) → Found sheet finder w r finder
-    found-kept met step =
-        found-by _ step (λ f w-lt. kept-met f w w-lt n there (slotOf left) (slot-lt left) (met ∙ is)) (λ f. f)
+    pub means-kept : nameIn finder (slotOf left) ≡ left → r ≡ stepTo w (bitXor w (patternIn finder (slotOf left))) → Found sheet finder w r finder
+    means-kept met step =
+        means-by _ step (λ f w-lt. kept-met f w w-lt n there (slotOf left) (slot-lt left) (met ∙ is)) (λ f. f)
 
     module _ (single : ℕ) (single-is : single ≡ singleIn finder left) (step : r ≡ stepTo w (soughtBy finder single w)) where
       leads : (f : Finds sheet finder) → w < 2 ^ degree sheet
           → soughtBy finder single w ≡ nearestWord (rowOf sheet) (rowCount sheet) (degree sheet) w
       leads f w-lt = sought-nearest f w w-lt n there single (single-is ∙ ap (singleIn finder) is)
 
-      pub found-high : 2 ^ digitsIn finder ≤ w → Found sheet finder w r finder
-      found-high high = found-by (soughtBy finder single w) step leads (λ f. f)
+      pub means-high : 2 ^ digitsIn finder ≤ w → Found sheet finder w r finder
+      means-high high = means-by (soughtBy finder single w) step leads (λ f. f)
 
-      pub found-sought : w < 2 ^ digitsIn finder → (searches : ℕ)
+      pub means-sought : w < 2 ^ digitsIn finder → (searches : ℕ)
           → Found sheet finder w r (set (set (set finder (544 + 2 * slotOf left) left) (544 + 2 * slotOf left + 1) (bitXor w (r .word))) 3 searches)
-      found-sought low searches =
-          found-by (soughtBy finder single w) step leads
+      means-sought low searches =
+          means-by (soughtBy finder single w) step leads
           (λ f.
           let w-lt = subst (λ (m : ℕ). w < 2 ^ m) (f .digits) low in
           subst⁻¹
@@ -607,8 +611,8 @@ module _ (sheet finder : List ℕ) (w : ℕ) (r : Step) where
         | no few ↦ omega arith
       ]
 
-  pub found-refused : (number place : ℕ) → sheetCheck sheet ≡ refused number place → Found sheet finder w r finder
-  found-refused number place e =
+  pub means-refused : (number place : ℕ) → sheetCheck sheet ≡ refused number place → Found sheet finder w r finder
+  means-refused number place e =
       record {
         nearest = λ f w-lt. absurd (other (sym (f .accepted) ∙ e));
         counted = λ f w-lt. absurd (other (sym (f .accepted) ∙ e));
@@ -618,18 +622,18 @@ module _ (sheet finder : List ℕ) (w : ℕ) (r : Step) where
       other : done [] ≡ refused number place → ⊥
       other both = let z : _≡_ {A = ℕ} 0 1 = cc in absurd (omega arith)
 
-  pub found-more : 2 ^ digitsIn finder ≤ 2048 * listedIn finder → 11 < degree sheet - rowCount sheet → Found sheet finder w r finder
-  found-more pays more =
+  pub means-more : 2 ^ digitsIn finder ≤ 2048 * listedIn finder → 11 < degree sheet - rowCount sheet → Found sheet finder w r finder
+  means-more pays more =
       record {
         nearest = λ f w-lt. absurd (omega (arith, room pays f));
         counted = λ f w-lt. absurd (omega (arith, room pays f));
         finds = λ f. f;
       }
 
-  pub found-numbered : {after : List ℕ} → degree sheet - rowCount sheet ≤ 11 → Renumbered sheet finder after → (left : ℕ) → left ≡ leftIn after w
+  pub means-numbered : {after : List ℕ} → degree sheet - rowCount sheet ≤ 11 → Renumbered sheet finder after → (left : ℕ) → left ≡ leftIn after w
       → r ≡ stepTo w (bitXor w (entryIn after (left % 2048))) → Found sheet finder w r after
-  found-numbered {after = after} few renumbered left is step =
-      found-by (bitXor w (entryIn after (left % 2048))) step
+  means-numbered {after = after} few renumbered left is step =
+      means-by (bitXor w (entryIn after (left % 2048))) step
       (λ f w-lt.
       ap (λ (c : ℕ). bitXor w (entryIn after (c % 2048))) is
       ∙ entry-met (renumbered-finds f few renumbered) w w-lt (renumbered .flag))
@@ -891,3 +895,240 @@ module _ (sheet basis finder : List ℕ) (size : length finder ≡ 4640) (fewer 
         rest = λ i h.
             other i (λ e. omega (arith, e)) ∙ in-high .behind i (omega arith) ∙ in-low .behind i (omega arith) ∙ placed .behind i (omega (arith, kept));
       }
+
+-- ---- the word found and the finder left, by the case that the code takes
+
+taken : {A : Type 0} (t : Bool) (a b : A) → t ≡ true → cond t a b ≡ a
+taken t a b e = ap (λ (u : Bool). cond u a b) e
+
+passed : {A : Type 0} (t : Bool) (a b : A) → t ≡ false → cond t a b ≡ b
+passed t a b e = ap (λ (u : Bool). cond u a b) e
+
+module _ (sheet finder : List ℕ) where
+  pub numbered-refused : (number place : ℕ) → sheetCheck sheet ≡ refused number place → finder ≡ numberedFinder sheet finder
+  unfolding numberedFinder
+  numbered-refused number place e = sym (ifDone-refused (sheetCheck sheet) _ finder number place e)
+
+  module _ (accepted : sheetCheck sheet ≡ done []) where
+    pub numbered-more : 11 < degree sheet - rowCount sheet → finder ≡ numberedFinder sheet finder
+    unfolding numberedFinder
+    numbered-more more = sym (ifDone-done (sheetCheck sheet) _ finder [] accepted ∙ taken _ _ _ (lt-ltb _ _ more))
+
+    pub numbered-few : (basis : List ℕ) → basis ≡ withEchelon (rowOf sheet) (rowCount sheet) (replicate 11 0)
+        → degree sheet - rowCount sheet ≤ 11 → renumberedFinder sheet basis finder ≡ numberedFinder sheet finder
+    unfolding numberedFinder
+    numbered-few basis is few =
+        ap (λ (b : List ℕ). renumberedFinder sheet b finder) is
+        ∙ sym (ifDone-done (sheetCheck sheet) _ finder [] accepted ∙ passed _ _ _ (le-ltb _ _ few))
+
+  -- where nothing was numbered the word stays
+  pub numbered-still : (w : ℕ) → (numberedIn finder ≡ 1 → ⊥) → finder ≡ numberedFinder sheet finder → bitXor w 0 ≡ numberedWord sheet finder w
+  unfolding numberedWord
+  numbered-still w n same =
+      xor-zero-r w
+      ∙ sym (ap (λ (l : List ℕ). cond (eqb (numberedIn l) 1) (entryWord l w) w) (sym same) ∙ passed _ _ _ (ne-eqb (numberedIn finder) 1 n))
+
+  pub numbered-word : (w : ℕ) (after : List ℕ) (left : ℕ) → after ≡ numberedFinder sheet finder → numberedIn after ≡ 1 → left ≡ leftIn after w
+      → bitXor w (entryIn after (left % 2048)) ≡ numberedWord sheet finder w
+  unfolding numberedWord entryWord
+  numbered-word w after left is flag left-is =
+      ap (λ (c : ℕ). bitXor w (entryIn after (c % 2048))) left-is
+      ∙ sym (ap (λ (l : List ℕ). cond (eqb (numberedIn l) 1) (entryWord l w) w) (sym is) ∙ taken _ _ _ (eq-eqb (numberedIn after) 1 flag))
+
+  module _ (left w : ℕ) where
+    abbrev lone : ℕ
+    lone = singleIn finder left
+
+    abbrev pays : Bool
+    pays = eqb lone 0 && numbersPay finder
+
+    pub missed-numbered : pays ≡ true
+        → (numberedWord sheet finder w ≡ missedWord sheet finder left w) × (numberedFinder sheet finder ≡ missedFinder sheet finder left w)
+    unfolding missedWord missedFinder
+    missed-numbered e = (sym (taken _ _ _ e), sym (taken _ _ _ e))
+
+    module _ (e : pays ≡ false) where
+      pub missed-high : 2 ^ digitsIn finder ≤ w → (soughtBy finder lone w ≡ missedWord sheet finder left w) × (finder ≡ missedFinder sheet finder left w)
+      unfolding missedWord missedFinder
+      missed-high high = (sym (passed _ _ _ e), sym (passed _ _ _ e ∙ taken _ _ _ (le-leb _ _ high)))
+
+      pub missed-kept : w < 2 ^ digitsIn finder
+          → (soughtBy finder lone w ≡ missedWord sheet finder left w)
+          × (keptFinder finder left w (soughtBy finder lone w) ≡ missedFinder sheet finder left w)
+      unfolding missedWord missedFinder
+      missed-kept low = (sym (passed _ _ _ e), sym (passed _ _ _ e ∙ passed _ _ _ (lt-leb _ _ low)))
+
+module _ (sheet finder : List ℕ) (w : ℕ) where
+  pub found-none : (length finder ≡ 4640 → ⊥) → (bitXor w 0 ≡ foundWord sheet finder w) × (finder ≡ foundFinder sheet finder w)
+  unfolding foundWord foundFinder
+  found-none other =
+      let no = ne-eqb (length finder) 4640 other in
+      (xor-zero-r w ∙ sym (passed _ _ _ no), sym (passed _ _ _ no))
+
+  module _ (size : length finder ≡ 4640) (left : ℕ) (is : left ≡ leftIn finder w) where
+    sized-test : eqb (length finder) 4640 ≡ true
+    sized-test = eq-eqb (length finder) 4640 size
+
+    pub found-codeword : left ≡ 0 → (bitXor w 0 ≡ foundWord sheet finder w) × (finder ≡ foundFinder sheet finder w)
+    unfolding foundWord foundFinder
+    found-codeword e =
+        let none : eqb (leftIn finder w) 0 ≡ true = eq-eqb (leftIn finder w) 0 (sym is ∙ e) in (
+          xor-zero-r w ∙ sym (taken _ _ _ sized-test ∙ taken _ _ _ none),
+          sym (taken _ _ _ sized-test ∙ taken _ _ _ none),
+        )
+
+    module _ (some : left ≡ 0 → ⊥) where
+      left-test : eqb (leftIn finder w) 0 ≡ false
+      left-test = ne-eqb (leftIn finder w) 0 (λ e. some (is ∙ e))
+
+      pub found-entry : numberedIn finder ≡ 1
+          → (bitXor w (entryIn finder (left % 2048)) ≡ foundWord sheet finder w) × (finder ≡ foundFinder sheet finder w)
+      unfolding foundWord foundFinder entryWord
+      found-entry n =
+          let flag = eq-eqb (numberedIn finder) 1 n in (
+            ap (λ (c : ℕ). bitXor w (entryIn finder (c % 2048))) is
+                ∙ sym (taken _ _ _ sized-test ∙ passed _ _ _ left-test ∙ taken _ _ _ flag),
+            sym (taken _ _ _ sized-test ∙ passed _ _ _ left-test ∙ taken _ _ _ flag),
+          )
+
+      module _ (n : numberedIn finder ≡ 1 → ⊥) where
+        flag-test : eqb (numberedIn finder) 1 ≡ false
+        flag-test = ne-eqb (numberedIn finder) 1 n
+
+        pub found-kept : nameIn finder (slotOf left) ≡ left
+            → (bitXor w (patternIn finder (slotOf left)) ≡ foundWord sheet finder w) × (finder ≡ foundFinder sheet finder w)
+        unfolding foundWord foundFinder
+        found-kept met =
+            let name : eqb (nameIn finder (slotOf (leftIn finder w))) (leftIn finder w) ≡ true =
+            eq-eqb _ _ (ap (λ (l : ℕ). nameIn finder (slotOf l)) (sym is) ∙ met ∙ is) in (
+              ap (λ (l : ℕ). bitXor w (patternIn finder (slotOf l))) is
+                  ∙ sym (taken _ _ _ sized-test ∙ passed _ _ _ left-test ∙ passed _ _ _ flag-test ∙ taken _ _ _ name),
+              sym (taken _ _ _ sized-test ∙ passed _ _ _ left-test ∙ passed _ _ _ flag-test ∙ taken _ _ _ name),
+            )
+
+        pub found-missed : (nameIn finder (slotOf left) ≡ left → ⊥)
+            → (missedWord sheet finder left w ≡ foundWord sheet finder w) × (missedFinder sheet finder left w ≡ foundFinder sheet finder w)
+        unfolding foundWord foundFinder
+        found-missed missed =
+            let name : eqb (nameIn finder (slotOf (leftIn finder w))) (leftIn finder w) ≡ false =
+            ne-eqb _ _ (λ e. missed (ap (λ (l : ℕ). nameIn finder (slotOf l)) is ∙ e ∙ sym is)) in (
+              ap (λ (l : ℕ). missedWord sheet finder l w) is
+                  ∙ sym (taken _ _ _ sized-test ∙ passed _ _ _ left-test ∙ passed _ _ _ flag-test ∙ passed _ _ _ name),
+              ap (λ (l : ℕ). missedFinder sheet finder l w) is
+                  ∙ sym (taken _ _ _ sized-test ∙ passed _ _ _ left-test ∙ passed _ _ _ flag-test ∙ passed _ _ _ name),
+            )
+
+pub pays-short : (finder : List ℕ) → 2048 * listedIn finder < 2 ^ digitsIn finder → false ≡ numbersPay finder
+unfolding numbersPay
+pays-short finder short =
+    sym (ap (λ (t : Bool). t && leb (4 * 2 ^ digitsIn finder + 1024 * listedIn finder) ((searchesIn finder + 1) * listedIn finder * listedIn finder))
+    (lt-leb _ _ short))
+
+pub pays-long : (finder : List ℕ) → 2 ^ digitsIn finder ≤ 2048 * listedIn finder
+    → leb (4 * 2 ^ digitsIn finder + 1024 * listedIn finder) ((searchesIn finder + 1) * listedIn finder * listedIn finder) ≡ numbersPay finder
+unfolding numbersPay
+pays-long finder long =
+    sym (ap (λ (t : Bool). t && leb (4 * 2 ^ digitsIn finder + 1024 * listedIn finder) ((searchesIn finder + 1) * listedIn finder * listedIn finder))
+    (le-leb _ _ long))
+
+pays-room : (finder : List ℕ) → numbersPay finder ≡ true → 2 ^ digitsIn finder ≤ 2048 * listedIn finder
+unfolding numbersPay
+pays-room finder e = leb-true _ _ (and-both (leb (2 ^ digitsIn finder) (2048 * listedIn finder)) _ e .0)
+
+means-left : (sheet finder : List ℕ) (w : ℕ) (r : Step) → (numberedIn finder ≡ 1 → ⊥) → (leftIn finder w ≡ 0 → ⊥)
+    → let found = soughtBy finder (singleIn finder (leftIn finder w)) w in
+    r ≡ stepTo w found → w < 2 ^ digitsIn finder → Found sheet finder w r (keptFinder finder (leftIn finder w) w found)
+unfolding keptFinder
+means-left sheet finder w r n some step low =
+    let left = leftIn finder w in
+    let slot = 544 + 2 * slotOf left in
+    let searches = min (getD finder 3 0 + 1) 65535 in
+    subst (λ (x : ℕ). Found sheet finder w r (set (set (set finder slot left) (slot + 1) (bitXor w x)) 3 searches)) (step-word w _ step)
+    (means-sought sheet finder w r n left refl some (singleIn finder left) refl step low searches)
+
+-- what they mean
+module _ (sheet finder : List ℕ) (w : ℕ) {r : Step} {after : List ℕ} (step : r ≡ stepTo w (foundWord sheet finder w))
+    (after-is : after ≡ foundFinder sheet finder w) where
+  -- by a case in which the word is x and the finder l
+  case : (x : ℕ) (l : List ℕ) → (x ≡ foundWord sheet finder w) × (l ≡ foundFinder sheet finder w) → (r ≡ stepTo w x → Found sheet finder w r l)
+      → Found sheet finder w r after
+  case x l is law = subst⁻¹ (Found sheet finder w r) (after-is ∙ sym (is .1)) (law (step ∙ ap (stepTo w) (sym (is .0))))
+
+  module _ (size : length finder ≡ 4640) (n : numberedIn finder ≡ 1 → ⊥) (some : leftIn finder w ≡ 0 → ⊥) where
+    numbering : (numberedWord sheet finder w ≡ foundWord sheet finder w) × (numberedFinder sheet finder ≡ foundFinder sheet finder w)
+        → 2 ^ digitsIn finder ≤ 2048 * listedIn finder → Found sheet finder w r after
+    numbering is room-there = go (sheetCheck sheet) refl
+      where
+        stays : finder ≡ numberedFinder sheet finder → (r ≡ stepTo w (bitXor w 0) → Found sheet finder w r finder) → Found sheet finder w r after
+        stays same law = case (bitXor w 0) finder (numbered-still sheet finder w n same ∙ is .0, same ∙ is .1) law
+
+        go : (reply : Reply) → sheetCheck sheet ≡ reply → Found sheet finder w r after
+        go (refused number place) e = stays (numbered-refused sheet finder number place e) (λ s. means-refused sheet finder w r number place e)
+        go (done values) e =
+            let accepted = sound-accepted sheet (sound sheet values e) in
+            let basis = withEchelon (rowOf sheet) (rowCount sheet) (replicate 11 0) in
+            elim (decLt 11 (degree sheet - rowCount sheet)) [
+              | yes more ↦ stays (numbered-more sheet finder accepted more) (λ s. means-more sheet finder w r room-there more)
+              | no less ↦
+                  let few : degree sheet - rowCount sheet ≤ 11 = omega arith in
+                  let same = numbered-few sheet finder accepted basis refl few in
+                  let done-so = renumbered sheet basis finder size (record { accepted = accepted; echelon = refl; few = few }) in
+                  let put = renumberedFinder sheet basis finder in
+                  case (bitXor w (entryIn put (leftIn put w % 2048))) put
+                  (numbered-word sheet finder w put (leftIn put w) same (done-so .flag) refl ∙ is .0, same ∙ is .1)
+                  (means-numbered sheet finder w r few done-so (leftIn put w) refl)
+            ]
+
+    missing : (nameIn finder (slotOf (leftIn finder w)) ≡ leftIn finder w → ⊥) → Found sheet finder w r after
+    missing missed = go (eqb single 0 && numbersPay finder) refl
+      where
+        left : ℕ
+        left = leftIn finder w
+
+        single : ℕ
+        single = singleIn finder left
+
+        both : (missedWord sheet finder left w ≡ foundWord sheet finder w) × (missedFinder sheet finder left w ≡ foundFinder sheet finder w)
+        both = found-missed sheet finder w size left refl some n missed
+
+        go : (t : Bool) → (eqb single 0 && numbersPay finder) ≡ t → Found sheet finder w r after
+        go true e =
+            let is = missed-numbered sheet finder left w e in
+            numbering (is .0 ∙ both .0, is .1 ∙ both .1) (pays-room finder (and-both (eqb single 0) (numbersPay finder) e .1))
+        go false e =
+            elim (decLt w (2 ^ digitsIn finder)) [
+              | yes low ↦
+                  let is = missed-kept sheet finder left w e low in
+                  case (soughtBy finder single w) (keptFinder finder left w (soughtBy finder single w)) (is .0 ∙ both .0, is .1 ∙ both .1)
+                  (λ s. means-left sheet finder w r n some s low)
+              | no high ↦
+                  let is = missed-high sheet finder left w e (omega arith) in
+                  case (soughtBy finder single w) finder (is .0 ∙ both .0, is .1 ∙ both .1)
+                  (λ s. means-high sheet finder w r n left refl some single refl s (omega arith))
+            ]
+
+  pub found-means : Found sheet finder w r after
+  found-means =
+      elim (ℕ-discrete (length finder) 4640) [
+        | no other ↦ case (bitXor w 0) finder (found-none sheet finder w other) (λ s. means-none sheet finder w r other)
+        | yes size ↦
+            elim (ℕ-discrete left 0) [
+              | yes none ↦ case (bitXor w 0) finder (found-codeword sheet finder w size left refl none) (means-codeword sheet finder w r none)
+              | no some ↦
+                  elim (ℕ-discrete (numberedIn finder) 1) [
+                    | yes n ↦
+                        case (bitXor w (entryIn finder (left % 2048))) finder (found-entry sheet finder w size left refl some n)
+                        (means-entry sheet finder w r n left refl)
+                    | no n ↦
+                        elim (ℕ-discrete (nameIn finder (slotOf left)) left) [
+                          | yes met ↦
+                              case (bitXor w (patternIn finder (slotOf left))) finder (found-kept sheet finder w size left refl some n met)
+                              (means-kept sheet finder w r n left refl some met)
+                          | no missed ↦ missing size n some missed
+                        ]
+                  ]
+            ]
+      ]
+    where
+      left : ℕ
+      left = leftIn finder w

@@ -270,9 +270,6 @@ pair-marked cost a b =
       | no e ↦ ap₂ (λ (x y : ℕ). x * 256 + y) (byte-kept cost a e) (byte-kept cost b e) ∙ sym (rw (ne-eqb _ _ e))
     ]
 
-pub marked-start : (table costs : List ℕ) → Marked 0 table costs table
-marked-start table costs = record { sized = refl; new = λ c h. absurd (omega arith); old = λ i h. refl }
-
 pub marked-more : (m : ℕ) (table costs now : List ℕ) (high low : ℕ) → Marked m table costs now → 2 * m + 2 ≤ length table
     → high ≡ markedByte (getD costs m 0) (getD now (2 * m) 0) → low ≡ markedByte (getD costs m 0) (getD now (2 * m + 1) 0)
     → Marked (m + 1) table costs (set (set now (2 * m) high) (2 * m + 1) low)

@@ -4,6 +4,7 @@
 --   listedIn finder      how many codewords are listed
 --   digitsIn finder      d, the number of digits of a word: 16 at most, whatever is told
 --   numberedIn finder    1 where classes are numbered and have their entries, else they are named
+--   searchesIn finder    how many patterns were kept, as far as 16 bits go: each after a search of the codewords, or of the patterns of a single one
 --   lowIn finder m       what the rows leave of m, for m below 256; where classes are numbered the number of its class
 --   highIn finder m      the same of 256 times m, for m below 256
 --   leftIn finder w      what the rows leave of w, by the tables: the exclusive-or of what they leave of its low and its high half; where
@@ -37,16 +38,23 @@
 --   entriesOf d table n l   the list l with the patterns of the first n entries of a table at its front
 --   sheetEntries sheet l    the same of all entries of the sheet's table
 --   renumberedFinder sheet basis finder   the finder with its classes numbered
+--   numbersPay finder    there is room for the entries of all classes, and one search more costs as much, with those made, as numbering does
+--   numberedFinder sheet finder   the finder with its classes numbered, where the sheet is accepted and has no more classes than there is room for
+--   entryWord finder w   w with the pattern of its class's entry on it
+--   numberedWord sheet finder w   the same after numbering; w where classes were not numbered
+--   keptFinder finder left w found   the finder with the pattern from w to the word found kept in its slot, and one search more told
+--   missedWord, missedFinder sheet finder left w   the word found where no pattern is kept for what the rows leave of w, and the finder after
+--   foundWord, foundFinder sheet finder w   the word found, and the finder after
 use Prim.Native.Nat.{ℕ, zero, suc, _+_, _-_, _*_, _/_, _%_, _^_, _≤_, _<_, min}
-use mathlib.Core.Bool.{Bool, true, cond}
+use mathlib.Core.Bool.{Bool, true, cond, _&&_}
 use mathlib.Core.List.{List, [], _++_}
 use mathlib.Core.Path.{_≡_}
 use lib.Bits.{bitXor}
-use lib.Dec.{eqb, leb}
+use lib.Dec.{eqb, leb, ltb}
 use lib.ListN.{length, getD, set, take, drop, replicate}
 use Rattle.bits.specs.Bit.{pairAt}
 use Rattle.bits.specs.Window.{at}
-use Rattle.inner_code.specs.Reply.{done}
+use Rattle.inner_code.specs.Reply.{done, ifDone}
 use Rattle.inner_code.specs.Code.{combination, nearestPattern, nearestWord, bitsChanged}
 use Rattle.inner_code.specs.Reduction.{reduced, reducedBy, withEchelon, listed, searched}
 use Rattle.inner_code.specs.Sheet.{degree, rowCount, rowOf, sheetCheck}
@@ -72,6 +80,9 @@ highIn finder m = getD finder (288 + m) 0
 
 abbrev pub numberedIn : List ℕ → ℕ
 numberedIn finder = getD finder 2 0
+
+abbrev pub searchesIn : List ℕ → ℕ
+searchesIn finder = getD finder 3 0
 
 abbrev pub nameIn : List ℕ → ℕ → ℕ
 nameIn finder s = getD finder (544 + 2 * s) 0
@@ -193,6 +204,69 @@ pub record Renumbered (sheet before after : List ℕ) : Type 0 where
   pub entry : (c : ℕ) → c < 2 ^ (degree sheet - rowCount sheet) → entryIn after c ≡ entryPattern (degree sheet) (pairAt (tableOf sheet) (2 * c))
   pub head : (i : ℕ) → i < 2 → getD after i 0 ≡ getD before i 0
   pub rest : (i : ℕ) → 2592 ≤ i → getD after i 0 ≡ getD before i 0
+
+unfoldable pub numbersPay : List ℕ → Bool
+numbersPay finder =
+    let words : ℕ = 2 ^ digitsIn finder in
+    let listed : ℕ = listedIn finder in
+    leb words (2048 * listed) && leb (4 * words + 1024 * listed) ((searchesIn finder + 1) * listed * listed)
+
+unfoldable pub numberedFinder : List ℕ → List ℕ → List ℕ
+unfolding ifDone sheetCheck degree rowCount rowOf withEchelon renumberedFinder
+numberedFinder sheet finder =
+    ifDone (sheetCheck sheet)
+    (cond (ltb 11 (degree sheet - rowCount sheet)) finder
+    (renumberedFinder sheet (withEchelon (rowOf sheet) (rowCount sheet) (replicate 11 0)) finder))
+    finder
+
+unfoldable pub entryWord : List ℕ → ℕ → ℕ
+unfolding leftIn
+entryWord finder w = bitXor w (entryIn finder (leftIn finder w % 2048))
+
+unfoldable pub numberedWord : List ℕ → List ℕ → ℕ → ℕ
+unfolding numberedFinder entryWord
+numberedWord sheet finder w =
+    let after : List ℕ = numberedFinder sheet finder in
+    cond (eqb (numberedIn after) 1) (entryWord after w) w
+
+unfoldable pub keptFinder : List ℕ → ℕ → ℕ → ℕ → List ℕ
+unfolding slotOf
+keptFinder finder left w found =
+    let slot : ℕ = 544 + 2 * slotOf left in
+    set (set (set finder slot left) (slot + 1) (bitXor w found)) 3 (min (searchesIn finder + 1) 65535)
+
+unfoldable pub missedWord : List ℕ → List ℕ → ℕ → ℕ → ℕ
+unfolding singleIn numbersPay numberedWord soughtBy
+missedWord sheet finder left w =
+    let single : ℕ = singleIn finder left in
+    cond (eqb single 0 && numbersPay finder) (numberedWord sheet finder w) (soughtBy finder single w)
+
+unfoldable pub missedFinder : List ℕ → List ℕ → ℕ → ℕ → List ℕ
+unfolding singleIn numbersPay numberedFinder soughtBy keptFinder
+missedFinder sheet finder left w =
+    let single : ℕ = singleIn finder left in
+    cond (eqb single 0 && numbersPay finder) (numberedFinder sheet finder)
+    (cond (leb (2 ^ digitsIn finder) w) finder (keptFinder finder left w (soughtBy finder single w)))
+
+unfoldable pub foundWord : List ℕ → List ℕ → ℕ → ℕ
+unfolding leftIn slotOf entryWord missedWord
+foundWord sheet finder w =
+    let left : ℕ = leftIn finder w in
+    cond (isFinder finder)
+    (cond (eqb left 0) w
+    (cond (eqb (numberedIn finder) 1) (entryWord finder w)
+    (cond (eqb (nameIn finder (slotOf left)) left) (bitXor w (patternIn finder (slotOf left))) (missedWord sheet finder left w))))
+    w
+
+unfoldable pub foundFinder : List ℕ → List ℕ → ℕ → List ℕ
+unfolding leftIn slotOf missedFinder
+foundFinder sheet finder w =
+    let left : ℕ = leftIn finder w in
+    cond (isFinder finder)
+    (cond (eqb left 0) finder
+    (cond (eqb (numberedIn finder) 1) finder
+    (cond (eqb (nameIn finder (slotOf left)) left) finder (missedFinder sheet finder left w))))
+    finder
 
 -- an accepted sheet with its echelon form, whose classes are no more than there is room for
 pub record Fewer (sheet basis : List ℕ) : Type 0 where

@@ -14,17 +14,16 @@ use inner_code::list_codewords;
 use inner_code::nearest_listed;
 use inner_code::put_on;
 use inner_code::residue;
-ghost use mathlib.Core.Bool.{true};
 ghost use mathlib.Core.Path.{_≡_};
-ghost use Prim.Native.Nat.{_-_, _*_, _/_, _%_, _^_, _≤_, min};
+ghost use Prim.Native.Nat.{_+_, _-_, _*_, _/_, _%_, _≤_, min};
 ghost use lib.Bits.{bitXor};
 ghost use lib.ListN.{length};
 ghost use Rattle.inner_code.specs.Sheet.{degree};
 ghost use Rattle.inner_code.specs.Reduction.{stepTo, listed};
-ghost use Rattle.tables.specs.Finding.{powerLeft, powerNumber, preparedFinder, listedIn, digitsIn, numberedIn, leftIn, entryIn};
+ghost use Rattle.tables.specs.Finding.{powerLeft, powerNumber, preparedFinder, digitsIn, numberedIn, leftIn, entryIn};
 ghost use Rattle.tables.specs.Finding.{codewordBy, singleMore, singleIn, searchedIn, soughtBy, entriesOf, sheetEntries, renumberedFinder};
 ghost use Rattle.tables.specs.Folding.{Sized};
-ghost use Rattle.tables.specs.Finding.{Found, Fewer};
+ghost use Rattle.tables.specs.Finding.{numbersPay, numberedWord, numberedFinder, missedWord, missedFinder, foundWord, foundFinder, Fewer};
 
 // How many numbers of 16 bits a finder has. Its large parts begin at multiples of 32 numbers, which fill a cache line.
 pub const FINDER_WORDS: usize = 4640;
@@ -93,7 +92,8 @@ pub fn is_codeword(finder: &[u16], word: u16) -> bool
 // The step to a word's nearest word: the word itself where the rows leave nothing of it, and else what its class's nearest pattern leads to. A
 // word at or above 2^d is no word of the code, and nothing is kept for it. `sheet` is the one that the finder was set up for.
 pub fn find_nearest(sheet: &[u8], finder: &mut [u16], word: u16) -> Step
-    ensures { λ r. ⌜ Found (now (sheet .entry)) (now (finder .entry)) word r (now (finder .exit)) ⌝ }
+    ensures { λ r. ⌜ r ≡ stepTo word (foundWord (now (sheet .entry)) (now (finder .entry)) word) ⌝ }
+    ensures { λ _. ⌜ now (finder .exit) ≡ foundFinder (now (sheet .entry)) (now (finder .entry)) word ⌝ }
 {
     if finder.len() != FINDER_WORDS {
         return put_on(word, 0);
@@ -125,10 +125,9 @@ fn by_entry(finder: &[u16], word: u16, left: u16) -> Step
 // entries for all classes do, the classes are numbered.
 fn find_missed(sheet: &[u8], finder: &mut [u16], word: u16, left: u16) -> Step
     requires { ⌜ length (now finder) ≡ 4640 ⌝ }
-    requires { ⌜ left ≡ leftIn (now finder) word ⌝ }
-    requires { ⌜ (left ≡ 0 → ⊥) ⌝ }
     requires { ⌜ (numberedIn (now finder) ≡ 1 → ⊥) ⌝ }
-    ensures { λ r. ⌜ Found (now (sheet .entry)) (now (finder .entry)) word r (now (finder .exit)) ⌝ }
+    ensures { λ r. ⌜ r ≡ stepTo word (missedWord (now (sheet .entry)) (now (finder .entry)) left word) ⌝ }
+    ensures { λ _. ⌜ now (finder .exit) ≡ missedFinder (now (sheet .entry)) (now (finder .entry)) left word ⌝ }
 {
     let single = single_pattern(finder, left);
     if single == 0 {
@@ -151,7 +150,7 @@ fn find_missed(sheet: &[u8], finder: &mut [u16], word: u16, left: u16) -> Step
 // words searched to four for each class and BESIDE more, which cost somewhat less than numbering does.
 fn numbers_pay(finder: &[u16]) -> bool
     requires { ⌜ length (now finder) ≡ 4640 ⌝ }
-    ensures { λ r. ⌜ (r ≡ true → 2 ^ digitsIn (now (finder .entry)) ≤ 2048 * listedIn (now (finder .entry))) ⌝ }
+    ensures { λ r. ⌜ r ≡ numbersPay (now (finder .entry)) ⌝ }
 {
     let listed = finder[LISTED] as u64;
     let words = 1u64 << digits_in(finder);
@@ -162,18 +161,22 @@ fn numbers_pay(finder: &[u16]) -> bool
 }
 
 // One more, as far as 16 bits go.
-fn one_more(number: u16) -> u16 {
+fn one_more(number: u16) -> u16
+    ensures { λ r. ⌜ r ≡ min (number + 1) 65535 ⌝ }
+{
     if number == 65535 {
         return number;
     }
     number + 1
 }
 
-// Numbers the classes, gives each its entry, and finds the nearest word so.
+// Numbers the classes, gives each its entry, and finds the nearest word so. With a sheet that is refused, or has more classes than there is room
+// for, nothing is done, and the word stays: such a sheet is not the finder's.
 fn find_numbered(sheet: &[u8], finder: &mut [u16], word: u16) -> Step
     requires { ⌜ length (now finder) ≡ 4640 ⌝ }
-    requires { ⌜ 2 ^ digitsIn (now finder) ≤ 2048 * listedIn (now finder) ⌝ }
-    ensures { λ r. ⌜ Found (now (sheet .entry)) (now (finder .entry)) word r (now (finder .exit)) ⌝ }
+    requires { ⌜ (numberedIn (now finder) ≡ 1 → ⊥) ⌝ }
+    ensures { λ r. ⌜ r ≡ stepTo word (numberedWord (now (sheet .entry)) (now (finder .entry)) word) ⌝ }
+    ensures { λ _. ⌜ now (finder .exit) ≡ numberedFinder (now (sheet .entry)) (now (finder .entry)) ⌝ }
 {
     let mut basis = [0u16; 11];
     match check_into(sheet, &mut basis) {

@@ -9,7 +9,7 @@ use denote.Ref.{now}
 use lib.Dec.{eqb}
 use Rattle.inner_code.specs.Sheet.{degree}
 use Rattle.tables.specs.Finding.{Found}
-use Rattle.tables.proofs.Finding.{Member, member-means}
+use Rattle.tables.proofs.Finding.{Member, member-means, found-means}
 use Rattle.wiring.specs.Block.{vertexWord}
 use Rattle.wiring.specs.Plan.{Side, sideBy, left}
 use Rattle.wiring.specs.declared.side.SideName.{SideName}
@@ -109,7 +109,7 @@ missed c = c .before .before .if2 .left
 
 found : (c : tie.After-find-nearest Inv-loop μ-loop)
     → Found (now (start (head (word c)) .args .sheet)) (head (word c) .loop .finder) (word c .left-word .result) (c .find-nearest .result) (c .find-nearest .last .1 .0)
-found c = c .find-nearest .ensures
+found c = found-means _ _ _ (c .find-nearest .ensures .0) (c .find-nearest .ensures .1)
 
 mul-put-pattern : tie.Need-mul-put-pattern Inv-loop μ-loop
 unfolding degree

@@ -12,7 +12,7 @@ use lib.ListN.{getD}
 use Rattle.bits.specs.Window.{at}
 use Rattle.inner_code.specs.Sheet.{degree}
 use Rattle.tables.specs.Finding.{Found}
-use Rattle.tables.proofs.Finding.{Member, member-means}
+use Rattle.tables.proofs.Finding.{Member, member-means, found-means}
 use Rattle.wiring.specs.Block.{vertexWord}
 use Rattle.wiring.specs.Plan.{Side, sideBy, right}
 use Rattle.wiring.specs.declared.side.SideName.{SideName}
@@ -119,7 +119,7 @@ missed c = c .before .before .if2 .left
 
 found : (c : tie.After-find-nearest Inv-loop μ-loop)
     → Found (now (start (head c) .args .sheet)) (head c .loop .finder) (getD (head c .loop .words) (head c .loop .v) 0) (c .find-nearest .result) (c .find-nearest .last .1 .0)
-found c = c .find-nearest .ensures
+found c = found-means _ _ _ (c .find-nearest .ensures .0) (c .find-nearest .ensures .1)
 
 mul-words : tie.Need-mul-words Inv-loop μ-loop
 mul-words c = omega (arith, few (inside (c .before .before)))

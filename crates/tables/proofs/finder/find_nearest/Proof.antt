@@ -1,8 +1,10 @@
 -- `tables::find_nearest` meets its contract: each return leads to the nearest word.
-use mathlib.Core.Path.{sym, _∙_}
+use mathlib.Core.Path.{_≡_, ap, _∙_}
 use denote.Ref.{now}
+use lib.ListN.{length}
 use Rattle.tables.specs.Finding.{slotOf}
-use Rattle.tables.proofs.Finding.{found-codeword, found-entry, found-kept}
+use Rattle.inner_code.specs.Reduction.{stepTo}
+use Rattle.tables.proofs.Finding.{found-none, found-codeword, found-entry, found-kept, found-missed}
 use borrow.Author.Needs.{needs}
 use Rattle.tables.proofs.finder.find_nearest.Statement.{statement}
 use Rattle.tables.proofs.finder.find_nearest.Tie as tie
@@ -17,7 +19,10 @@ put-on-requires : tie.Need-put-on-requires
 put-on-requires c κs = search needs
 
 returns : tie.Need-returns
-returns c = search needs
+returns c =
+    let args = c .before .before .before .before .args in
+    let is = found-none (now (args .sheet)) (now (args .finder)) (args .word) (c .before .if1 .taken) in
+    (c .put-on .ensures ∙ ap (stepTo (args .word)) (is .0), is .1)
 
 left-of-requires : tie.Need-left-of-requires
 left-of-requires c κs = search needs
@@ -28,11 +33,20 @@ put-on-requires-2 c κs = search needs
 same-length : tie.Need-same-length
 same-length c = search needs
 
+-- ---- from where it is read what the rows leave: the call, the length, and that something is left
+
+abbrev start : tie.After-left-of → tie.Start
+start c = c .before .before .before .before .before
+
+sized : (c : tie.After-left-of) → length (now (start c .args .finder)) ≡ 4640
+sized c = c .before .before .if1 .left
+
 returns-2 : tie.Need-returns-2
 returns-2 c =
-    let args = c .before .before .before .before .before .before .before .args in
-    found-codeword (now (args .sheet)) (now (args .finder)) (args .word) _
-    (sym (c .before .before .left-of .ensures) ∙ c .before .if2 .taken) (c .put-on2 .ensures)
+    let read = c .before .before in
+    let args = start read .args in
+    let is = found-codeword (now (args .sheet)) (now (args .finder)) (args .word) (sized read) _ (read .left-of .ensures) (c .before .if2 .taken) in
+    (c .put-on2 .ensures ∙ ap (stepTo (args .word)) (is .0), is .1)
 
 slice-read-if3 : tie.Need-slice-read-if3
 slice-read-if3 c = search needs
@@ -45,10 +59,12 @@ same-length-2 c = search needs
 
 returns-3 : tie.Need-returns-3
 returns-3 c =
-    let args = c .before .before .before .before .before .before .before .before .before .before .args in
-    let left = c .before .before .before .before .before .left-of in
-    found-entry (now (args .sheet)) (now (args .finder)) (args .word) _ (c .before .before .if3 .taken) (left .result) (left .ensures)
-    (c .by-entry .ensures)
+    let past = c .before .before .before .before in
+    let read = past .before in
+    let args = start read .args in
+    let is = found-entry (now (args .sheet)) (now (args .finder)) (args .word) (sized read) _ (read .left-of .ensures) (past .if2 .left)
+    (c .before .before .if3 .taken) in
+    (c .by-entry .ensures ∙ ap (stepTo (args .word)) (is .0), is .1)
 
 cast-slot : tie.Need-cast-slot
 cast-slot c = search needs
@@ -83,10 +99,13 @@ same-length-3 c = search needs
 returns-4 : tie.Need-returns-4
 unfolding slotOf
 returns-4 c =
-    let args = c .before .before .before .before .before .before .before .before .before .before .before .before .args in
-    let left = c .before .before .before .before .before .before .before .left-of in
-    found-kept (now (args .sheet)) (now (args .finder)) (args .word) _ (c .before .before .before .before .if3 .left) (left .result) (left .ensures) (c .before .before .before .before .before .before .if2 .left)
-    (c .before .before .if4 .taken) (c .put-on3 .ensures)
+    let named = c .before .before .before .before in
+    let past = named .before .before in
+    let read = past .before in
+    let args = start read .args in
+    let is = found-kept (now (args .sheet)) (now (args .finder)) (args .word) (sized read) _ (read .left-of .ensures) (past .if2 .left)
+    (named .if3 .left) (c .before .before .if4 .taken) in
+    (c .put-on3 .ensures ∙ ap (stepTo (args .word)) (is .0), is .1)
 
 find-missed-requires : tie.Need-find-missed-requires
 find-missed-requires c κs = search needs
@@ -95,7 +114,17 @@ same-length-4 : tie.Need-same-length-4
 same-length-4 c = search needs
 
 returns-5 : tie.Need-returns-5
-returns-5 c = search needs
+unfolding slotOf
+returns-5 c =
+    let missed = c .before .before .before .before in
+    let named = missed .before .before in
+    let past = named .before .before in
+    let read = past .before in
+    let args = start read .args in
+    let is = found-missed (now (args .sheet)) (now (args .finder)) (args .word) (sized read) _ (read .left-of .ensures) (past .if2 .left)
+    (named .if3 .left) (missed .if4 .left) in
+    let found = c .before .before .find-missed .ensures in
+    (found .0 ∙ ap (stepTo (args .word)) (is .0), found .1 ∙ is .1)
 
 pub find-nearest-spec : {M : Type 1} → statement M
 find-nearest-spec =

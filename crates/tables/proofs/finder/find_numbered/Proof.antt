@@ -1,12 +1,12 @@
--- `tables::find_numbered` meets its contract: the classes are those of an accepted sheet, and the entry of the word's class leads to the nearest
--- word.
-use mathlib.Core.Path.{subst⁻¹}
+-- `tables::find_numbered` meets its contract: the classes are numbered where the sheet is accepted and has few enough of them.
+use mathlib.Core.Path.{ap, _∙_, subst⁻¹}
 use Prim.Native.Nat.{_-_}
 use native.Mathlib.Omega.{arith}
 use denote.Ref.{now}
 use Rattle.inner_code.proofs.SheetChecks.{Accepted, accepted, turned-back}
+use Rattle.inner_code.specs.Reduction.{stepTo}
 use Rattle.tables.specs.Finding.{Renumbered, Fewer}
-use Rattle.tables.proofs.Finding.{found-refused, found-more, found-numbered, renumbered}
+use Rattle.tables.proofs.Finding.{numbered-refused, numbered-more, numbered-few, numbered-still, numbered-word, renumbered}
 use borrow.Author.Needs.{needs}
 use Rattle.tables.proofs.finder.find_numbered.Statement.{statement}
 use Rattle.tables.proofs.finder.find_numbered.Tie as tie
@@ -54,8 +54,9 @@ returns c =
     let known = c .before .before in
     let begun = start (checked known) in
     let args = begun .args in
-    found-more (now (args .sheet)) (now (args .finder)) (args .word) _ (begun .pre .1)
-    (omega (arith, plan known .d-is, plan known .k-is, c .before .if1 .taken))
+    let same = numbered-more (now (args .sheet)) (now (args .finder)) (plan known .sheet-done)
+    (omega (arith, plan known .d-is, plan known .k-is, c .before .if1 .taken)) in
+    (c .put-on2 .ensures ∙ ap (stepTo (args .word)) (numbered-still _ _ (args .word) (begun .pre .1) same), same)
 
 -- past the test the classes are few enough
 fewer : (c : tie.Else1) → let here = checked (c .before) in Fewer (now (start here .args .sheet)) (here .check-into .last .1 .0)
@@ -74,21 +75,30 @@ by-entry-requires c κs = search needs
 
 returns-2 : tie.Need-returns-2
 returns-2 c =
-    let args = c .before .before .before .before .before .before .before .args in
-    found-refused (now (args .sheet)) (now (args .finder)) (args .word) _ _ _ (turned-back (c .before .before .before .check-into .ensures) (c .before .enum-told .given .1))
+    let begun = c .before .before .before .before .before .before .before in
+    let args = begun .args in
+    let same = numbered-refused (now (args .sheet)) (now (args .finder)) _ _
+    (turned-back (c .before .before .before .check-into .ensures) (c .before .enum-told .given .1)) in
+    (c .put-on .ensures ∙ ap (stepTo (args .word)) (numbered-still _ _ (args .word) (begun .pre .1) same), same)
 
 same-length : tie.Need-same-length
 same-length c = search needs
 
 returns-3 : tie.Need-returns-3
 returns-3 c =
-    let known = c .before .before .before .before .before .before .before .before .before in
-    let args = start (checked known) .args in
-    let left = c .before .left-of in
-    found-numbered (now (args .sheet)) (now (args .finder)) (args .word) _
-    (fewer (c .before .before .before .before .before .before .before .before) .few) (subst⁻¹ (Renumbered (now (args .sheet)) (now (args .finder))) (c .before .before .before .before .before .number-classes .ensures)
-    (renumbered (now (args .sheet)) _ (now (args .finder)) (start (checked known) .pre .0) (fewer (c .before .before .before .before .before .before .before .before)))) (left .result) (left .ensures)
-    (c .by-entry .ensures)
+    let past = c .before .before .before .before .before .before .before .before in
+    let known = past .before in
+    let begun = start (checked known) in
+    let args = begun .args in
+    let p = plan known in
+    let put = c .before .before .before .before .before .number-classes .ensures in
+    let same = put ∙ numbered-few (now (args .sheet)) (now (args .finder)) (p .sheet-done) _ (p .basis-is) (fewer past .few) in
+    let numbered = subst⁻¹ (Renumbered (now (args .sheet)) (now (args .finder))) put
+    (renumbered (now (args .sheet)) _ (now (args .finder)) (begun .pre .0) (fewer past)) in (
+      c .by-entry .ensures
+          ∙ ap (stepTo (args .word)) (numbered-word _ _ (args .word) _ _ same (numbered .flag) (c .before .left-of .ensures)),
+      same,
+    )
 
 pub find-numbered-spec : {M : Type 1} → statement M
 find-numbered-spec =

@@ -1,14 +1,16 @@
 -- `tables::numbers_pay` meets its contract: past the first test there is room.
-use mathlib.Core.Bool.{true≢false}
-use mathlib.Core.Path.{sym, ap}
+use mathlib.Core.Path.{_≡_, ap, _∙_}
 use Prim.Native.Nat.{ℕ, _%_, _+_, _*_, _^_, _≤_}
 use native.Mathlib.Nat.{mul-le-mul}
 use native.Mathlib.Omega.{arith}
 use denote.Ref.{now}
+use lib.Dec.{leb}
 use lib.ListN.{getD}
 use lib.Pow.{pow-mono}
 use Rattle.bits.proofs.Windows.{shifted-one}
 use borrow.Author.Needs.{needs}
+use Rattle.tables.specs.Finding.{digitsIn}
+use Rattle.tables.proofs.Finding.{pays-short, pays-long}
 use Rattle.tables.proofs.finder.numbers_pay.Statement.{statement}
 use Rattle.tables.proofs.finder.numbers_pay.Tie as tie
 use Rattle.tables.proofs.finder.numbers_pay.Reads as reads
@@ -30,8 +32,14 @@ shl-words c = search needs
 mul-if1 : tie.Need-mul-if1
 mul-if1 c = omega (arith, c .before .shared-slice-known2 .given 0)
 
+words-are : (c : tie.After-digits-in) → (1 * 2 ^ c .digits-in .result) % 2 ^ 64 ≡ 2 ^ digitsIn (now (c .before .before .before .args .finder))
+words-are c =
+    shifted-one (c .digits-in .result) 64 (omega (arith, c .digits-in .ensures)) ∙ ap (λ (n : ℕ). 2 ^ n) (c .digits-in .ensures)
+
 returns : tie.Need-returns
-returns c = λ e. absurd (true≢false (sym e))
+returns c =
+    let tried = c .before in
+    pays-short (now (tried .before .before .before .args .finder)) (omega (arith, words-are tried, c .if1 .taken))
 
 words-few : (c : tie.After-digits-in) → (1 * 2 ^ c .digits-in .result) % 2 ^ 64 ≤ 65536
 words-few c = omega (arith, c .digits-in .ensures, pow-mono {i = c .digits-in .result} {j = 16} (omega (arith, c .digits-in .ensures)))
@@ -71,9 +79,10 @@ mul-result-4 c = omega (arith, mul-le-mul (first c) (low c .0))
 
 returns-2 : tie.Need-returns-2
 returns-2 c =
-    let words = shifted-one (c .before .before .digits-in .result) 64 (omega (arith, c .before .before .digits-in .ensures)) in
-    let digits = ap (λ (n : ℕ). 2 ^ n) (c .before .before .digits-in .ensures) in
-    λ e. omega (arith, words, digits, c .before .if1 .left)
+    let tried = c .before .before in
+    let finder = now (tried .before .before .before .args .finder) in
+    ap (λ (x : ℕ). leb (4 * x + 1024 * getD finder 0 0) ((getD finder 3 0 + 1) * getD finder 0 0 * getD finder 0 0)) (words-are tried)
+    ∙ pays-long finder (omega (arith, words-are tried, c .before .if1 .left))
 
 pub numbers-pay-spec : {M : Type 1} → statement M
 numbers-pay-spec =
