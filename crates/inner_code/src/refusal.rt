@@ -35,6 +35,13 @@ pub const BLOCK_LENGTH_WRONG: u32 = 11;
 
 pub const STRAY_BIT: u32 = 12;
 
+// a list of lost spans
+pub const SPANS_LENGTH_WRONG: u32 = 24;
+
+pub const SPAN_OUT_OF_BLOCK: u32 = 25;
+
+pub const SPAN_OUT_OF_ORDER: u32 = 26;
+
 // output, decoder and report
 pub const OUTPUT_SHORT: u32 = 13;
 

@@ -1,0 +1,4 @@
+pub mod Filling
+pub mod Checking
+pub mod Gaps
+pub mod Outside
