@@ -133,8 +133,9 @@ pub extern "C" fn lembikat_locate(
     }
 }
 
-// Decodes a received block into the front of `output`; the value is the number of sweeps. Refusals 1 to 15 and 23; with 15 the front of `output`
-// holds the received block, and no other refusal writes a byte. The sums are told with 15 too; with any other refusal they are 0.
+// Decodes a received block, of which `lost` lists the lost spans, into the front of `output`; the value is the number of sweeps. Refusals 1 to
+// 15 and 23 to 26; with 15 the front of `output` holds the received block, and no other refusal writes a byte. The sums are told with 15 too;
+// with any other refusal they are 0.
 #[no_mangle]
 pub extern "C" fn lembikat_decode(
     left: &[u8],
@@ -143,14 +144,15 @@ pub extern "C" fn lembikat_decode(
     nr: usize,
     wiring: &[u8],
     received: &[u8],
+    lost: &[u8],
     output: &mut [u8],
     limit: usize,
 ) -> DecodeAnswer
-    ensures { λ r. ⌜ r ≡ toldDecode (decodeAnswer (planOf (now (left .entry)) (now (right .entry)) nl nr (now (wiring .entry))) (now (received .entry)) (now (output .entry)) limit)
-        (decodeSums (planOf (now (left .entry)) (now (right .entry)) nl nr (now (wiring .entry))) (now (received .entry)) (now (output .entry)) limit) ⌝ }
-    ensures { λ _. ⌜ now (output .exit) ≡ decodeOutput (planOf (now (left .entry)) (now (right .entry)) nl nr (now (wiring .entry))) (now (received .entry)) (now (output .entry)) limit ⌝ }
+    ensures { λ r. ⌜ r ≡ toldDecode (decodeAnswer (planOf (now (left .entry)) (now (right .entry)) nl nr (now (wiring .entry))) (now (received .entry)) (now (lost .entry)) (now (output .entry)) limit)
+        (decodeSums (planOf (now (left .entry)) (now (right .entry)) nl nr (now (wiring .entry))) (now (received .entry)) (now (lost .entry)) (now (output .entry)) limit) ⌝ }
+    ensures { λ _. ⌜ now (output .exit) ≡ decodeOutput (planOf (now (left .entry)) (now (right .entry)) nl nr (now (wiring .entry))) (now (received .entry)) (now (lost .entry)) (now (output .entry)) limit ⌝ }
 {
-    let decoding = decoder::decode(left, right, nl, nr, wiring, received, output, limit);
+    let decoding = decoder::decode(left, right, nl, nr, wiring, received, lost, output, limit);
     let outcome = decoding.outcome;
     let sums = decoding.sums;
     match outcome {

@@ -4,5 +4,5 @@ pub mod Patterns
 pub mod RightWords
 pub mod Visiting
 pub mod Passes
-pub mod Copies
+pub mod Trials
 pub mod SweepSums

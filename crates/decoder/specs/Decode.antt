@@ -4,16 +4,20 @@
 --   settlesAt plan block H    the first count from 0 to H after which the block is a codeword; H + 1 where none is
 --   sweepSum plan block i     how many bits sweep i + 1 changes
 --   sweepSums plan block made  the sums of the first 64 sweeps, where so many sweeps are made: 0 for a sweep that is not made
---   Trial                     what a trial ends in: whether the block settles, at which count, the block that is left, and the sums of its sweeps
---   trial plan received H     the trial of a received block with limit H: an unsettled one leaves the received block and has made H sweeps
+--   Trial                     what a trial ends in: whether the block settles, at which count, the block at that count, and the sums of its sweeps
+--   trial plan block H        the trial of a block with limit H: an unsettled one has made H sweeps
+--   keepsOnes N lost received zeros ones  of the trials with the lost bits 0 and 1, the second is kept: it settles, and where the first does too,
+--                             it changes fewer of the received bits outside the spans
+--   decoding plan received lost H  what a decoding ends in: both trials are made, and one is kept; unsettled, it leaves the block as received
 use Prim.Native.Nat.{ℕ, _+_, min}
 use mathlib.Core.List.{List}
-use mathlib.Core.Bool.{Bool, not, cond}
+use mathlib.Core.Bool.{Bool, not, cond, _&&_, _||_}
 use lib.Dec.{leb, ltb}
 use Rattle.bits.specs.Bit.{values, flips}
 use Rattle.bits.specs.Search.{firstFailing}
 use Rattle.wiring.specs.Plan.{Plan, sideOf, edgeCount}
 use Rattle.wiring.specs.Block.{isCodewordBlock}
+use Rattle.spans.specs.Spans.{flipsOutside, filled}
 use Rattle.decoder.specs.Sweep.{afterSweeps}
 
 abbrev pub sweptBlock : Plan → ℕ → List ℕ → List ℕ
@@ -42,11 +46,20 @@ pub record Trial : Type 0 where
 
 unfoldable pub trial : Plan → List ℕ → ℕ → Trial
 unfolding settlesAt afterSweeps sweepSums
-trial plan received H =
-    let at : ℕ = settlesAt plan received H in
-    record {
-      settled = leb at H;
-      count = at;
-      block = cond (leb at H) (sweptBlock plan at received) received;
-      sums = sweepSums plan received (min at H);
-    }
+trial plan block H =
+    let at : ℕ = settlesAt plan block H in
+    record { settled = leb at H; count = at; block = sweptBlock plan at block; sums = sweepSums plan block (min at H) }
+
+unfoldable pub keepsOnes : ℕ → List ℕ → List ℕ → Trial → Trial → Bool
+unfolding flipsOutside
+keepsOnes N lost received zeros ones =
+    ones .settled
+    && (not (zeros .settled) || ltb (flipsOutside N lost received (ones .block)) (flipsOutside N lost received (zeros .block)))
+
+unfoldable pub decoding : Plan → List ℕ → List ℕ → ℕ → Trial
+unfolding trial filled keepsOnes
+decoding plan received lost H =
+    let zeros : Trial = trial plan (filled 0 lost received) H in
+    let ones : Trial = trial plan (filled 1 lost received) H in
+    let kept : Trial = cond (keepsOnes (edgeCount plan) lost received zeros ones) ones zeros in
+    record { settled = kept .settled; count = kept .count; block = cond (kept .settled) (kept .block) received; sums = kept .sums }

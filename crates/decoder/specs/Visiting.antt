@@ -12,6 +12,10 @@
 --   SideSwept side before tally after  one sweep as the code makes it: its tally - how many bits it changed, how many ties it left - and the block
 --                               that it leaves
 --   BothSwept plan before here there after  a left sweep and the right one after it as the code makes them: their tallies, and the block that is left
+--   Tried plan block H count sums swept  a trial of a block with limit H as the code makes it: its count and sums, and the block that it leaves
+--   Passed plan received lost room H  what a call knows that nothing stops before it decodes
+--   Attempted plan received lost b H attempt before after  the trial with the lost bits b, made at the front of a buffer: `before` and `after` are
+--                               the buffer, and the bits that it changes outside the spans are counted where some are lost
 --   endedAt count before here past  where a sweep changed nothing: `count` where neither the sweep before nor this one left a tie, and else `past`
 --   noted sums i H changed      the sums with that of sweep i + 1 in them, where it is one of the H sweeps and one that is told
 --   patternPut bit d base p h block  the block with the h lowest digits of the pattern p put on the bits of a vertex: its d entries begin at
@@ -24,7 +28,7 @@ use mathlib.Core.Bool.{Bool, cond}
 use mathlib.Core.Path.{_≡_}
 use lib.Dec.{eqb, ltb}
 use lib.ListN.{length, set}
-use Rattle.bits.specs.Bit.{digit}
+use Rattle.bits.specs.Bit.{digit, written}
 use Rattle.bits.specs.Sum.{sum}
 use Rattle.bits.specs.Window.{at, turned}
 use Rattle.inner_code.specs.Reply.{done}
@@ -33,9 +37,13 @@ use Rattle.tables.specs.Finding.{Finds}
 use Rattle.inner_code.specs.Sheet.{degree}
 use Rattle.wiring.specs.Plan.{Plan, Side, edgeOf, edgeCount, left, right, sideOf}
 use Rattle.wiring.specs.Wiring.{planCheck}
-use Rattle.wiring.specs.Block.{vertexWord}
+use Rattle.wiring.specs.Block.{vertexWord, blockCheck}
 use Rattle.wiring.specs.Checking.{Fitted, Permuted}
+use Rattle.spans.specs.Spans.{spansCheck, filled}
+use Rattle.spans.specs.Walking.{flipsAround}
 use Rattle.decoder.specs.Sweep.{sweep}
+use Rattle.decoder.specs.Decode.{sweptBlock, settlesAt, sweepSums}
+use Rattle.decoder.specs.declared.decoding.Attempt.{Attempt}
 use Rattle.decoder.specs.declared.sweep.Tally.{Tally}
 
 abbrev pub nearestOf : Side → ℕ → ℕ
@@ -78,6 +86,26 @@ pub record BothSwept (plan : Plan) (before : List ℕ) (here there : Tally) (aft
   pub between : List ℕ
   pub left-swept : SideSwept (sideOf plan left) before here between
   pub right-swept : SideSwept (sideOf plan right) between there after
+
+pub record Tried (plan : Plan) (block : List ℕ) (H count : ℕ) (sums swept : List ℕ) : Type 0 where
+  pub counted : settlesAt plan block H ≡ count
+  pub told : sums ≡ sweepSums plan block (min count H)
+  pub leaves : count ≤ H → swept ≡ sweptBlock plan count block
+  pub kept : length swept ≡ length block
+
+pub record Passed (plan : Plan) (received lost room : List ℕ) (H : ℕ) : Type 0 where
+  pub plan-done : planCheck plan ≡ done []
+  pub block-done : blockCheck (edgeCount plan) received ≡ done []
+  pub listed : spansCheck (edgeCount plan) lost ≡ done []
+  pub fits : length received ≤ length room
+  pub limited : H ≤ 4096
+
+pub record Attempted (plan : Plan) (received lost : List ℕ) (b H : ℕ) (attempt : Attempt) (before after : List ℕ) : Type 0 where
+  pub swept : List ℕ
+  pub trial : Tried plan (filled b lost received) H (attempt .count) (attempt .sums) swept
+  pub stands : after ≡ written swept before
+  pub changes : (length lost ≡ 0 → ⊥) → attempt .changed ≡ flipsAround (edgeCount plan) lost received swept
+  pub uncounted : length lost ≡ 0 → attempt .changed ≡ 0
 
 unfoldable pub endedAt : ℕ → ℕ → ℕ → ℕ → ℕ
 endedAt count before here past = cond (eqb before 0) (cond (eqb here 0) count past) past

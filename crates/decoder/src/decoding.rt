@@ -1,4 +1,4 @@
-// The decoder: refusals 1 to 15 and 23.
+// The decoder: refusals 1 to 15 and 23 to 26.
 use crate::settle::SUMS;
 use crate::settle::settle;
 use inner_code::Refusal;
@@ -6,11 +6,12 @@ use inner_code::refusal;
 use tables::FINDER_WORDS;
 use wiring::Checked;
 use wiring::Located;
+use wiring::MAX_EDGES;
 use wiring::SideCode;
-ghost use mathlib.Core.Bool.{true};
+ghost use mathlib.Core.Bool.{true, false};
 ghost use mathlib.Core.List.{[]};
 ghost use mathlib.Core.Path.{_≡_};
-ghost use Prim.Native.Nat.{_≤_};
+ghost use Prim.Native.Nat.{_%_, _≤_, _<_};
 ghost use lib.ListN.{length, replicate};
 ghost use Rattle.bits.specs.Bit.{written};
 ghost use Rattle.inner_code.specs.Reply.{done, refused};
@@ -18,11 +19,15 @@ ghost use Rattle.wiring.specs.Plan.{planOf};
 ghost use Rattle.wiring.specs.Access.{bothCodes, locatedBy};
 ghost use Rattle.wiring.specs.Checking.{codeOf};
 ghost use Rattle.wiring.specs.declared.side.SideName.{SideName};
-ghost use Rattle.decoder.specs.Visiting.{Ready};
+ghost use Rattle.spans.specs.Spans.{filled};
+ghost use Rattle.decoder.specs.Visiting.{Ready, Passed, Attempted};
 ghost use Rattle.decoder.specs.Answer.{decodeCheck, decodeAnswer, decodeSums, decodeOutput, decodeReply};
 
 // The most sweeps that a call may allow.
 const MAX_LIMIT: usize = 4096;
+
+// The bytes of the largest block.
+const MAX_BLOCK: usize = MAX_EDGES / 8;
 
 // A block of so few bytes is first tested by the rows.
 const SMALL_BLOCK: usize = 32;
@@ -39,9 +44,10 @@ pub struct Decoding {
     pub sums: [u16; SUMS],
 }
 
-// Decodes a received block into the front of `output` and answers after how many sweeps it settled. Refusals 1 to 15 and 23; with 15 the
-// front of `output` holds the received block, and no other refusal writes a byte. The sums are told with 15 too; with any other refusal
-// they are 0.
+// Decodes a received block, of which `lost` lists the spans that were lost, into the front of `output`, and answers after how many sweeps it
+// settled. It is tried with the lost bits all 0 and with all 1; of two trials that settle, the one that changes fewer bits outside the spans
+// is kept, the first where they change as many. Refusals 1 to 15 and 23 to 26; with 15 the front of `output` holds the received block, and no
+// other refusal writes a byte. The sums are those of the trial that is kept, with 15 those of the first; with any other refusal they are 0.
 pub fn decode(
     left: &[u8],
     right: &[u8],
@@ -49,12 +55,13 @@ pub fn decode(
     nr: usize,
     wiring: &[u8],
     received: &[u8],
+    lost: &[u8],
     output: &mut [u8],
     limit: usize,
 ) -> Decoding
-    ensures { λ r. ⌜ decodeReply (r .outcome) ≡ decodeAnswer (planOf (now (left .entry)) (now (right .entry)) nl nr (now (wiring .entry))) (now (received .entry)) (now (output .entry)) limit ⌝ }
-    ensures { λ r. ⌜ r .sums ≡ decodeSums (planOf (now (left .entry)) (now (right .entry)) nl nr (now (wiring .entry))) (now (received .entry)) (now (output .entry)) limit ⌝ }
-    ensures { λ _. ⌜ now (output .exit) ≡ decodeOutput (planOf (now (left .entry)) (now (right .entry)) nl nr (now (wiring .entry))) (now (received .entry)) (now (output .entry)) limit ⌝ }
+    ensures { λ r. ⌜ decodeReply (r .outcome) ≡ decodeAnswer (planOf (now (left .entry)) (now (right .entry)) nl nr (now (wiring .entry))) (now (received .entry)) (now (lost .entry)) (now (output .entry)) limit ⌝ }
+    ensures { λ r. ⌜ r .sums ≡ decodeSums (planOf (now (left .entry)) (now (right .entry)) nl nr (now (wiring .entry))) (now (received .entry)) (now (lost .entry)) (now (output .entry)) limit ⌝ }
+    ensures { λ _. ⌜ now (output .exit) ≡ decodeOutput (planOf (now (left .entry)) (now (right .entry)) nl nr (now (wiring .entry))) (now (received .entry)) (now (lost .entry)) (now (output .entry)) limit ⌝ }
 {
     let plan = wiring::check_plan(left, right, nl, nr, wiring);
     let checked = plan.checked;
@@ -62,32 +69,36 @@ pub fn decode(
         Checked::Refused(r) => refuse(r),
         Checked::Passed => match wiring::check_block(plan.left.n * plan.left.d, received) {
             Checked::Refused(r) => refuse(r),
-            Checked::Passed => {
-                if output.len() < received.len() {
-                    return refuse(Refusal {
-                        number: refusal::OUTPUT_SHORT,
-                        place: 0,
-                    });
+            Checked::Passed => match spans::check_spans(plan.left.n * plan.left.d, lost) {
+                Checked::Refused(r) => refuse(r),
+                Checked::Passed => {
+                    if output.len() < received.len() {
+                        return refuse(Refusal {
+                            number: refusal::OUTPUT_SHORT,
+                            place: 0,
+                        });
+                    }
+                    if MAX_LIMIT < limit {
+                        return refuse(Refusal {
+                            number: refusal::LIMIT_TOO_LARGE,
+                            place: 0,
+                        });
+                    }
+                    decode_checked(
+                        left,
+                        right,
+                        nl,
+                        nr,
+                        wiring,
+                        plan.left,
+                        plan.right,
+                        received,
+                        lost,
+                        output,
+                        limit,
+                    )
                 }
-                if MAX_LIMIT < limit {
-                    return refuse(Refusal {
-                        number: refusal::LIMIT_TOO_LARGE,
-                        place: 0,
-                    });
-                }
-                decode_checked(
-                    left,
-                    right,
-                    nl,
-                    nr,
-                    wiring,
-                    plan.left,
-                    plan.right,
-                    received,
-                    output,
-                    limit,
-                )
-            }
+            },
         },
     }
 }
@@ -103,29 +114,32 @@ fn decode_checked(
     left_code: SideCode,
     right_code: SideCode,
     received: &[u8],
+    lost: &[u8],
     output: &mut [u8],
     limit: usize,
 ) -> Decoding
     requires { ⌜ «left_code» ≡ codeOf (planOf (now left) (now right) nl nr (now wiring)) SideName.Left ⌝ }
     requires { ⌜ «right_code» ≡ codeOf (planOf (now left) (now right) nl nr (now wiring)) SideName.Right ⌝ }
-    requires { ⌜ decodeCheck (planOf (now left) (now right) nl nr (now wiring)) (now received) (now output) limit ≡ done [] ⌝ }
-    ensures { λ r. ⌜ decodeReply (r .outcome) ≡ decodeAnswer (planOf (now (left .entry)) (now (right .entry)) nl nr (now (wiring .entry))) (now (received .entry)) (now (output .entry)) limit ⌝ }
-    ensures { λ r. ⌜ r .sums ≡ decodeSums (planOf (now (left .entry)) (now (right .entry)) nl nr (now (wiring .entry))) (now (received .entry)) (now (output .entry)) limit ⌝ }
-    ensures { λ _. ⌜ now (output .exit) ≡ decodeOutput (planOf (now (left .entry)) (now (right .entry)) nl nr (now (wiring .entry))) (now (received .entry)) (now (output .entry)) limit ⌝ }
+    requires { ⌜ decodeCheck (planOf (now left) (now right) nl nr (now wiring)) (now received) (now lost) (now output) limit ≡ done [] ⌝ }
+    ensures { λ r. ⌜ decodeReply (r .outcome) ≡ decodeAnswer (planOf (now (left .entry)) (now (right .entry)) nl nr (now (wiring .entry))) (now (received .entry)) (now (lost .entry)) (now (output .entry)) limit ⌝ }
+    ensures { λ r. ⌜ r .sums ≡ decodeSums (planOf (now (left .entry)) (now (right .entry)) nl nr (now (wiring .entry))) (now (received .entry)) (now (lost .entry)) (now (output .entry)) limit ⌝ }
+    ensures { λ _. ⌜ now (output .exit) ≡ decodeOutput (planOf (now (left .entry)) (now (right .entry)) nl nr (now (wiring .entry))) (now (received .entry)) (now (lost .entry)) (now (output .entry)) limit ⌝ }
 {
-    if is_codeword_at_sight(left_code, right_code, wiring, received) {
-        copy_front(received, output);
-        return Decoding {
-            outcome: Decoded::Settled(0),
-            sums: [0; SUMS],
-        };
+    if lost.len() == 0 {
+        if is_codeword_at_sight(left_code, right_code, wiring, received) {
+            copy_front(received, output);
+            return Decoding {
+                outcome: Decoded::Settled(0),
+                sums: [0; SUMS],
+            };
+        }
     }
     let left_basis = left_code.basis;
     let mut left_finder = [0u16; FINDER_WORDS];
     tables::prepare_finder(left, left_code.k, &left_basis, &mut left_finder);
     if bits::same(left, right) {
         let mut none = [0u16; 0];
-        return decode_copy(
+        return decode_trials(
             left,
             right,
             nl,
@@ -134,6 +148,7 @@ fn decode_checked(
             &mut left_finder,
             &mut none,
             received,
+            lost,
             output,
             limit,
         );
@@ -141,7 +156,7 @@ fn decode_checked(
     let right_basis = right_code.basis;
     let mut right_finder = [0u16; FINDER_WORDS];
     tables::prepare_finder(right, right_code.k, &right_basis, &mut right_finder);
-    decode_copy(
+    decode_trials(
         left,
         right,
         nl,
@@ -150,13 +165,16 @@ fn decode_checked(
         &mut left_finder,
         &mut right_finder,
         received,
+        lost,
         output,
         limit,
     )
 }
 
-// Sweeps a copy of the received block at the front of the output; where it does not settle, the copy is made again.
-fn decode_copy(
+// Decodes with the finders of both sides. The trial with zeros is made at the front of the output, the one with ones in a buffer of its own. Where
+// the first settles and changes no bit outside the spans, it is kept whatever the second would give; where no bit is lost there is no second.
+// Where none settles the received block is put back, its lost bits as they were received.
+fn decode_trials(
     left: &[u8],
     right: &[u8],
     nl: usize,
@@ -165,17 +183,111 @@ fn decode_copy(
     left_finder: &mut [u16],
     right_finder: &mut [u16],
     received: &[u8],
+    lost: &[u8],
     output: &mut [u8],
     limit: usize,
 ) -> Decoding
     requires { ⌜ Ready (planOf (now left) (now right) nl nr (now wiring)) (now «left_finder») (now «right_finder») ⌝ }
-    requires { ⌜ decodeCheck (planOf (now left) (now right) nl nr (now wiring)) (now received) (now output) limit ≡ done [] ⌝ }
-    ensures { λ r. ⌜ decodeReply (r .outcome) ≡ decodeAnswer (planOf (now (left .entry)) (now (right .entry)) nl nr (now (wiring .entry))) (now (received .entry)) (now (output .entry)) limit ⌝ }
-    ensures { λ r. ⌜ r .sums ≡ decodeSums (planOf (now (left .entry)) (now (right .entry)) nl nr (now (wiring .entry))) (now (received .entry)) (now (output .entry)) limit ⌝ }
-    ensures { λ _. ⌜ now (output .exit) ≡ decodeOutput (planOf (now (left .entry)) (now (right .entry)) nl nr (now (wiring .entry))) (now (received .entry)) (now (output .entry)) limit ⌝ }
+    requires { ⌜ decodeCheck (planOf (now left) (now right) nl nr (now wiring)) (now received) (now lost) (now output) limit ≡ done [] ⌝ }
+    ensures { λ r. ⌜ decodeReply (r .outcome) ≡ decodeAnswer (planOf (now (left .entry)) (now (right .entry)) nl nr (now (wiring .entry))) (now (received .entry)) (now (lost .entry)) (now (output .entry)) limit ⌝ }
+    ensures { λ r. ⌜ r .sums ≡ decodeSums (planOf (now (left .entry)) (now (right .entry)) nl nr (now (wiring .entry))) (now (received .entry)) (now (lost .entry)) (now (output .entry)) limit ⌝ }
+    ensures { λ _. ⌜ now (output .exit) ≡ decodeOutput (planOf (now (left .entry)) (now (right .entry)) nl nr (now (wiring .entry))) (now (received .entry)) (now (lost .entry)) (now (output .entry)) limit ⌝ }
 {
-    copy_front(received, output);
+    let zeros = make_trial(
+        left,
+        right,
+        nl,
+        nr,
+        wiring,
+        left_finder,
+        right_finder,
+        received,
+        lost,
+        0,
+        limit,
+        output,
+    );
+    let count = zeros.count;
+    let sums = zeros.sums;
+    if count <= limit {
+        if zeros.changed == 0 {
+            return Decoding {
+                outcome: Decoded::Settled(count),
+                sums,
+            };
+        }
+    }
+    if lost.len() == 0 {
+        copy_front(received, output);
+        return unsettled(sums);
+    }
+    let mut other = [0u8; MAX_BLOCK];
+    let ones = make_trial(
+        left,
+        right,
+        nl,
+        nr,
+        wiring,
+        left_finder,
+        right_finder,
+        received,
+        lost,
+        1,
+        limit,
+        &mut other,
+    );
+    let ones_count = ones.count;
+    let ones_sums = ones.sums;
+    if keeps_ones(limit, count, zeros.changed, ones_count, ones.changed) {
+        let size = received.len();
+        copy_front(&other[0..size], output);
+        return Decoding {
+            outcome: Decoded::Settled(ones_count),
+            sums: ones_sums,
+        };
+    }
+    if limit < count {
+        copy_front(received, output);
+        return unsettled(sums);
+    }
+    Decoding {
+        outcome: Decoded::Settled(count),
+        sums,
+    }
+}
+
+// What a trial came to: after how many sweeps it settled, one more than the limit where it did not, how many bits it changed outside the spans,
+// and how many each sweep changed.
+struct Attempt {
+    count: usize,
+    changed: usize,
+    sums: [u16; SUMS],
+}
+
+// Makes the trial with the lost bits all `value` at the front of a buffer. Where no bit is lost nothing depends on the bits that it changed, and
+// they are not counted.
+fn make_trial(
+    left: &[u8],
+    right: &[u8],
+    nl: usize,
+    nr: usize,
+    wiring: &[u8],
+    left_finder: &mut [u16],
+    right_finder: &mut [u16],
+    received: &[u8],
+    lost: &[u8],
+    value: u64,
+    limit: usize,
+    room: &mut [u8],
+) -> Attempt
+    requires { ⌜ Ready (planOf (now left) (now right) nl nr (now wiring)) (now «left_finder») (now «right_finder») ⌝ }
+    requires { ⌜ Passed (planOf (now left) (now right) nl nr (now wiring)) (now received) (now lost) (now room) limit ⌝ }
+    requires { ⌜ value < 2 ⌝ }
+    ensures { λ _. ⌜ Ready (planOf (now (left .entry)) (now (right .entry)) nl nr (now (wiring .entry))) (now («left_finder» .exit)) (now («right_finder» .exit)) ⌝ }
+    ensures { λ r. ⌜ Attempted (planOf (now (left .entry)) (now (right .entry)) nl nr (now (wiring .entry))) (now (received .entry)) (now (lost .entry)) value limit r (now (room .entry)) (now (room .exit)) ⌝ }
+{
     let size = received.len();
+    lay_out(received, lost, value, room);
     let settled = settle(
         left,
         right,
@@ -185,22 +297,65 @@ fn decode_copy(
         left_finder,
         right_finder,
         limit,
-        &mut output[0..size],
+        &mut room[0..size],
     );
     let count = settled.count;
     let sums = settled.sums;
-    if limit < count {
-        copy_front(received, output);
-        return Decoding {
-            outcome: Decoded::Refused(Refusal {
-                number: refusal::UNSETTLED,
-                place: 0,
-            }),
+    if lost.len() == 0 {
+        return Attempt {
+            count,
+            changed: 0,
             sums,
         };
     }
+    let changed = spans::flips_outside(wiring.len() / 2, lost, received, &room[0..size]);
+    Attempt {
+        count,
+        changed,
+        sums,
+    }
+}
+
+// Whether the trial with ones is kept: it settles, and where the one with zeros does too, it changes fewer bits outside the spans.
+fn keeps_ones(
+    limit: usize,
+    zeros: usize,
+    zeros_changed: usize,
+    ones: usize,
+    ones_changed: usize,
+) -> bool
+    ensures { λ r. ⌜ (r ≡ true → (ones ≤ limit) × (zeros ≤ limit → «ones_changed» < «zeros_changed»)) ⌝ }
+    ensures { λ r. ⌜ (r ≡ false → ones ≤ limit → (zeros ≤ limit) × («zeros_changed» ≤ «ones_changed»)) ⌝ }
+{
+    if limit < ones {
+        return false;
+    }
+    if limit < zeros {
+        return true;
+    }
+    ones_changed < zeros_changed
+}
+
+// Puts the received block at the front of a buffer, with every lost bit made the last binary digit of `value`.
+fn lay_out(received: &[u8], lost: &[u8], value: u64, room: &mut [u8])
+    requires { ⌜ length (now received) ≤ length (now room) ⌝ }
+    ensures { λ _. ⌜ now (room .exit) ≡ written (filled (value % 2) (now (lost .entry)) (now (received .entry))) (now (room .entry)) ⌝ }
+{
+    copy_front(received, room);
+    let size = received.len();
+    spans::fill(lost, value, &mut room[0..size]);
+}
+
+// The answer of a call that is worked through and does not settle.
+fn unsettled(sums: [u16; SUMS]) -> Decoding
+    ensures { λ r. ⌜ decodeReply (r .outcome) ≡ refused 15 0 ⌝ }
+    ensures { λ r. ⌜ r .sums ≡ sums ⌝ }
+{
     Decoding {
-        outcome: Decoded::Settled(count),
+        outcome: Decoded::Refused(Refusal {
+            number: refusal::UNSETTLED,
+            place: 0,
+        }),
         sums,
     }
 }

@@ -47,6 +47,7 @@ pub(crate) fn settle(
     requires { ⌜ limit ≤ 4096 ⌝ }
     requires { ⌜ Ready (planOf (now left) (now right) nl nr (now wiring)) (now «left_finder») (now «right_finder») ⌝ }
     requires { ⌜ blockCheck (edgeCount (planOf (now left) (now right) nl nr (now wiring))) (now block) ≡ done [] ⌝ }
+    ensures { λ _. ⌜ Ready (planOf (now (left .entry)) (now (right .entry)) nl nr (now (wiring .entry))) (now («left_finder» .exit)) (now («right_finder» .exit)) ⌝ }
     ensures { λ r. ⌜ r .count ≡ settlesAt (planOf (now (left .entry)) (now (right .entry)) nl nr (now (wiring .entry))) (now (block .entry)) limit ⌝ }
     ensures { λ r. ⌜ r .sums ≡ sweepSums (planOf (now (left .entry)) (now (right .entry)) nl nr (now (wiring .entry))) (now (block .entry)) (min (r .count) limit) ⌝ }
     ensures { λ r. ⌜ (r .count ≤ limit → now (block .exit) ≡ sweptBlock (planOf (now (left .entry)) (now (right .entry)) nl nr (now (wiring .entry))) (r .count) (now (block .entry))) ⌝ }

@@ -24,8 +24,9 @@ use Rattle.wiring.specs.Plan.{edgeOf, sideBit}
 use Rattle.wiring.specs.Wiring.{entryCheck, entriesCheck, countFaulty, wiringCheck, planCheck, edgesBetween}
 use Rattle.wiring.specs.Block.{blockBytes, bitsCheck, vertexWord, scattered, satisfied, firstUnsatisfied, isCodewordBlock}
 use Rattle.wiring.specs.Square.{entryBytes, squareWiring}
+use Rattle.spans.specs.Spans.{pairCount, startOf, lengthOf, endOf, endBefore, spanCheck, pairsCheck, spansCheck, isLost, flipsOutside, filledBelow, filled}
 use Rattle.decoder.specs.Sweep.{visited, sweep, other, turn, afterSweeps}
-use Rattle.decoder.specs.Decode.{settlesAt, sweepSum, sweepSums, trial}
+use Rattle.decoder.specs.Decode.{settlesAt, sweepSum, sweepSums, trial, keepsOnes, decoding}
 use Rattle.decoder.specs.Answer.{decodeCheck, decodeAnswer, decodeSums, decodeOutput}
 use Rattle.radius.specs.Spread.{meeting, unevenness, spread}
 use Rattle.radius.specs.Margin.{slack, stepCovered, nextBound, oneMore, chainSweeps, sweepsNamed}
@@ -66,7 +67,7 @@ unfolding
     flag ones onesIn distance refuseIf andThen ifDone degree rowCount rowOf
     rowCheck rowsCheck sheetCheck houseSheet firstFailing edgeOf sideBit entryCheck entriesCheck countFaulty wiringCheck planCheck
     edgesBetween blockBytes bitsCheck vertexWord scattered satisfied firstUnsatisfied isCodewordBlock visited sweep other turn
-    afterSweeps settlesAt sweepSum sweepSums trial decodeCheck decodeAnswer decodeSums written values flips decodeOutput meeting unevenness largest spread slack
+    afterSweeps settlesAt sweepSum sweepSums trial pairCount startOf lengthOf endOf endBefore spanCheck pairsCheck spansCheck isLost flipsOutside filledBelow filled keepsOnes decoding decodeCheck decodeAnswer decodeSums written values flips decodeOutput meeting unevenness largest spread slack
     stepCovered nextBound oneMore chainSweeps sweepsNamed marginAnswer bitsPut blockOf codewordNumber isPosition positionsBefore carries
     encodedNumber encodedBlock pairs houseTable smallestOf isSmallest classOf tieMark tableBytes buildAnswer buildOutput patternIn lookUpAnswer
 examples-hold = refl

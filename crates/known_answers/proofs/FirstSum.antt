@@ -1,4 +1,4 @@
--- What the sums say of a block that settles after one sweep: its first sum is the number of bits in which the received and the settled block
+-- What the sums say of a block of which nothing is lost and that settles after one sweep: its first sum is the number of bits in which the received and the settled block
 -- differ, which is what the lengths of the report's runs add up to.
 --   decodeAnswer, decodeSums, decodeOutput   what the decoder answers, the sums that it tells, and its output at exit (decoder specs Answer)
 --   reportAnswer, reportList                 what the report answers, and its list at exit (report specs Answer)
@@ -23,8 +23,8 @@ use Rattle.report.specs.Answer.{reportAnswer, reportList}
 use Rattle.report.proofs.Lengths.{report-lengths}
 
 module _ (plan : Plan) (received output : List ℕ) (H : ℕ) where
-  module _ (once : decodeAnswer plan received output H ≡ done (1 ∷ [])) (settled : List ℕ) (sized : length settled ≡ length received)
-      (left : decodeOutput plan received output H ≡ written settled output) where
+  module _ (once : decodeAnswer plan received [] output H ≡ done (1 ∷ [])) (settled : List ℕ) (sized : length settled ≡ length received)
+      (left : decodeOutput plan received [] output H ≡ written settled output) where
     -- the block at the front of the output is the received one after one sweep
     settled-is : settled ≡ sweptBlock plan 1 received
     settled-is =
@@ -35,7 +35,7 @@ module _ (plan : Plan) (received output : List ℕ) (H : ℕ) where
         ∙ ap (take (length received)) (sym left ∙ decode-settled plan received output H pass 1 at within .leaves)
         ∙ written-part swept output (length received) (sym kept)
 
-    pub first-sum : getD (decodeSums plan received output H) 0 0 ≡ flips (edgeCount plan) received settled
+    pub first-sum : getD (decodeSums plan received [] output H) 0 0 ≡ flips (edgeCount plan) received settled
     unfolding sweepSum
     first-sum =
         let (at, within, (values, pass)) = decode-means plan received output H 1 once in
@@ -45,5 +45,5 @@ module _ (plan : Plan) (received output : List ℕ) (H : ℕ) where
         ∙ ap (flips (edgeCount plan) received) (sym settled-is)
 
     pub first-sum-reported : (list : List ℕ) (pairs : ℕ) → reportAnswer plan received settled list ≡ done (pairs ∷ [])
-        → sum pairs (λ p. pairAt (reportList plan received settled list) (4 * p + 2)) ≡ getD (decodeSums plan received output H) 0 0
+        → sum pairs (λ p. pairAt (reportList plan received settled list) (4 * p + 2)) ≡ getD (decodeSums plan received [] output H) 0 0
     first-sum-reported list pairs e = report-lengths plan received settled list pairs e ∙ sym first-sum

@@ -20,6 +20,7 @@ use Rattle.wiring.specs.Plan.{edgeOf, sideBit, edgeCount, sideOf}
 use Rattle.wiring.specs.Wiring.{entryCheck, entriesCheck, countFaulty, wiringCheck, planCheck}
 use Rattle.wiring.specs.Block.{blockBytes, bitsCheck, blockCheck, vertexWord, scattered, satisfied, firstUnsatisfied, isCodewordBlock}
 use Rattle.wiring.specs.declared.side.SideName.{SideName}
+use Rattle.spans.proofs.Checking.{spans-none}
 use Rattle.decoder.specs.Sweep.{visited, sweep, afterSweeps}
 use Rattle.decoder.specs.Decode.{sweptBlock, settledAfter, sweepSum, sweepSums}
 use Rattle.decoder.specs.Answer.{decodeAnswer, decodeSums, decodeOutput}
@@ -68,13 +69,13 @@ unfolding sweepSum
 still i = ap₂ (flips (edgeCount pairPlan)) (same i) (same (i + 1)) ∙ flips-none (edgeCount pairPlan) received
 
 pub pair-waits : (H : ℕ) → H ≤ 4096
-    → (decodeAnswer pairPlan received (0 ∷ []) H ≡ refused 15 0)
-    × (decodeSums pairPlan received (0 ∷ []) H ≡ replicate 64 0)
-    × (decodeOutput pairPlan received (0 ∷ []) H ≡ received)
+    → (decodeAnswer pairPlan received [] (0 ∷ []) H ≡ refused 15 0)
+    × (decodeSums pairPlan received [] (0 ∷ []) H ≡ replicate 64 0)
+    × (decodeOutput pairPlan received [] (0 ∷ []) H ≡ received)
 unfolding written blockBytes degree
 pair-waits H limited =
     let never = settles-none pairPlan received H (λ i l. unsettled i) in
-    let pass = check-passed pairPlan received (0 ∷ []) H accepted block-accepted (lit≤ tt) limited in
+    let pass = check-passed pairPlan received [] (0 ∷ []) H accepted block-accepted (spans-none _) (lit≤ tt) limited in
     let ends = decode-unsettled pairPlan received (0 ∷ []) H pass (omega (arith, never)) in
     let none : min 0 H ≡ 0 = min-eq-left zero-le in (
       ends .answer,
@@ -84,5 +85,5 @@ pair-waits H limited =
     )
 
 -- the row of document 02: 15, with as many sweeps as a call may allow
-pub pair-waits-longest : decodeAnswer pairPlan received (0 ∷ []) 4096 ≡ refused 15 0
+pub pair-waits-longest : decodeAnswer pairPlan received [] (0 ∷ []) 4096 ≡ refused 15 0
 pair-waits-longest = pair-waits 4096 (lit≤ tt) .0

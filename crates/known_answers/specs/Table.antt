@@ -8,6 +8,7 @@
 --   lonePlan    a plan of one vertex a side: d, its one row, the wiring
 --   pairPlan    the pair plan: d 2, row 3, wiring 0, 1
 --   triplePlan  the smallest plan that mends a bit: d 3, row 7, wiring 0, 1, 2
+--   quadPlan    a plan with ties beside a bit that tells nothing: d 4, row 3, wiring 0, 1, 2, 3
 --   holds row   what the definitions give is what the row says
 --   allHold     every row of a list holds
 --   examples    all rows but the whole table of the house sheet
@@ -38,8 +39,9 @@ pub data Row : Type 0 where
   margin : ℕ → ℕ → ℕ → ℕ → ℕ → ℕ → Row
   -- the same of sides that differ: nl, dl, nr, left D, right D, R, F and the sweeps
   unequal : ℕ → ℕ → ℕ → ℕ → ℕ → ℕ → ℕ → ℕ → Row
-  -- a plan of one byte: a received byte and a limit, the decoder's answer, the byte in its output and the sum of its first sweep; the others are 0
-  decoded : Plan → ℕ → ℕ → Reply → ℕ → ℕ → Row
+  -- a plan of one byte: a received byte, its lost spans and a limit, the decoder's answer, the byte in its output and the sum of its first
+  -- sweep; the others are 0
+  decoded : Plan → ℕ → List ℕ → ℕ → Reply → ℕ → ℕ → Row
   -- the pair plan: a message byte and the byte that it encodes to
   message : ℕ → ℕ → Row
   -- a house word looked up in a table, and the answer
@@ -95,6 +97,10 @@ pairPlan = lonePlan 2 3 (0 ∷ 0 ∷ 0 ∷ 1 ∷ [])
 abbrev pub triplePlan : Plan
 triplePlan = lonePlan 3 7 (0 ∷ 0 ∷ 0 ∷ 1 ∷ 0 ∷ 2 ∷ [])
 
+-- a plan with ties beside a bit that tells nothing: d 4, row 3, wiring 0, 1, 2, 3
+abbrev pub quadPlan : Plan
+quadPlan = lonePlan 4 3 (0 ∷ 0 ∷ 0 ∷ 1 ∷ 0 ∷ 2 ∷ 0 ∷ 3 ∷ [])
+
 unfoldable pub holds : Row → Bool
 unfolding
     nearestAnswer sameReply sameList squareWiring marginAnswer sweepsNamed decodeAnswer decodeSums decodeOutput encodedBlock lookUpAnswer buildAnswer
@@ -103,10 +109,10 @@ holds (house word nearest changed) = sameReply (nearestAnswer houseSheet word) (
 holds (square flips reply) = sameReply (marginAnswer squarePlan flips) reply
 holds (margin n d D R flips sweeps) = eqb (named n d n D D R flips) sweeps
 holds (unequal nl dl nr Dl Dr R flips sweeps) = eqb (named nl dl nr Dl Dr R flips) sweeps
-holds (decoded plan received limit reply left sum) =
-    sameReply (decodeAnswer plan (received ∷ []) (0 ∷ []) limit) reply
-    && (sameList (decodeOutput plan (received ∷ []) (0 ∷ []) limit) (left ∷ [])
-    && sameList (decodeSums plan (received ∷ []) (0 ∷ []) limit) (sum ∷ replicate 63 0))
+holds (decoded plan received lost limit reply left sum) =
+    sameReply (decodeAnswer plan (received ∷ []) lost (0 ∷ []) limit) reply
+    && (sameList (decodeOutput plan (received ∷ []) lost (0 ∷ []) limit) (left ∷ [])
+    && sameList (decodeSums plan (received ∷ []) lost (0 ∷ []) limit) (sum ∷ replicate 63 0))
 holds (message byte encoded) = sameList (encodedBlock pairPlan (byte ∷ [])) (encoded ∷ [])
 holds (lookedUp word bytes reply) = sameReply (lookUpAnswer houseSheet word bytes) reply
 holds (built output reply left) = sameReply (buildAnswer houseSheet output) reply && sameList (buildOutput houseSheet output) left
@@ -134,11 +140,21 @@ examples =
     ∷ margin 31 16 16 480 64 0
     ∷ unequal 30 8 16 7 15 128 20 3
     ∷ unequal 30 8 16 7 15 128 21 0
-    ∷ decoded pairPlan 0x80 0 (refused 15 0) 0x80 0
-    ∷ decoded pairPlan 0x80 1 (refused 15 0) 0x80 0
-    ∷ decoded pairPlan 0x80 2 (refused 15 0) 0x80 0
-    ∷ decoded triplePlan 0xc0 0 (refused 15 0) 0xc0 0
-    ∷ decoded triplePlan 0xc0 1 (done (1 ∷ [])) 0xe0 1
+    ∷ decoded pairPlan 0x80 [] 0 (refused 15 0) 0x80 0
+    ∷ decoded pairPlan 0x80 [] 1 (refused 15 0) 0x80 0
+    ∷ decoded pairPlan 0x80 [] 2 (refused 15 0) 0x80 0
+    ∷ decoded triplePlan 0xc0 [] 0 (refused 15 0) 0xc0 0
+    ∷ decoded triplePlan 0xc0 [] 1 (done (1 ∷ [])) 0xe0 1
+    ∷ decoded triplePlan 0x80 (pairs (1 ∷ 1 ∷ [])) 1 (done (1 ∷ [])) 0x00 1
+    ∷ decoded triplePlan 0xa0 (pairs (1 ∷ 1 ∷ [])) 1 (done (1 ∷ [])) 0xe0 1
+    ∷ decoded triplePlan 0x80 (pairs (1 ∷ 1 ∷ 2 ∷ 1 ∷ [])) 1 (done (0 ∷ [])) 0xe0 0
+    ∷ decoded pairPlan 0x80 (pairs (1 ∷ 1 ∷ [])) 0 (done (0 ∷ [])) 0xc0 0
+    ∷ decoded quadPlan 0x90 (pairs (0 ∷ 1 ∷ [])) 2 (refused 15 0) 0x90 0
+    ∷ decoded triplePlan 0xc0 (0 ∷ 0 ∷ 0 ∷ []) 0 (refused 24 0) 0 0
+    ∷ decoded triplePlan 0xc0 (pairs (1 ∷ 1 ∷ 0 ∷ 0 ∷ [])) 0 (refused 25 0) 0 0
+    ∷ decoded triplePlan 0xc0 (pairs (2 ∷ 2 ∷ [])) 0 (refused 25 0) 0 0
+    ∷ decoded triplePlan 0xc0 (pairs (0xffff ∷ 2 ∷ [])) 0 (refused 25 0) 0 0
+    ∷ decoded triplePlan 0xc0 (pairs (0 ∷ 2 ∷ 1 ∷ 1 ∷ 0 ∷ 0 ∷ [])) 0 (refused 26 0) 0 0
     ∷ message 0x80 0xc0
     ∷ lookedUp 0x07 houseTable (done (0x0f ∷ 1 ∷ []))
     ∷ lookedUp 0xc0 houseTable (done (0xc0 ∷ 0 ∷ []))

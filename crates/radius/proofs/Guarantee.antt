@@ -1,16 +1,18 @@
--- Demand 3: what the margin promises holds of the decoder.
+-- Demand 3: what the margin promises holds of the decoder where no bit is lost.
 -- The notions, of specs/Demand.antt, specs/Answer.antt, wiring specs/Block.antt and bits specs/Bit.antt:
 --   flips N a b                        the number of bits 0 .. N - 1 in which two blocks differ
 --   Block N block                      a block of N bits
 --   Codeword plan block                a block of this plan that is a codeword
 --   settledAfter plan received i       the received block, swept i times, is a codeword
 --   stoppedBefore15 reply              a row before 15 in the table stops the call
---   Restored ..                        what a decoder call is promised
+--   Restored ..                        what a decoder call is promised with no bit lost
+--   spansCheck N lost                  the check of a list of lost spans (spans specs Spans)
 --   marginAnswer plan F                what the margin answers for F flips
 -- and, of the proofs,
 --   Covered plan F q                   the plan is accepted, F flips are covered, and q sweeps are named for them (Answers)
 -- Names: the subject first, then the fact. `swept-` is about the received block after sweeps, `settles-` about the count at which it
--- settles (settles-by: when; settles-as: on what), `free-` about the tests that a call has passed which no row before 15 stops.
+-- settles (settles-by: when; settles-as: on what), `free-` about the tests that a call, whatever its list, has passed which no row
+-- before 15 stops.
 -- The theorems are demand3, about a decoder call, and demand3-alone, which mentions no call.
 use Prim.Native.Nat.{ℕ, _+_, _≤_, _<_}
 use mathlib.Core.Path.{_≡_, refl, sym, ap, _∙_}
@@ -33,11 +35,13 @@ use Rattle.wiring.specs.Block.{blockBytes, blockCheck, Block, Codeword}
 use Rattle.wiring.specs.declared.side.SideName.{SideName}
 use Rattle.wiring.proofs.Blocks.{bits-number, block-sized, block-clear, block-back}
 use Rattle.wiring.proofs.Plans.{plan-sound, plan-joined}
+use Rattle.spans.specs.Spans.{spansCheck}
+use Rattle.spans.proofs.Checking.{spans-done, spans-number}
 use Rattle.decoder.specs.Decode.{sweptBlock, settlesAt}
 use Rattle.decoder.specs.Answer.{decodeCheck, decodeAnswer}
 use Rattle.decoder.proofs.Sweeping.{sheet-mends}
 use Rattle.decoder.proofs.Settling.{settles-codeword, settles-first, settles-stays, decode-stopped, decode-settled}
-use Rattle.decoder.proofs.Settling.{check-block, check-short, check-limit, check-passed}
+use Rattle.decoder.proofs.Settling.{check-block, check-spans, check-short, check-limit, check-passed}
 use Rattle.radius.specs.Answer.{distanceOf, marginAnswer}
 use Rattle.radius.specs.Demand.{stoppedBefore15, Restored}
 use Rattle.radius.proofs.Restoring.{Nears, after-restores}
@@ -61,7 +65,7 @@ swept-restores plan received F q covered block c code few =
 -- ---- where it settles: where q sweeps make it a codeword c, it has settled by then, as c
 
 module _ (plan : Plan) (received : List ℕ) (H q : ℕ) (c : List ℕ) (code : Codeword plan c) (swept : sweptBlock plan q received ≡ c) where
-  settles-by : settlesAt plan received H ≤ q
+  pub settles-by : settlesAt plan received H ≤ q
   settles-by =
       elim (decLe (settlesAt plan received H) q) [
         | yes by ↦ by
@@ -70,19 +74,19 @@ module _ (plan : Plan) (received : List ℕ) (H q : ℕ) (c : List ℕ) (code : 
             absurd (true≢false (sym (code .satisfied-all) ∙ rw swept at not-yet))
       ]
 
-  settles-as : ((name : SideName) → Sound (sheetOf plan name)) → q ≤ H → sweptBlock plan (settlesAt plan received H) received ≡ c
+  pub settles-as : ((name : SideName) → Sound (sheetOf plan name)) → q ≤ H → sweptBlock plan (settlesAt plan received H) received ≡ c
   settles-as s enough = sym (settles-stays plan received s H (le-trans settles-by enough) q settles-by) ∙ swept
 
 -- ---- the tests that a call has passed which no row before 15 stops
 
-module _ (plan : Plan) (received output : List ℕ) (H : ℕ) (accepted : planCheck plan ≡ done [])
-    (free : stoppedBefore15 (decodeAnswer plan received output H) ≡ false) where
-  not-stopped : {number place : ℕ} → (number ≡ 15 → ⊥) → decodeCheck plan received output H ≡ refused number place → ⊥
+module _ (plan : Plan) (received lost output : List ℕ) (H : ℕ) (accepted : planCheck plan ≡ done [])
+    (free : stoppedBefore15 (decodeAnswer plan received lost output H) ≡ false) where
+  not-stopped : {number place : ℕ} → (number ≡ 15 → ⊥) → decodeCheck plan received lost output H ≡ refused number place → ⊥
   unfolding stoppedBefore15
   not-stopped {number} {place} another stops =
-      another (eqb-true number 15 (not-false _ (sym (ap stoppedBefore15 (decode-stopped plan received output H stops .answer)) ∙ free)))
+      another (eqb-true number 15 (not-false _ (sym (ap stoppedBefore15 (decode-stopped plan received lost output H stops .answer)) ∙ free)))
 
-  free-block : blockCheck (edgeCount plan) received ≡ done []
+  pub free-block : blockCheck (edgeCount plan) received ≡ done []
   free-block = go (blockCheck (edgeCount plan) received) refl
     where
       go : (reply : Reply) → blockCheck (edgeCount plan) received ≡ reply → blockCheck (edgeCount plan) received ≡ done []
@@ -90,24 +94,35 @@ module _ (plan : Plan) (received output : List ℕ) (H : ℕ) (accepted : planCh
       go (refused number place) e =
           absurd (not-stopped
           (λ q. ⊎-elim (λ (a : number ≡ 11). omega arith) (λ (b : number ≡ 12). omega arith) (bits-number 11 12 _ received e))
-          (check-block plan received output H accepted e))
+          (check-block plan received lost output H accepted e))
+
+  pub free-spans : spansCheck (edgeCount plan) lost ≡ done []
+  free-spans = go (spansCheck (edgeCount plan) lost) refl
+    where
+      go : (reply : Reply) → spansCheck (edgeCount plan) lost ≡ reply → spansCheck (edgeCount plan) lost ≡ done []
+      go (done values) e = spans-done (edgeCount plan) lost e
+      go (refused number place) e =
+          absurd (not-stopped (λ q. omega (arith, spans-number (edgeCount plan) lost e .0))
+          (check-spans plan received lost output H accepted free-block e))
 
   free-room : blockBytes (edgeCount plan) ≤ length output
   free-room =
       elim (decLe (blockBytes (edgeCount plan)) (length output)) [
         | yes room ↦ room
-        | no short ↦ absurd (not-stopped (λ q. omega arith) (check-short plan received output H accepted free-block (omega arith)))
+        | no short ↦ absurd (not-stopped (λ q. omega arith) (check-short plan received lost output H accepted free-block free-spans (omega arith)))
       ]
 
   free-limit : H ≤ 4096
   free-limit =
       elim (decLe H 4096) [
         | yes low ↦ low
-        | no high ↦ absurd (not-stopped (λ q. omega arith) (check-limit plan received output H accepted free-block free-room (omega arith)))
+        | no high ↦
+            absurd (not-stopped (λ q. omega arith)
+            (check-limit plan received lost output H accepted free-block free-spans free-room (omega arith)))
       ]
 
-  free-check : decodeCheck plan received output H ≡ done []
-  free-check = check-passed plan received output H accepted free-block free-room free-limit
+  pub free-check : decodeCheck plan received lost output H ≡ done []
+  free-check = check-passed plan received lost output H accepted free-block free-spans free-room free-limit
 
 -- ---- demand 3
 
@@ -117,13 +132,13 @@ pub demand3 : (plan : Plan) (sent received output : List ℕ) (F q H : ℕ)
     → flips (edgeCount plan) sent received ≤ F
     → marginAnswer plan F ≡ done (q ∷ [])
     → q ≤ H
-    → (stoppedBefore15 (decodeAnswer plan received output H) ≡ false)
+    → (stoppedBefore15 (decodeAnswer plan received [] output H) ≡ false)
     → Restored plan sent received output H q
 demand3 plan sent received output F q H code bytes few margin enough free =
     let covered = margin-means plan F q margin in
     let accepted = covered .accepted in
-    let pass = free-block plan received output H accepted free in
-    let check = free-check plan received output H accepted free in
+    let pass = free-block plan received [] output H accepted free in
+    let check = free-check plan received [] output H accepted free in
     let swept = swept-restores plan received F q covered (record { bytes = bytes; checked = pass }) sent code few in
     let count : ℕ = settlesAt plan received H in
     let by : count ≤ q = settles-by plan received H q sent code swept in

@@ -5,6 +5,8 @@ pub mod Convergence
 pub mod Restoring
 pub mod Answers
 pub mod Guarantee
+pub mod Distance
+pub mod LostSpans
 pub mod PlanRanges
 pub mod ChainWalk
 pub mod Uncovered

@@ -1,7 +1,8 @@
--- The words of demand 3.
+-- The words of demand 3, and of what is promised where bits are lost.
 --   stoppedBefore15 reply      a row before 15 in the table stops the call: it is refused, and not with 15
---   Restored ..                what a decoder call is promised: it settles within q sweeps, at the first count after which the received block
---                              is a codeword, and its output holds the sent block
+--   Restored ..                what a decoder call is promised with no bit lost: it settles within q sweeps, at the first count after which the
+--                              received block is a codeword, and its output holds the sent block
+--   Mended ..                  what one is promised with lost spans: it settles, and its output holds the sent block
 use Prim.Native.Nat.{ℕ, _≤_, _<_}
 use mathlib.Core.Path.{_≡_}
 use mathlib.Core.List.{List, [], _∷_}
@@ -19,8 +20,13 @@ stoppedBefore15 (refused number place) = not (eqb number 15)
 
 pub record Restored (plan : Plan) (sent received output : List ℕ) (H q : ℕ) : Type 0 where
   pub count : ℕ
-  pub answer : decodeAnswer plan received output H ≡ done (count ∷ [])
+  pub answer : decodeAnswer plan received [] output H ≡ done (count ∷ [])
   pub within : count ≤ q
   pub settled : settledAfter plan received count ≡ true
   pub first : (i : ℕ) → i < count → settledAfter plan received i ≡ false
-  pub restored : decodeOutput plan received output H ≡ written sent output
+  pub restored : decodeOutput plan received [] output H ≡ written sent output
+
+pub record Mended (plan : Plan) (sent received lost output : List ℕ) (H : ℕ) : Type 0 where
+  pub count : ℕ
+  pub answer : decodeAnswer plan received lost output H ≡ done (count ∷ [])
+  pub restored : decodeOutput plan received lost output H ≡ written sent output

@@ -1,4 +1,4 @@
--- Decoder calls on a received block, with an output of eight bytes.
+-- Decoder calls on a received block of which nothing is lost, with an output of eight bytes.
 --   Received received                what is received of the sent block (specs Sent)
 --   settledAfter plan received i     the received block, swept i times, is a codeword (decoder specs Decode)
 --   Restored ..                      what a decoder call is promised (radius specs Demand)
@@ -16,6 +16,7 @@ use borrow.Author.Tests.{eq-eqb}
 use lib.ListN.{length}
 use Rattle.inner_code.specs.Reply.{done, refused}
 use Rattle.wiring.specs.Square.{squarePlan}
+use Rattle.spans.proofs.Checking.{spans-none}
 use Rattle.decoder.specs.Decode.{settledAfter, settlesAt}
 use Rattle.decoder.specs.Answer.{decodeCheck, decodeAnswer, decodeReply}
 use Rattle.decoder.specs.declared.decoding.Decoded.{Decoded}
@@ -27,10 +28,10 @@ use Rattle.restored.specs.Outcome.{sweepsOf, isUnsettled}
 use Rattle.restored.proofs.SquarePlan.{square-accepted, square-margin, square-room, sent-codeword, received-block, received-few}
 
 module _ {received : List ℕ} (r : Received received) (output : List ℕ) (room : length output ≡ 8) where
-  decode-passed : (H : ℕ) → H ≤ 4096 → decodeCheck squarePlan received output H ≡ done []
-  decode-passed H l = check-passed squarePlan received output H square-accepted (received-block r .checked) (square-room output room) l
+  decode-passed : (H : ℕ) → H ≤ 4096 → decodeCheck squarePlan received [] output H ≡ done []
+  decode-passed H l = check-passed squarePlan received [] output H square-accepted (received-block r .checked) (spans-none _) (square-room output room) l
 
-  decode-free : (H : ℕ) → H ≤ 4096 → stoppedBefore15 (decodeAnswer squarePlan received output H) ≡ false
+  decode-free : (H : ℕ) → H ≤ 4096 → stoppedBefore15 (decodeAnswer squarePlan received [] output H) ≡ false
   unfolding stoppedBefore15
   decode-free H l =
       elim (decLe (settlesAt squarePlan received H) H) [
@@ -45,12 +46,12 @@ module _ {received : List ℕ} (r : Received received) (output : List ℕ) (room
 
   -- a block that is a codeword after so many sweeps and after no fewer
   module _ (count : ℕ) (low : count ≤ 4096) (first : (i : ℕ) → i < count → settledAfter squarePlan received i ≡ false) where
-    pub decode-at : settledAfter squarePlan received count ≡ true → decodeAnswer squarePlan received output count ≡ done (count ∷ [])
+    pub decode-at : settledAfter squarePlan received count ≡ true → decodeAnswer squarePlan received [] output count ≡ done (count ∷ [])
     decode-at settled =
         decode-settled squarePlan received output count (decode-passed count low) count
         (settles-at squarePlan received count count (le-refl count) settled first) (le-refl count) .answer
 
-    pub decode-before : 0 < count → decodeAnswer squarePlan received output (count - 1) ≡ refused 15 0
+    pub decode-before : 0 < count → decodeAnswer squarePlan received [] output (count - 1) ≡ refused 15 0
     decode-before some =
         decode-unsettled squarePlan received output (count - 1) (decode-passed (count - 1) (omega arith))
         (omega (arith, settles-none squarePlan received (count - 1) (λ i h. first i (omega arith)))) .answer

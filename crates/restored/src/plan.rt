@@ -1,18 +1,30 @@
 // The square plan with the house code on both sides, and a codeword of it.
 use decoder::Decoded;
+ghost use mathlib.Core.List.{[]};
 ghost use mathlib.Core.Path.{_≡_};
 ghost use Rattle.wiring.specs.Square.{squareWiring, squarePlan};
 ghost use Rattle.decoder.specs.Answer.{decodeAnswer, decodeOutput, decodeReply};
 ghost use Rattle.restored.specs.Sent.{sentBlock};
 
-// The decoder on the square plan.
+// The decoder on the square plan, where no bit is lost.
 pub fn decode(received: &[u8], output: &mut [u8], limit: usize) -> Decoded
-    ensures { λ r. ⌜ decodeReply r ≡ decodeAnswer squarePlan (now (received .entry)) (now (output .entry)) limit ⌝ }
-    ensures { λ _. ⌜ now (output .exit) ≡ decodeOutput squarePlan (now (received .entry)) (now (output .entry)) limit ⌝ }
+    ensures { λ r. ⌜ decodeReply r ≡ decodeAnswer squarePlan (now (received .entry)) [] (now (output .entry)) limit ⌝ }
+    ensures { λ _. ⌜ now (output .exit) ≡ decodeOutput squarePlan (now (received .entry)) [] (now (output .entry)) limit ⌝ }
 {
     let sheet = inner_code::HouseCode::sheet();
     let wiring = square_wiring();
-    let decoding = decoder::decode(&sheet, &sheet, 8, 8, &wiring, received, output, limit);
+    let none = [0u8; 0];
+    let decoding = decoder::decode(
+        &sheet,
+        &sheet,
+        8,
+        8,
+        &wiring,
+        received,
+        &none,
+        output,
+        limit,
+    );
     decoding.outcome
 }
 

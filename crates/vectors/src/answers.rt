@@ -98,17 +98,7 @@ fn on_block(
         return;
     }
     if service == 4 {
-        let limit = input::number();
-        decode(
-            left,
-            right,
-            nl,
-            nr,
-            wiring,
-            block,
-            &mut space[..second],
-            limit as usize,
-        );
+        decode_around(left, right, nl, nr, wiring, block, &space[..second]);
         return;
     }
     if service == 8 {
@@ -250,6 +240,32 @@ fn margin(left: &[u8], right: &[u8], nl: usize, nr: usize, wiring: &[u8], flips:
     }
 }
 
+// The fields of the decoder behind the lost spans.
+fn decode_around(
+    left: &[u8],
+    right: &[u8],
+    nl: usize,
+    nr: usize,
+    wiring: &[u8],
+    received: &[u8],
+    lost: &[u8],
+) {
+    let mut space = [0u8; 70000];
+    let lent = input::bytes(&mut space);
+    let limit = input::number();
+    decode(
+        left,
+        right,
+        nl,
+        nr,
+        wiring,
+        received,
+        lost,
+        &mut space[..lent],
+        limit as usize,
+    );
+}
+
 fn decode(
     left: &[u8],
     right: &[u8],
@@ -257,10 +273,11 @@ fn decode(
     nr: usize,
     wiring: &[u8],
     received: &[u8],
+    lost: &[u8],
     output: &mut [u8],
     limit: usize,
 ) {
-    let decoding = decoder::decode(left, right, nl, nr, wiring, received, output, limit);
+    let decoding = decoder::decode(left, right, nl, nr, wiring, received, lost, output, limit);
     let outcome = decoding.outcome;
     let sums = decoding.sums;
     match outcome {

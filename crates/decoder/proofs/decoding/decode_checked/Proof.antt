@@ -17,7 +17,7 @@ use Rattle.wiring.specs.Checking.{codeOf}
 use Rattle.wiring.specs.declared.side.SideCode.{SideCode}
 use Rattle.wiring.specs.declared.side.SideName.{SideName}
 use Rattle.wiring.proofs.Plans.{plan-sound}
-use Rattle.decoder.proofs.Copies.{check-means, copy-codeword}
+use Rattle.decoder.proofs.Trials.{check-means, none-lost, check-none, answers-none, copy-codeword}
 use Rattle.decoder.proofs.decoding.decode_checked.Statement.{statement}
 use Rattle.decoder.proofs.decoding.decode_checked.Tie as tie
 
@@ -34,7 +34,7 @@ abbrev planIn : tie.Start → Plan
 planIn c = planOf (now (c .args .left)) (now (c .args .right)) (c .args .nl) (c .args .nr) (now (c .args .wiring))
 
 accepted : (c : tie.Start) → planCheck (planIn c) ≡ done []
-accepted c = check-means _ _ _ _ (c .pre .1 .1) .plan-done
+accepted c = check-means _ _ _ _ _ (c .pre .1 .1) .plan-done
 
 is-codeword-at-sight-requires : tie.Need-is-codeword-at-sight-requires
 is-codeword-at-sight-requires c κs = search needs
@@ -42,7 +42,7 @@ is-codeword-at-sight-requires c κs = search needs
 -- ---- a block that is a codeword at sight
 
 copy-front-requires : tie.Need-copy-front-requires
-copy-front-requires c κs = check-means _ _ _ _ (c .before .before .before .before .before .before .before .before .pre .1 .1) .room
+copy-front-requires c κs = check-means _ _ _ _ _ (c .before .before .before .before .before .before .before .before .before .before .pre .1 .1) .fits
 
 same-length : tie.Need-same-length
 same-length c = search needs
@@ -50,10 +50,12 @@ same-length c = search needs
 returns : tie.Need-returns
 returns c =
     let copied = c .before .before in
-    let small = copied .before .before in
-    let s = c .before .before .before .before .before .before .before .before .before .before .before in
-    copy-codeword (planIn s) _ _ _ (s .pre .1 .1) (s .args .left-code) (s .args .right-code) (s .pre .0) (s .pre .1 .0)
-    (small .before .is-codeword-at-sight .ensures (small .if1 .taken)) (copied .copy-front .ensures)
+    let sight = copied .before .before in
+    let s = c .before .before .before .before .before .before .before .before .before .before .before .before .before in
+    let none = none-lost _ (c .before .before .before .before .before .before .if1 .taken) in
+    answers-none (planIn s) _ _ _ _ none
+    (copy-codeword (planIn s) _ _ _ (check-none (planIn s) _ _ _ _ none (s .pre .1 .1)) (s .args .left-code) (s .args .right-code) (s .pre .0)
+    (s .pre .1 .0) (sight .before .is-codeword-at-sight .ensures (sight .if2 .taken)) (copied .copy-front .ensures))
 
 -- ---- any other
 
@@ -74,21 +76,21 @@ prepare-finder-requires c κs = search needs
 same-requires : tie.Need-same-requires
 same-requires c κs = search needs
 
-slice-aggregate-decode-copy : tie.Need-slice-aggregate-decode-copy
-slice-aggregate-decode-copy c = search needs
+slice-aggregate-decode-trials : tie.Need-slice-aggregate-decode-trials
+slice-aggregate-decode-trials c = search needs
 
-slice-aggregate-decode-copy-2 : tie.Need-slice-aggregate-decode-copy-2
-slice-aggregate-decode-copy-2 c = search needs
+slice-aggregate-decode-trials-2 : tie.Need-slice-aggregate-decode-trials-2
+slice-aggregate-decode-trials-2 c = search needs
 
-decode-copy-requires : tie.Need-decode-copy-requires
-decode-copy-requires c κs =
+decode-trials-requires : tie.Need-decode-trials-requires
+decode-trials-requires c κs =
     let first = c .before .before .before .before .before .before in
     let s = start first in (
       record {
         plan-done = accepted s;
         left-finds = left-finds first;
         right-finds = λ some. absurd (some refl);
-        shared = λ _. c .before .before .before .before .same .ensures .0 (c .before .before .before .if2 .taken);
+        shared = λ _. c .before .before .before .before .same .ensures .0 (c .before .before .before .if3 .taken);
       },
       s .pre .1 .1,
     )
@@ -105,14 +107,14 @@ slice-aggregate-prepare-finder-2 c = search needs
 prepare-finder-requires-2 : tie.Need-prepare-finder-requires-2
 prepare-finder-requires-2 c κs = search needs
 
-slice-aggregate-decode-copy-3 : tie.Need-slice-aggregate-decode-copy-3
-slice-aggregate-decode-copy-3 c = search needs
+slice-aggregate-decode-trials-3 : tie.Need-slice-aggregate-decode-trials-3
+slice-aggregate-decode-trials-3 c = search needs
 
-slice-aggregate-decode-copy-4 : tie.Need-slice-aggregate-decode-copy-4
-slice-aggregate-decode-copy-4 c = search needs
+slice-aggregate-decode-trials-4 : tie.Need-slice-aggregate-decode-trials-4
+slice-aggregate-decode-trials-4 c = search needs
 
-decode-copy-requires-2 : tie.Need-decode-copy-requires-2
-decode-copy-requires-2 c κs =
+decode-trials-requires-2 : tie.Need-decode-trials-requires-2
+decode-trials-requires-2 c κs =
     let first = c .before .before .before .before .before .before .before .before .before .before .before in
     let second = c .before .before .before .before in
     let s = start first in
@@ -143,15 +145,15 @@ decode-checked-spec =
     slice-aggregate-prepare-finder
     prepare-finder-requires
     same-requires
-    slice-aggregate-decode-copy
-    slice-aggregate-decode-copy-2
-    decode-copy-requires
+    slice-aggregate-decode-trials
+    slice-aggregate-decode-trials-2
+    decode-trials-requires
     same-length-2
     returns-2
     slice-aggregate-prepare-finder-2
     prepare-finder-requires-2
-    slice-aggregate-decode-copy-3
-    slice-aggregate-decode-copy-4
-    decode-copy-requires-2
+    slice-aggregate-decode-trials-3
+    slice-aggregate-decode-trials-4
+    decode-trials-requires-2
     same-length-3
     returns-3)

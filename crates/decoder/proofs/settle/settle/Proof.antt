@@ -102,9 +102,11 @@ same-length-3 c = search needs
 returns : tie.Need-returns Inv-loop μ-loop
 returns c =
     let noted = c .before .before .before .before .before in
-    let two = firsts-noted noted in
-    settle-first (begun (start two)) (first-pass two) (second-pass two) (c .before .if2 .taken) (c .before .before .before .if1 .taken)
-    (told-one noted) (c .ended-at .ensures)
+    let two = firsts-noted noted in (
+      two .sweep-firsts .ensures .1 .0,
+      settle-first (begun (start two)) (first-pass two) (second-pass two) (c .before .if2 .taken)
+          (c .before .before .before .if1 .taken) (told-one noted) (c .ended-at .ensures),
+    )
 
 ended-at-requires-2 : tie.Need-ended-at-requires-2 Inv-loop μ-loop
 ended-at-requires-2 c κs = search needs
@@ -122,9 +124,11 @@ returns-2 : tie.Need-returns-2 Inv-loop μ-loop
 returns-2 c =
     let noted = c .before .before .before .before .before in
     let two = firsts-noted noted in
-    let told = swept-one (begun (start two)) (first-pass two) (c .before .if2 .left) (told-one noted) in
-    settle-ended (begun (start two)) told (second-pass two) (c .before .before .before .if1 .taken) (omega arith) (omega arith) 1
-    (second-pass two .leaves) (c .ended-at2 .ensures)
+    let told = swept-one (begun (start two)) (first-pass two) (c .before .if2 .left) (told-one noted) in (
+      two .sweep-firsts .ensures .1 .0,
+      settle-ended (begun (start two)) told (second-pass two) (c .before .before .before .if1 .taken)
+          (omega arith) (omega arith) 1 (second-pass two .leaves) (c .ended-at2 .ensures),
+    )
 
 note-requires-2 : tie.Need-note-requires-2 Inv-loop μ-loop
 note-requires-2 c κs =
@@ -158,7 +162,8 @@ same-length-9 : tie.Need-same-length-9 Inv-loop μ-loop
 same-length-9 c = search needs
 
 returns-3 : tie.Need-returns-3 Inv-loop μ-loop
-returns-3 c = settle-never (begun (begin (c .before))) (swept-both (c .before)) (c .if3 .taken)
+returns-3 c =
+    (two (c .before) .sweep-firsts .ensures .1 .0, settle-never (begun (begin (c .before))) (swept-both (c .before)) (c .if3 .taken))
 
 all-codewords-requires : tie.Need-all-codewords-requires Inv-loop μ-loop
 all-codewords-requires c κs =
@@ -182,9 +187,11 @@ returns-4 c =
     let stay = c .before .before in
     let noted = c .before .before .before .before .before .before in
     let b = begun (begin noted) in
-    let third = pass b (stay .all-codewords .ensures (c .before .if4 .taken)) turn-two (swept-both noted .block-is) in
-    settle-ended b (swept-both noted) third refl (omega arith) (omega (arith, c .before .before .before .before .before .if3 .left)) 1
-    (third .leaves) (c .ended-at3 .ensures)
+    let third = pass b (stay .all-codewords .ensures (c .before .if4 .taken)) turn-two (swept-both noted .block-is) in (
+      two noted .sweep-firsts .ensures .1 .0,
+      settle-ended b (swept-both noted) third refl (omega arith)
+          (omega (arith, c .before .before .before .before .before .if3 .left)) 1 (third .leaves) (c .ended-at3 .ensures),
+    )
 
 slice-aggregate-note-places : tie.Need-slice-aggregate-note-places Inv-loop μ-loop
 slice-aggregate-note-places c = search needs
@@ -275,9 +282,12 @@ returns-5 c =
     let both = c .before .before .before .before .before .before .before .before .before .before .before in
     let b = begun (origin (head both)) in
     let so-far = swept (head both) in
-    let two-more : head both .loop .count + 1 + 1 ≡ head both .loop .count + 2 = omega arith in
-    settle-ended b so-far (left-pass both _ b so-far) (c .before .if5 .taken) (omega (arith, head both .loop .inv .0)) (omega (arith, within both)) 2
-    (rw two-more at (right-pass both _ b so-far .leaves)) (c .ended-at4 .ensures)
+    let two-more : head both .loop .count + 1 + 1 ≡ head both .loop .count + 2 = omega arith in (
+      both .sweep-both .ensures .1 .0,
+      settle-ended b so-far (left-pass both _ b so-far) (c .before .if5 .taken)
+          (omega (arith, head both .loop .inv .0)) (omega (arith, within both)) 2
+          (rw two-more at (right-pass both _ b so-far .leaves)) (c .ended-at4 .ensures),
+    )
 
 note-requires-3 : tie.Need-note-requires-3 Inv-loop μ-loop
 note-requires-3 c κs =
@@ -319,9 +329,11 @@ returns-6 c =
     let noted = c .before .before .before in
     let turn = head (made noted) in
     let b = begun (origin turn) in
-    let last = right-pass (made noted) _ b (swept turn) in
-    settle-ended b (swept-next noted _ b (swept turn)) last (c .before .if6 .taken) (omega arith) (omega (arith, within (made noted))) 1
-    (last .leaves) (c .ended-at5 .ensures)
+    let last = right-pass (made noted) _ b (swept turn) in (
+      made noted .sweep-both .ensures .1 .0,
+      settle-ended b (swept-next noted _ b (swept turn)) last (c .before .if6 .taken) (omega arith)
+          (omega (arith, within (made noted))) 1 (last .leaves) (c .ended-at5 .ensures),
+    )
 
 note-requires-4 : tie.Need-note-requires-4 Inv-loop μ-loop
 note-requires-4 c κs =
@@ -367,7 +379,7 @@ same-length-21 : tie.Need-same-length-21 Inv-loop μ-loop
 same-length-21 c = search needs
 
 returns-7 : tie.Need-returns-7 Inv-loop μ-loop
-returns-7 c = settle-never (begun (origin (c .before))) (swept (c .before)) (c .loop-test .left)
+returns-7 c = (ready (c .before), settle-never (begun (origin (c .before))) (swept (c .before)) (c .loop-test .left))
 
 pub settle-spec : {M : Type 1} → statement M
 settle-spec =

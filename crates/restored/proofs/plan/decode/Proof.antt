@@ -23,6 +23,9 @@ slice-aggregate-decode-2 c = search needs
 slice-aggregate-decode-3 : tie.Need-slice-aggregate-decode-3
 slice-aggregate-decode-3 c = search needs
 
+slice-aggregate-decode-4 : tie.Need-slice-aggregate-decode-4
+slice-aggregate-decode-4 c = search needs
+
 decode-requires : tie.Need-decode-requires
 decode-requires c κs = search needs
 
@@ -32,7 +35,7 @@ same-length c = search needs
 returns : tie.Need-returns
 returns c =
     let call = c .before .before in
-    let wired = call .before .before .before .before .before in
+    let wired = call .before .before .before .before .before .before in
     let plan-is : planOf (wired .before .sheet .result) (wired .before .sheet .result) 8 8 (wired .square-wiring .result) ≡ squarePlan =
     ap₂ (λ (s w : List ℕ). planOf s s 8 8 w) (wired .before .sheet .ensures) (wired .square-wiring .ensures) in
     (rw plan-is at (call .decode .ensures .0), rw plan-is at (call .decode .ensures .1 .1))
@@ -46,6 +49,7 @@ decode-spec =
     slice-aggregate-decode
     slice-aggregate-decode-2
     slice-aggregate-decode-3
+    slice-aggregate-decode-4
     decode-requires
     same-length
     returns)
