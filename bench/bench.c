@@ -13,8 +13,7 @@
 #include <time.h>
 
 #ifdef EXPERT
-/* The expert's decoder, in which a tie keeps its bits as it does here. It also takes lost spans, of which it is given none, and
-   counts visits, which are not compared. */
+/* The expert's decoder, in which a tie keeps its bits as it does here. It also counts visits, which are not compared. */
 typedef struct {
     uint32_t number, place;
     uint64_t value;
@@ -169,6 +168,9 @@ static int by_value(const void *a, const void *b)
     return x < y ? -1 : x > y;
 }
 
+/* The received block, and the spans lost of it: none but in the rows that say so. */
+static uint8_t lost[LEMBIKAT_SPAN_BYTES];
+static size_t lost_bytes;
 static uint8_t received[MAX_EDGES / 8], mine[MAX_EDGES / 8], theirs[MAX_EDGES / 8];
 static uint8_t message[64];
 static size_t message_bytes;
@@ -196,7 +198,7 @@ static size_t block_bytes(const plan *p)
 
 static uint64_t library_decodes(const plan *p)
 {
-    lembikat_decode_answer a = lembikat_decode(PLAN, received, block_bytes(p), mine, block_bytes(p), LIMIT);
+    lembikat_decode_answer a = lembikat_decode(PLAN, received, block_bytes(p), lost, lost_bytes, mine, block_bytes(p), LIMIT);
     memcpy(my_sums, a.sums, sizeof my_sums);
     return a.number * 65536u + a.value;
 }
@@ -204,14 +206,15 @@ static uint64_t library_decodes(const plan *p)
 static uint64_t plain_decodes(const plan *p)
 {
     size_t sweeps = 0;
-    int number = plain_decode(PLAN, received, block_bytes(p), theirs, block_bytes(p), LIMIT, &sweeps, their_sums);
+    int number =
+        plain_decode(PLAN, received, block_bytes(p), lost, lost_bytes, theirs, block_bytes(p), LIMIT, &sweeps, their_sums);
     return (uint64_t)number * 65536u + sweeps;
 }
 
 static uint64_t expert_decodes(const plan *p)
 {
 #ifdef EXPERT
-    expert_answer a = expert_decode8(PLAN, received, block_bytes(p), received, 0, theirs, block_bytes(p), LIMIT);
+    expert_answer a = expert_decode8(PLAN, received, block_bytes(p), lost, lost_bytes, theirs, block_bytes(p), LIMIT);
     memcpy(their_sums, a.sums, sizeof their_sums);
     return a.number * 65536u + a.value;
 #else
@@ -450,6 +453,31 @@ static int damaged_row(const plan *p, unsigned flips)
     return row(p, input, library_decodes, plain_decodes);
 }
 
+/* The decoder with a span of 200 bits lost, which hold noise, and so many bits flipped: none, where the trial with zeros
+   changes no bit outside the span and the other one cannot be kept, and some, where it may be. */
+static int lost_rows(const plan *p, unsigned flips)
+{
+    const unsigned offset = 1000, length = 200, flipped[2] = {0, flips};
+    char input[24];
+    int failed = 0;
+    put_pair(lost, offset);
+    put_pair(lost + 2, length);
+    lost_bytes = sizeof lost;
+    for (int f = 0; f < 2; f++) {
+        damage(p, flipped[f]);
+        for (unsigned bit = offset; bit < offset + length; bit++)
+            if (draw(2))
+                flip(received, bit);
+        if (flipped[f] == 0)
+            snprintf(input, sizeof input, "%u lost", length);
+        else
+            snprintf(input, sizeof input, "%u lost + %u", length, flipped[f]);
+        failed |= row(p, input, library_decodes, plain_decodes);
+    }
+    lost_bytes = 0;
+    return failed;
+}
+
 /* The calls whose work is mostly the check of the plan: the locator on the codeword sent, the report of so many flips, the
    spread. */
 static int other_rows(const plan *p, unsigned flips)
@@ -520,9 +548,11 @@ int main(int count, char **words)
     failed |= decoder_rows(&p, 3, 20);
     set_squares(&p, "d 16 k 5, n 2048", &k_5, 2048);
     failed |= decoder_rows(&p, 3, 640);
+    failed |= lost_rows(&p, 20);
     set_squares(&p, "d 16 k 11, n 2048", &k_11, 2048);
     failed |= decoder_rows(&p, 3, 160);
     failed |= damaged_row(&p, 2000);
+    failed |= lost_rows(&p, 20);
     failed |= other_rows(&p, 160);
     set_squares(&p, "d 16 k 11, n 32", &k_11, 32);
     failed |= encoder_row(&p);

@@ -93,6 +93,63 @@ static int check_block(const plan *p, const uint8_t *block, size_t bytes)
     return 0;
 }
 
+static unsigned bit_of(const uint8_t *block, size_t i)
+{
+    return (block[i / 8] >> (7 - i % 8)) & 1u;
+}
+
+static size_t span_offset(const uint8_t *lost, size_t i)
+{
+    return lost[4 * i] * 256u + lost[4 * i + 1];
+}
+
+static size_t span_length(const uint8_t *lost, size_t i)
+{
+    return lost[4 * i + 2] * 256u + lost[4 * i + 3];
+}
+
+static int check_spans(const plan *p, const uint8_t *lost, size_t bytes)
+{
+    size_t end = 0;
+    if (bytes % 4)
+        return 24;
+    for (size_t i = 0; i < bytes / 4; i++) {
+        if (span_length(lost, i) == 0 || span_offset(lost, i) + span_length(lost, i) > p->edges)
+            return 25;
+        if (span_offset(lost, i) < end)
+            return 26;
+        end = span_offset(lost, i) + span_length(lost, i);
+    }
+    return 0;
+}
+
+/* Makes every lost bit of a block 0 or 1. */
+static void fill_spans(const uint8_t *lost, size_t bytes, int ones, uint8_t *block)
+{
+    for (size_t i = 0; i < bytes / 4; i++)
+        for (size_t bit = span_offset(lost, i); bit < span_offset(lost, i) + span_length(lost, i); bit++) {
+            uint8_t mask = (uint8_t)(128u >> (bit % 8));
+            if (ones)
+                block[bit / 8] |= mask;
+            else
+                block[bit / 8] &= (uint8_t)~mask;
+        }
+}
+
+/* In how many bits outside the spans two blocks differ. */
+static size_t flips_outside(const plan *p, const uint8_t *lost, size_t bytes, const uint8_t *a, const uint8_t *b)
+{
+    size_t flips = 0, bit = 0;
+    for (size_t i = 0; i <= bytes / 4; i++) {
+        size_t to = i < bytes / 4 ? span_offset(lost, i) : p->edges;
+        for (; bit < to; bit++)
+            flips += bit_of(a, bit) != bit_of(b, bit);
+        if (i < bytes / 4)
+            bit += span_length(lost, i);
+    }
+    return flips;
+}
+
 static size_t place_of(int right, const uint8_t *wiring, size_t i)
 {
     return right ? edge_of(wiring, i) : i;
@@ -195,9 +252,27 @@ int plain_nearest_word(const uint8_t *sheet, size_t sheet_bytes, uint64_t word, 
     return 0;
 }
 
+/* Sweeps a block until it settles. Answers the sweeps, or one more than the limit where it does not. */
+static size_t settle(const plan *p, const uint8_t *wiring, size_t limit, uint8_t *block, uint16_t sums[64])
+{
+    memset(sums, 0, 64 * sizeof *sums);
+    for (size_t count = 0;; count++) {
+        /* both sides, also the one just swept, which may hold ties */
+        if (is_codeword(p, wiring, block))
+            return count;
+        if (count == limit)
+            return limit + 1;
+        int right = count % 2;
+        unsigned changed = sweep(&p->codes[right], right, p->n[right], wiring, block);
+        if (count < 64)
+            sums[count] = (uint16_t)changed;
+    }
+}
+
 int plain_decode(const uint8_t *left_sheet, size_t left_sheet_bytes, const uint8_t *right_sheet, size_t right_sheet_bytes,
                  size_t nl, size_t nr, const uint8_t *wiring, size_t wiring_bytes, const uint8_t *received,
-                 size_t received_bytes, uint8_t *output, size_t output_bytes, size_t limit, size_t *sweeps, uint16_t sums[64])
+                 size_t received_bytes, const uint8_t *lost, size_t lost_bytes, uint8_t *output, size_t output_bytes,
+                 size_t limit, size_t *sweeps, uint16_t sums[64])
 {
     plan p;
     memset(sums, 0, 64 * sizeof *sums);
@@ -205,6 +280,8 @@ int plain_decode(const uint8_t *left_sheet, size_t left_sheet_bytes, const uint8
     if (fault)
         return fault;
     fault = check_block(&p, received, received_bytes);
+    if (!fault)
+        fault = check_spans(&p, lost, lost_bytes);
     if (fault)
         return fault;
     if (output_bytes < received_bytes)
@@ -212,19 +289,24 @@ int plain_decode(const uint8_t *left_sheet, size_t left_sheet_bytes, const uint8
     if (limit > 4096)
         return 14;
     memcpy(output, received, received_bytes);
-    for (size_t count = 0;; count++) {
-        /* both sides, also the one just swept, which may hold ties */
-        if (is_codeword(&p, wiring, output)) {
-            *sweeps = count;
-            return 0;
+    fill_spans(lost, lost_bytes, 0, output);
+    *sweeps = settle(&p, wiring, limit, output, sums);
+    if (lost_bytes) {
+        uint8_t other[4096];
+        uint16_t other_sums[64];
+        memcpy(other, received, received_bytes);
+        fill_spans(lost, lost_bytes, 1, other);
+        size_t other_sweeps = settle(&p, wiring, limit, other, other_sums);
+        if (other_sweeps <= limit && (*sweeps > limit || flips_outside(&p, lost, lost_bytes, received, other) <
+                                                             flips_outside(&p, lost, lost_bytes, received, output))) {
+            *sweeps = other_sweeps;
+            memcpy(output, other, received_bytes);
+            memcpy(sums, other_sums, sizeof other_sums);
         }
-        if (count == limit)
-            break;
-        int right = count % 2;
-        unsigned changed = sweep(&p.codes[right], right, p.n[right], wiring, output);
-        if (count < 64)
-            sums[count] = (uint16_t)changed;
     }
+    if (*sweeps <= limit)
+        return 0;
+    *sweeps = 0;
     memcpy(output, received, received_bytes);
     return 15;
 }
@@ -251,11 +333,6 @@ int plain_locate(const uint8_t *left_sheet, size_t left_sheet_bytes, const uint8
                 return 0;
             }
     return 0;
-}
-
-static unsigned bit_of(const uint8_t *block, size_t i)
-{
-    return (block[i / 8] >> (7 - i % 8)) & 1u;
 }
 
 int plain_report(const uint8_t *left_sheet, size_t left_sheet_bytes, const uint8_t *right_sheet, size_t right_sheet_bytes,

@@ -18,11 +18,12 @@ int folded_build_table(const uint8_t *sheet, size_t sheet_bytes, uint8_t *output
 int plain_look_up(const uint8_t *sheet, size_t sheet_bytes, uint64_t word, const uint8_t *table, size_t table_bytes,
                   uint64_t *nearest_word, uint64_t *changed);
 
-/* The straightforward port of the paper: nearest word by search over the codewords, both sides tested before each sweep. The
- * sums are what the visits of each of the first 64 sweeps changed, added up. */
+/* The straightforward port of the paper: nearest word by search over the codewords, both sides tested before each sweep, with
+ * lost spans both trials made to their end. The sums are what the visits of each of the first 64 sweeps changed, added up. */
 int plain_decode(const uint8_t *left_sheet, size_t left_sheet_bytes, const uint8_t *right_sheet, size_t right_sheet_bytes,
                  size_t nl, size_t nr, const uint8_t *wiring, size_t wiring_bytes, const uint8_t *received,
-                 size_t received_bytes, uint8_t *output, size_t output_bytes, size_t limit, size_t *sweeps, uint16_t sums[64]);
+                 size_t received_bytes, const uint8_t *lost, size_t lost_bytes, uint8_t *output, size_t output_bytes,
+                 size_t limit, size_t *sweeps, uint16_t sums[64]);
 
 /* The first vertex that reads no inner codeword: its side (1 left, 2 right) and its number, both 0 where there is none. */
 int plain_locate(const uint8_t *left_sheet, size_t left_sheet_bytes, const uint8_t *right_sheet, size_t right_sheet_bytes,

@@ -1,8 +1,8 @@
 /* caption_link: carries a line of caption text over a simulated link, block by block.
  *
- * It shows the calls in the order in which a host needs them: learn what a plan carries and covers, encode, decode, report,
- * show how hard the decoder worked, read; then what a refusal looks like. Nothing is kept between calls, so there is nothing to
- * open or to close.
+ * It shows the calls in the order in which a host needs them: learn what a plan carries and covers, encode, decode, of one
+ * block with a lost span, report, show how hard the decoder worked, read; then what a refusal looks like. Nothing is kept
+ * between calls, so there is nothing to open or to close.
  */
 #include "lembikat.h"
 
@@ -75,6 +75,9 @@ static const char *in_words(uint32_t number)
         [LEMBIKAT_MESSAGE_LENGTH_WRONG] = "the message's length does not fit the plan",
         [LEMBIKAT_MESSAGE_STRAY_BIT] = "a bit after the message's last is set",
         [LEMBIKAT_NO_CODEWORD] = "the block is no codeword",
+        [LEMBIKAT_SPANS_LENGTH_WRONG] = "the list of lost spans does not have four bytes a span",
+        [LEMBIKAT_SPAN_OUT_OF_BLOCK] = "a lost span has no bits, or some after the block's last",
+        [LEMBIKAT_SPAN_OUT_OF_ORDER] = "a lost span begins before the end of the one before it",
     };
     return number < sizeof words / sizeof words[0] ? words[number] : "unknown";
 }
@@ -158,6 +161,34 @@ static void send_over_link(const uint8_t *sent, uint8_t *received, size_t flips)
     }
 }
 
+/* In one block the radio loses lock on one carrier, and knows it: what it has of this carrier's bits is noise, and the decoder
+ * is told so. Such a block comes back where twice its flipped bits and its lost bits together are no more than twice the flips
+ * covered. So with a carrier lost it may have this many flips fewer. */
+#define LOST_IN_BLOCK 5
+#define LOST_CARRIER 9
+#define LOST_INSTEAD_OF_FLIPS (SLOTS / 2)
+
+static const uint8_t lost_carrier[] = {LEMBIKAT_SPAN(LOST_CARRIER * SLOTS, SLOTS)};
+
+static void lose_carrier(uint8_t *received)
+{
+    for (size_t slot = 0; slot < SLOTS; slot++)
+        if (next_noise() >> 16 & 1)
+            flip_bit(received, LOST_CARRIER * SLOTS + slot);
+}
+
+/* The runs of a list, as the report gives them and as lost spans are given. */
+static void show_runs(const uint8_t *list, uint64_t runs)
+{
+    for (uint64_t r = 0; r < runs; r++) {
+        unsigned offset = list[4 * r] * 256u + list[4 * r + 1], length = list[4 * r + 2] * 256u + list[4 * r + 3];
+        if (length == 1)
+            printf(" %u", offset);
+        else
+            printf(" %u-%u", offset, offset + length - 1);
+    }
+}
+
 int main(void)
 {
     static const char text[] = "Good evening. The ferry leaves at nine.";
@@ -181,7 +212,8 @@ int main(void)
     printf("plan: %d carriers (left) of %d bits each, %d time slots (right) of %d bits each, spread %llu\n", CARRIERS, SLOTS,
            SLOTS, CARRIERS, (unsigned long long)spread);
     printf("a block has %d bits and carries %zu of the text\n", EDGES, bits);
-    printf("up to %zu flipped bits in a block are mended, within %llu sweeps\n", flips, (unsigned long long)sweeps);
+    printf("up to %zu flipped bits in a block are mended, within %llu sweeps; a lost bit counts as half a flipped one\n", flips,
+           (unsigned long long)sweeps);
 
     /* The text as one string of bits, cut into messages. The last message is filled up with zeros. */
     size_t text_bits = 8 * strlen(text), blocks = (text_bits + bits - 1) / bits;
@@ -193,22 +225,29 @@ int main(void)
                 flip_bit(message, i);
         must("encode", lembikat_plan_encode(&plan, message, bytes, sent, sizeof sent));
 
-        send_over_link(sent, received, flips);
+        size_t lost_bytes = 0; /* no bit is lost as a rule: the list is empty */
+        if (b + 1 == LOST_IN_BLOCK && flips >= LOST_INSTEAD_OF_FLIPS) {
+            lost_bytes = sizeof lost_carrier;
+            send_over_link(sent, received, flips - LOST_INSTEAD_OF_FLIPS);
+            lose_carrier(received);
+        } else {
+            send_over_link(sent, received, flips);
+        }
 
-        /* On the far side. No more flips than the margin covers: the sweeps that it names are enough. */
+        /* On the far side. No more than the margin covers: the sweeps that it names are enough. */
         lembikat_decode_answer decoded =
-            lembikat_plan_decode(&plan, received, sizeof received, settled, sizeof settled, sweeps);
+            lembikat_plan_decode(&plan, received, sizeof received, lost_carrier, lost_bytes, settled, sizeof settled, sweeps);
         uint64_t taken = must("decode", (lembikat_answer){decoded.number, decoded.place, decoded.value});
         uint64_t runs =
             must("report", lembikat_plan_report(&plan, received, sizeof received, settled, sizeof settled, list, sizeof list));
-        printf("block %zu: settled after %llu sweep%s, mended bits", b + 1, (unsigned long long)taken, taken == 1 ? "" : "s");
-        for (uint64_t r = 0; r < runs; r++) {
-            unsigned offset = list[4 * r] * 256u + list[4 * r + 1], length = list[4 * r + 2] * 256u + list[4 * r + 3];
-            if (length == 1)
-                printf(" %u", offset);
-            else
-                printf(" %u-%u", offset, offset + length - 1);
+        printf("block %zu: ", b + 1);
+        if (lost_bytes != 0) {
+            printf("lost lock on carrier %d, bits", LOST_CARRIER);
+            show_runs(lost_carrier, lost_bytes / LEMBIKAT_SPAN_BYTES);
+            printf("; ");
         }
+        printf("settled after %llu sweep%s, mended bits", (unsigned long long)taken, taken == 1 ? "" : "s");
+        show_runs(list, runs);
         printf("\n");
         show_meter(&decoded, sweeps, flips);
         must("read", lembikat_plan_read(&plan, settled, sizeof settled, message, sizeof message));
@@ -226,7 +265,8 @@ int main(void)
     for (size_t i = 0; i < sizeof received; i++)
         received[i] = (uint8_t)(next_noise() >> 16);
     memset(settled, 0, sizeof settled);
-    lembikat_decode_answer answer = lembikat_plan_decode(&plan, received, sizeof received, settled, sizeof settled, sweeps);
+    lembikat_decode_answer answer =
+        lembikat_plan_decode(&plan, received, sizeof received, NULL, 0, settled, sizeof settled, sweeps);
     printf("noise: refused %u: %s\n", answer.number, in_words(answer.number));
     if (answer.number != LEMBIKAT_UNSETTLED || memcmp(settled, received, sizeof settled) != 0)
         return 1;
@@ -248,7 +288,7 @@ int main(void)
     /* So is a damaged wiring, with the place of the fault, and nothing is written. */
     memcpy(wiring + 2 * 37, wiring + 2 * 5, 2);
     memset(settled, 0xee, sizeof settled);
-    answer = lembikat_plan_decode(&plan, sent, sizeof sent, settled, sizeof settled, sweeps);
+    answer = lembikat_plan_decode(&plan, sent, sizeof sent, NULL, 0, settled, sizeof settled, sweeps);
     printf("damaged wiring: refused %u at %u: %s\n", answer.number, answer.place, in_words(answer.number));
     for (size_t i = 0; i < sizeof settled; i++)
         if (settled[i] != 0xee)

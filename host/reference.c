@@ -1,7 +1,7 @@
 /* The services as documents 01 and 02 state them, by the plainest means: codewords are listed, the nearest word and the test
  * try all of them, the patterns with the fewest ones are counted, the classes of a table are found by going through all words,
- * a block is held with one byte a bit, what a sweep changed is counted on the blocks before and after it, the spread fills a
- * table of all pairs of vertices. */
+ * a block is held with one byte a bit and so are the lost bits, what a sweep changed is counted on the blocks before and after
+ * it, the spread fills a table of all pairs of vertices. */
 #include "reference.h"
 
 #include <stdio.h>
@@ -147,6 +147,26 @@ static lembikat_answer check_block(const graph *g, const uint8_t *block, size_t 
     return done(0, 0);
 }
 
+/* The lost spans: refusals 24 to 26. Tells of each bit whether it is lost. */
+static lembikat_answer check_spans(const graph *g, const uint8_t *list, size_t bytes, uint8_t *is_lost)
+{
+    if (bytes % 4 != 0)
+        return refused(24, 0);
+    memset(is_lost, 0, g->edges);
+    size_t previous_end = 0;
+    for (size_t i = 0; i < bytes / 4; i++) {
+        size_t offset = pair_at(list, 2 * i), length = pair_at(list, 2 * i + 1);
+        if (length == 0 || offset + length > g->edges)
+            return refused(25, 0);
+        if (offset < previous_end)
+            return refused(26, 0);
+        previous_end = offset + length;
+        for (size_t j = offset; j < previous_end; j++)
+            is_lost[j] = 1;
+    }
+    return done(0, 0);
+}
+
 static void unpack(const uint8_t *bytes, size_t bits, uint8_t *bit)
 {
     for (size_t i = 0; i < bits; i++)
@@ -280,6 +300,36 @@ static lembikat_answer settle(const graph *g, size_t limit, uint8_t *bit, uint16
         if (count < SWEEPS_TOLD)
             sums[count] = (uint16_t)differences(before, bit, g->edges);
     }
+}
+
+/* The received block decoded with every lost bit as the value given. */
+typedef struct {
+    lembikat_answer answer;
+    uint16_t sums[SWEEPS_TOLD];
+    uint8_t bit[MAX_EDGES]; /* after the last sweep */
+    unsigned changed;       /* bits outside the spans, against the received block */
+} trial;
+
+static void try_with(const graph *g, uint8_t value, const uint8_t *received, const uint8_t *is_lost, size_t limit, trial *t)
+{
+    memset(t->sums, 0, sizeof t->sums);
+    for (size_t i = 0; i < g->edges; i++)
+        t->bit[i] = is_lost[i] ? value : received[i];
+    t->answer = settle(g, limit, t->bit, t->sums);
+    t->changed = 0;
+    for (size_t i = 0; i < g->edges; i++)
+        t->changed += !is_lost[i] && t->bit[i] != received[i];
+}
+
+/* The trial whose answer and sums are told: the settled one that changes fewer bits outside the spans, that with zeros if they
+ * change equally many, and if neither settles. */
+static const trial *kept(const trial *by_zeros, const trial *by_ones)
+{
+    if (by_ones->answer.number != 0)
+        return by_zeros;
+    if (by_zeros->answer.number != 0)
+        return by_ones;
+    return by_ones->changed < by_zeros->changed ? by_ones : by_zeros;
 }
 
 /* The largest, over left u, of the sum over all left w of |nr G(u, w) - dl dl|. G(u, w) counts, at every right vertex, the
@@ -511,22 +561,34 @@ lembikat_answer reference_locate(const lembikat_plan *plan, const uint8_t *block
 }
 
 lembikat_decode_answer reference_decode(const lembikat_plan *plan, const uint8_t *received, size_t received_bytes,
-                                        uint8_t *output, size_t output_bytes, size_t limit)
+                                        const uint8_t *lost, size_t lost_bytes, uint8_t *output, size_t output_bytes,
+                                        size_t limit)
 {
+    static uint8_t is_lost[MAX_EDGES];
+    static trial by_zeros, by_ones;
     graph *g = &the_graph;
     lembikat_decode_answer told = {.sums = {0}};
     lembikat_answer answer = check_plan(plan, g);
     if (answer.number == 0)
         answer = check_block(g, received, received_bytes);
+    if (answer.number == 0)
+        answer = check_spans(g, lost, lost_bytes, is_lost);
     if (answer.number == 0 && output_bytes < received_bytes)
         answer = refused(13, 0);
     if (answer.number == 0 && limit > 4096)
         answer = refused(14, 0);
     if (answer.number == 0) {
+        const trial *told_of = &by_zeros;
         unpack(received, g->edges, the_bits);
-        answer = settle(g, limit, the_bits, told.sums);
+        try_with(g, 0, the_bits, is_lost, limit, &by_zeros);
+        if (lost_bytes != 0) { /* else the trials are one and the same */
+            try_with(g, 1, the_bits, is_lost, limit, &by_ones);
+            told_of = kept(&by_zeros, &by_ones);
+        }
+        answer = told_of->answer;
+        memcpy(told.sums, told_of->sums, sizeof told.sums);
         if (answer.number == 0)
-            pack(the_bits, g->edges, output);
+            pack(told_of->bit, g->edges, output);
         else
             memcpy(output, received, received_bytes);
     }

@@ -17,7 +17,8 @@ lembikat_word_answer reference_look_up(const uint8_t *sheet, size_t sheet_bytes,
 lembikat_answer reference_locate(const lembikat_plan *plan, const uint8_t *block, size_t block_bytes);
 
 lembikat_decode_answer reference_decode(const lembikat_plan *plan, const uint8_t *received, size_t received_bytes,
-                                        uint8_t *output, size_t output_bytes, size_t limit);
+                                        const uint8_t *lost, size_t lost_bytes, uint8_t *output, size_t output_bytes,
+                                        size_t limit);
 
 lembikat_answer reference_report(const lembikat_plan *plan, const uint8_t *received, size_t received_bytes,
                                  const uint8_t *settled, size_t settled_bytes, uint8_t *list, size_t list_bytes);

@@ -1,5 +1,5 @@
 /* test_stack: how much stack each call takes, on the largest plan or sheet that it accepts, the decoder also on plans with
- * unequal sides, the building of a table also on the sheet with the most rows.
+ * unequal sides and with lost spans, the building of a table also on the sheet with the most rows.
  *
  * Each call runs in a thread of its own, on a stack that was painted beforehand. What is no longer painted afterwards, down to
  * the lowest byte that was touched, less what a thread that does nothing touches, is the call's. Prints one line a call,
@@ -18,10 +18,11 @@
 static void nearest_word(void), build_largest_table(void), build_smallest_table(void), look_up(void);
 static void locate(void), report(void), spread(void), margin(void), encode(void), read_block(void);
 static void decode(void), decode_two_codes(void), decode_house_right(void), decode_house_left(void);
+static void decode_lost(void), decode_lost_two_codes(void);
 
 /* The bytes that each call may take, as the header says, and the number that it must answer here. The decoder's blocks are such
  * that do not settle, so that it runs its sweeps and writes the received block back. */
-#define DECODE_BYTES (96 * 1024)
+#define DECODE_BYTES (100 * 1024)
 #define BUILD_BYTES (34 * 1024)
 
 static const struct {
@@ -39,6 +40,8 @@ static const struct {
     {"lembikat_decode", "two codes of k 11", DECODE_BYTES, LEMBIKAT_UNSETTLED, decode_two_codes},
     {"lembikat_decode", "k 11, house code", DECODE_BYTES, LEMBIKAT_UNSETTLED, decode_house_right},
     {"lembikat_decode", "house code, k 11", DECODE_BYTES, LEMBIKAT_UNSETTLED, decode_house_left},
+    {"lembikat_decode", "largest, lost spans", DECODE_BYTES, LEMBIKAT_UNSETTLED, decode_lost},
+    {"lembikat_decode", "two codes of k 11, lost spans", DECODE_BYTES, LEMBIKAT_UNSETTLED, decode_lost_two_codes},
     {"lembikat_report", "largest", 38 * 1024, LEMBIKAT_DONE, report},
     {"lembikat_spread", "largest", 138 * 1024, LEMBIKAT_DONE, spread},
     {"lembikat_margin", "largest", 142 * 1024, LEMBIKAT_DONE, margin},
@@ -73,6 +76,7 @@ static uint8_t large[2 * LARGE * D], small[2 * SMALL * D], mixed[2 * HALF * D];
 #define HOUSE_LEFT house, sizeof house, sheet, sizeof sheet, LARGE, HALF, mixed, sizeof mixed
 
 static uint8_t zeros[LEMBIKAT_MAX_BLOCK_BYTES], noise[LEMBIKAT_MAX_BLOCK_BYTES], output[LEMBIKAT_MAX_BLOCK_BYTES];
+static const uint8_t lost[] = {LEMBIKAT_SPAN(100, 200), LEMBIKAT_SPAN(5003, 77), LEMBIKAT_SPAN(5080, 1)};
 static uint8_t list[LEMBIKAT_MAX_LIST_BYTES], table[LEMBIKAT_MAX_TABLE_BYTES];
 static uint8_t message[LEMBIKAT_MAX_MESSAGE_BYTES], block[LEMBIKAT_MAX_MESSAGE_BYTES];
 static size_t message_bytes;
@@ -105,22 +109,33 @@ static void locate(void)
 
 static void decode(void)
 {
-    number = lembikat_decode(LARGE_PLAN, noise, sizeof noise, output, sizeof output, SWEEPS).number;
+    number = lembikat_decode(LARGE_PLAN, noise, sizeof noise, NULL, 0, output, sizeof output, SWEEPS).number;
 }
 
 static void decode_two_codes(void)
 {
-    number = lembikat_decode(TWO_CODES, noise, sizeof noise, output, sizeof output, SWEEPS).number;
+    number = lembikat_decode(TWO_CODES, noise, sizeof noise, NULL, 0, output, sizeof output, SWEEPS).number;
 }
 
 static void decode_house_right(void)
 {
-    number = lembikat_decode(HOUSE_RIGHT, noise, sizeof mixed / 16, output, sizeof output, SWEEPS).number;
+    number = lembikat_decode(HOUSE_RIGHT, noise, sizeof mixed / 16, NULL, 0, output, sizeof output, SWEEPS).number;
 }
 
 static void decode_house_left(void)
 {
-    number = lembikat_decode(HOUSE_LEFT, noise, sizeof mixed / 16, output, sizeof output, SWEEPS).number;
+    number = lembikat_decode(HOUSE_LEFT, noise, sizeof mixed / 16, NULL, 0, output, sizeof output, SWEEPS).number;
+}
+
+/* Two trials, neither of which settles. */
+static void decode_lost(void)
+{
+    number = lembikat_decode(LARGE_PLAN, noise, sizeof noise, lost, sizeof lost, output, sizeof output, SWEEPS).number;
+}
+
+static void decode_lost_two_codes(void)
+{
+    number = lembikat_decode(TWO_CODES, noise, sizeof noise, lost, sizeof lost, output, sizeof output, SWEEPS).number;
 }
 
 static void report(void)

@@ -1,9 +1,10 @@
 /* test_vectors STREAM EXPECTED: the library's exports against stored answers and against a second set of services.
  *
  * Part one runs every record of a stream of calls and compares the line that it gives with the expected one. Part two makes
- * calls that chance does not meet, among them every fault of every service alone and with every other one and the tables of all
- * d and k, and then 25,000 calls from a fixed seed, about half of them with faults and more than half of the plans with unequal
- * sides, and compares every answer and every lent byte with reference.c. The last line is `test_vectors: N passed, M failed`;
+ * calls that chance does not meet, among them every fault of every service alone and with every other one, the tables of all d
+ * and k, and every span that may be lost of a small block, and then 25,000 calls from a fixed seed, about half of them with
+ * faults and more than half of the plans with unequal sides, and compares every answer and every lent byte with reference.c.
+ * Codewords with bits lost and flipped within the margin must come back. The last line is `test_vectors: N passed, M failed`;
  * the exit status is 1 where one failed.
  *
  * The sanitizers do not see into the library. So every call is made twice: once by the call that takes the plan's parts, with
@@ -31,7 +32,7 @@ _Static_assert(sizeof(lembikat_decode_answer) == 144, "the decoder's answer has 
 
 #define RANDOM_CALLS 25000
 #define SHOWN_FAILURES 10
-#define LAST_REFUSAL LEMBIKAT_EDGE_COUNTS_DIFFER
+#define LAST_REFUSAL LEMBIKAT_SPAN_OUT_OF_ORDER
 #define LAST_SERVICE 11
 #define PIECE 2 /* the service that the C host does not call */
 
@@ -45,7 +46,7 @@ _Static_assert(sizeof(lembikat_decode_answer) == 144, "the decoder's answer has 
 
 #define MAX_EDGES LEMBIKAT_MAX_EDGES
 #define MAX_BLOCK LEMBIKAT_MAX_BLOCK_BYTES
-#define ROOM 81920 /* above every buffer of the stream (70,000) and of the random calls */
+#define ROOM 139264 /* above every buffer of the stream (70,000) and the longest list of lost spans (131,072) */
 
 /* One call of one service, numbered as in the stream. What a service does not take is empty. */
 enum { LEFT_SHEET, RIGHT_SHEET, WIRING, FIRST, SECOND, LENT, FIELDS };
@@ -58,7 +59,7 @@ typedef struct {
 typedef struct {
     unsigned service;
     /* LEFT_SHEET: also the one sheet of a service that takes no plan; FIRST: the block, the message or the table; SECOND: the
-     * settled block; LENT: the buffer to be written */
+     * decoder's lost spans or the report's settled block; LENT: the buffer to be written */
     bytes field[FIELDS];
     uint64_t nl, nr;
     uint64_t number; /* the word, the limit or the flips */
@@ -79,7 +80,8 @@ typedef struct {
     lembikat_answer (*build_table)(const uint8_t *, size_t, uint8_t *, size_t);
     lembikat_word_answer (*look_up)(const uint8_t *, size_t, uint64_t, const uint8_t *, size_t);
     lembikat_answer (*locate)(const lembikat_plan *, const uint8_t *, size_t);
-    lembikat_decode_answer (*decode)(const lembikat_plan *, const uint8_t *, size_t, uint8_t *, size_t, size_t);
+    lembikat_decode_answer (*decode)(const lembikat_plan *, const uint8_t *, size_t, const uint8_t *, size_t, uint8_t *, size_t,
+                                     size_t);
     lembikat_answer (*report)(const lembikat_plan *, const uint8_t *, size_t, const uint8_t *, size_t, uint8_t *, size_t);
     lembikat_answer (*spread)(const lembikat_plan *);
     lembikat_answer (*margin)(const lembikat_plan *, uint64_t);
@@ -96,9 +98,10 @@ static lembikat_answer locate_by_parts(const lembikat_plan *p, const uint8_t *bl
 }
 
 static lembikat_decode_answer decode_by_parts(const lembikat_plan *p, const uint8_t *received, size_t received_bytes,
-                                              uint8_t *output, size_t output_bytes, size_t limit)
+                                              const uint8_t *lost, size_t lost_bytes, uint8_t *output, size_t output_bytes,
+                                              size_t limit)
 {
-    return lembikat_decode(PARTS, received, received_bytes, output, output_bytes, limit);
+    return lembikat_decode(PARTS, received, received_bytes, lost, lost_bytes, output, output_bytes, limit);
 }
 
 static lembikat_answer report_by_parts(const lembikat_plan *p, const uint8_t *received, size_t received_bytes,
@@ -210,7 +213,7 @@ static void invoke(const services *s, const call *c, uint8_t *const at[FIELDS], 
         o->answer = s->locate(&plan, first, first_size);
         break;
     case 4: {
-        lembikat_decode_answer decoded = s->decode(&plan, first, first_size, lent, lent_size, c->number);
+        lembikat_decode_answer decoded = s->decode(&plan, first, first_size, second, second_size, lent, lent_size, c->number);
         o->answer = (lembikat_answer){decoded.number, decoded.place, decoded.value};
         memcpy(o->sums, decoded.sums, sizeof o->sums);
         break;
@@ -290,7 +293,8 @@ static void share(const call *c, uint8_t *at[FIELDS], int field, int other)
         at[other] = at[field];
 }
 
-/* Every buffer ends where a page begins that may not be touched: a byte read or written behind it stops the program. */
+/* Every buffer ends where a page begins that may not be touched: a byte read or written behind it stops the program. No bytes
+ * are lent as a pointer to that page. */
 static void run_fenced(const services *s, const call *c, outcome *o)
 {
     static uint8_t *fence[FIELDS];
@@ -307,10 +311,9 @@ static void run_fenced(const services *s, const call *c, outcome *o)
     }
     for (int f = 0; f < FIELDS; f++) {
         size_t size = c->field[f].size;
-        if (size == 0)
-            continue;
         at[f] = fence[f] - size;
-        memcpy(at[f], c->field[f].data, size);
+        if (size != 0)
+            memcpy(at[f], c->field[f].data, size);
     }
     /* Buffers that are only read may be one and the same. */
     share(c, at, LEFT_SHEET, RIGHT_SHEET);
@@ -443,7 +446,7 @@ static call next_record(void)
         c.number = next_number(8);
     if (ON(c.service) & READING)
         c.field[FIRST] = next_bytes();
-    if (c.service == 5)
+    if (c.service == 4 || c.service == 5)
         c.field[SECOND] = next_bytes();
     if (ON(c.service) & WRITING)
         c.field[LENT] = next_bytes();
@@ -621,7 +624,8 @@ static struct {
     int lay;
 } plan;
 
-/* What the call under way lends. The faults are put in here, the plan above stays as it was. */
+/* What the call under way lends, `second` the decoder's list too. The faults are put in here, the plan above stays as it was.
+ */
 static uint8_t left_sheet[64], right_sheet[64], wiring[ROOM], first[ROOM], second[ROOM], lent[ROOM];
 
 static void put_sheet(uint8_t *sheet, const side *s)
@@ -845,7 +849,7 @@ static void border_calls(void)
     margin_calls("border at 0", 6);
 }
 
-/* A call of the decoder on the plan and on what stands in the first block. */
+/* A call of the decoder on the plan and on what stands in the first block, of which no bit is lost. */
 static call decoder_call(uint64_t limit)
 {
     call c = plan_call(4);
@@ -1361,8 +1365,9 @@ typedef struct {
 #define ON_ALL (ON_PLANS | ON_SHEETS)
 #define ON_BLOCKS (ON(3) | ON(4) | ON(5) | ON(9))
 
-/* Every fault, in the order in which a call looks for them. Of rows, 5 stands before 6 and after it, of entries 9 and 10: the
- * first row or entry is answered, whichever number it has. */
+/* Every fault, in the order in which a call looks for them. Of rows, 5 stands before 6 and after it, of entries 9 and 10, of
+ * lost spans 25 and 26: the first row, entry or span is answered, whichever number it has. Of one span 25 stands before 26. One
+ * span would look right if the sum of offset and length were cut to 16 bits; others are wrong by one bit. */
 static const fault faults[] = {
     {LEMBIKAT_SHEET_SHORT, 0, ON_ALL, SIZE, LEFT_SHEET, 0, 1},
     {LEMBIKAT_DEGREE_OUT_OF_RANGE, 0, ON_ALL, BYTE, LEFT_SHEET, 0, 17},
@@ -1389,6 +1394,15 @@ static const fault faults[] = {
     {LEMBIKAT_PLAN_TOO_LARGE, 0, ON(8) | ON(9), NOTHING, 0, 0, 0}, /* of the call on many times as many vertices */
     {LEMBIKAT_BLOCK_LENGTH_WRONG, 0, ON_BLOCKS, GROWTH, FIRST, 0, 1},
     {LEMBIKAT_STRAY_BIT, 0, ON_BLOCKS, FLIP, FIRST, SMALL_EDGES, 0},
+    {LEMBIKAT_SPANS_LENGTH_WRONG, 0, ON(4), GROWTH, SECOND, 0, 1},
+    {LEMBIKAT_SPANS_LENGTH_WRONG, 0, ON(4), GROWTH, SECOND, 0, 2},
+    {LEMBIKAT_SPAN_OUT_OF_BLOCK, 0, ON(4), PAIR, SECOND, 2, 0},
+    {LEMBIKAT_SPAN_OUT_OF_BLOCK, 0, ON(4), PAIR, SECOND, 0, SMALL_EDGES - 1},
+    {LEMBIKAT_SPAN_OUT_OF_BLOCK, 0, ON(4), PAIR, SECOND, 6, 0xffff},
+    {LEMBIKAT_SPAN_OUT_OF_ORDER, 0, ON(4), PAIR, SECOND, 4, 2},
+    {LEMBIKAT_SPAN_OUT_OF_BLOCK, 0, ON(4), PAIR, SECOND, 8, 0xffff},
+    {LEMBIKAT_SPAN_OUT_OF_BLOCK, 0, ON(4), PAIR, SECOND, 14, 0},
+    {LEMBIKAT_SPAN_OUT_OF_ORDER, 0, ON(4), PAIR, SECOND, 12, 7},
     {LEMBIKAT_BLOCK_LENGTH_WRONG, 0, ON(5), GROWTH, SECOND, 0, 1},
     {LEMBIKAT_STRAY_BIT, 0, ON(5), FLIP, SECOND, SMALL_EDGES + 3, 0},
     {LEMBIKAT_STRAY_BIT, 0, ON(1) | ON(11), NUMBER, 0, 0, 0x10},
@@ -1441,8 +1455,12 @@ static void put_fault(call *c, const fault *f)
     }
 }
 
-/* A whole call of the service on so many times the small plan. The block, the message and the table are zero, two bits of the
- * settled block differ, and limit, word and flips are 0. */
+/* Four lost spans of the small plan, of which two touch and the last one has the last bit. */
+static const uint8_t small_spans[] = {LEMBIKAT_SPAN(1, 2), LEMBIKAT_SPAN(5, 1), LEMBIKAT_SPAN(6, 2),
+                                      LEMBIKAT_SPAN(SMALL_EDGES - 2, 2)};
+
+/* A whole call of the service on so many times the small plan. The block, the message and the table are zero, the spans above
+ * are lost, two bits of the settled block differ, and limit, word and flips are 0. */
 static call small_call(unsigned service, size_t times)
 {
     set_plan(small_left, small_right, 3 * times);
@@ -1460,6 +1478,10 @@ static call small_call(unsigned service, size_t times)
         c.field[FIRST] = (bytes){first, plan.block};
     if (service == 5)
         c.field[SECOND] = (bytes){second, plan.block};
+    if (service == 4) {
+        memcpy(second, small_spans, sizeof small_spans);
+        c.field[SECOND] = (bytes){second, sizeof small_spans};
+    }
     if (service == 10)
         c.field[LENT] = (bytes){lent, table_bytes()};
     else if (ON(service) & WRITING)
@@ -1499,6 +1521,273 @@ static void all_fault_calls(void)
         fault_calls(service, 1);
     fault_calls(8, 43);
     fault_calls(9, 43);
+}
+
+/* ---- lost spans ---- */
+
+/* The list of lost spans under way is in the second buffer. */
+static size_t lost_size;
+
+static void add_span(size_t offset, size_t length)
+{
+    put_pair(second + lost_size, 0, offset);
+    put_pair(second + lost_size, 1, length);
+    lost_size += LEMBIKAT_SPAN_BYTES;
+}
+
+/* Makes a list of one span. */
+static void lose(size_t offset, size_t length)
+{
+    lost_size = 0;
+    add_span(offset, length);
+}
+
+/* A call of the decoder on the plan, on what stands in the first block and on the list. */
+static call lost_call(uint64_t limit)
+{
+    call c = decoder_call(limit);
+    c.field[SECOND] = (bytes){second, lost_size};
+    return c;
+}
+
+/* Tells of each bit whether the list, which is whole, has it as lost. */
+static const uint8_t *lost_bits(bytes list)
+{
+    static uint8_t is_lost[MAX_EDGES];
+    memset(is_lost, 0, plan.edges);
+    for (size_t i = 0; i < list.size; i += LEMBIKAT_SPAN_BYTES) {
+        const uint8_t *span = list.data + i;
+        memset(is_lost + span[0] * 256u + span[1], 1, span[2] * 256u + span[3]);
+    }
+    return is_lost;
+}
+
+static unsigned get_bit(const uint8_t *block, size_t bit)
+{
+    return block[bit / 8] >> (7 - bit % 8) & 1;
+}
+
+/* Decodes the block of a call with all lost bits 0 or all 1, without a list, and answers how many bits outside the spans then
+ * differ from the received ones. */
+static size_t make_trial(const call *c, const uint8_t *is_lost, unsigned value, outcome *o)
+{
+    static uint8_t filled[MAX_BLOCK];
+    call without = *c;
+    size_t changed = 0;
+    memcpy(filled, c->field[FIRST].data, plan.block);
+    for (size_t i = 0; i < plan.edges; i++)
+        if (is_lost[i] && get_bit(filled, i) != value)
+            flip(filled, i);
+    without.field[FIRST].data = filled;
+    without.field[SECOND] = (bytes){NULL, 0};
+    run_on_heap(&by_parts, &without, o);
+    for (size_t i = 0; i < plan.edges; i++)
+        changed += !is_lost[i] && get_bit(o->lent, i) != get_bit(filled, i);
+    return changed;
+}
+
+/* How the trials of a call end, and which of them is kept. */
+enum { NEITHER_SETTLES, ZEROS_ALONE, ONES_ALONE, ZEROS_CHANGE_FEWER, ONES_CHANGE_FEWER, EQUALLY_MANY, TRIAL_ENDS };
+
+/* Holds a decoder call with a list, which was just compared, to two calls without one. Answers how these ended. */
+static int must_keep_a_trial(const char *kind, const call *c)
+{
+    static outcome zeros, ones;
+    const uint8_t *is_lost = lost_bits(c->field[SECOND]);
+    size_t zeros_changed = make_trial(c, is_lost, 0, &zeros), ones_changed = make_trial(c, is_lost, 1, &ones);
+    int end = EQUALLY_MANY;
+    if (zeros.answer.number != LEMBIKAT_DONE)
+        end = ones.answer.number != LEMBIKAT_DONE ? NEITHER_SETTLES : ONES_ALONE;
+    else if (ones.answer.number != LEMBIKAT_DONE)
+        end = ZEROS_ALONE;
+    else if (zeros_changed != ones_changed)
+        end = zeros_changed < ones_changed ? ZEROS_CHANGE_FEWER : ONES_CHANGE_FEWER;
+    const outcome *kept = end == ONES_ALONE || end == ONES_CHANGE_FEWER ? &ones : &zeros;
+    if (end == NEITHER_SETTLES) /* the output is the block as it was received, not as it was tried */
+        memcpy(zeros.lent, c->field[FIRST].data, plan.block);
+    if (failed(!same_outcome(c, &by_library, kept))) {
+        printf("FAILED: %s: the call with lost spans is not the trial that must be kept\n", kind);
+        show("zeros    ", c, &zeros);
+        show("ones     ", c, &ones);
+        show("library  ", c, &by_library);
+    }
+    return end;
+}
+
+/* Every span that a block can have and those that it cannot, alone, on a plan whose bits must all be alike. No sweep is made:
+ * the trial whose lost bits are as the others is a codeword, and the one kept; with a bit flipped beside the span there is
+ * none, and the received block comes back, whatever its lost bits hold. */
+static void every_span_calls(side left, side right, size_t n)
+{
+    size_t calls = 0;
+    set_plan(left, right, n);
+    lay_evenly();
+    for (size_t offset = 0; offset <= plan.edges + 1; offset++)
+        for (size_t length = 0; length <= plan.edges + 1; length++) {
+            int within = length != 0 && offset + length <= plan.edges;
+            lose(offset, length);
+            for (int value = 0; value < 2; value++) {
+                memset(first, 0, plan.block);
+                for (size_t i = 0; i < plan.edges; i++)
+                    if (within && i >= offset && i < offset + length ? one_in(2) : value)
+                        flip(first, i);
+                call c = lost_call(0);
+                compare("every span", calls++, &c);
+                must_answer("every span", &c, within ? LEMBIKAT_DONE : LEMBIKAT_SPAN_OUT_OF_BLOCK, 0, 0);
+                if (!within)
+                    continue;
+                uint8_t sent[MAX_BLOCK] = {0};
+                for (size_t i = 0; i < plan.edges && value && length != plan.edges; i++) /* of a whole block zeros are kept */
+                    flip(sent, i);
+                if (failed(!same_bytes(by_library.lent, sent, plan.block)))
+                    printf("FAILED: every span: offset %zu length %zu of %d\n", offset, length, value);
+                if (offset != 0)
+                    flip(first, offset - 1);
+                else if (length != plan.edges)
+                    flip(first, length);
+                else
+                    continue;
+                compare("beside a span", calls++, &c);
+                /* Where all bits but the flipped one are lost, one of the trials is like it. */
+                if (length + 1 < plan.edges)
+                    must_answer("beside a span", &c, LEMBIKAT_UNSETTLED, 0, 0);
+            }
+        }
+}
+
+/* Every list of two spans on a block of six bits, of any block: the first faulty span is answered, 25 before 26. */
+static void two_span_calls(void)
+{
+    const size_t most = 8;
+    set_plan(pair_code, alike_code(3), 3);
+    lay_evenly();
+    for (size_t i = 0; i < most * most * most * most; i++) {
+        size_t offset = i % most, length = i / most % most, next = i / most / most % most, next_length = i / most / most / most;
+        uint32_t number = LEMBIKAT_DONE;
+        if (length == 0 || offset + length > plan.edges)
+            number = LEMBIKAT_SPAN_OUT_OF_BLOCK;
+        else if (next_length == 0 || next + next_length > plan.edges)
+            number = LEMBIKAT_SPAN_OUT_OF_BLOCK;
+        else if (next < offset + length)
+            number = LEMBIKAT_SPAN_OUT_OF_ORDER;
+        lose(offset, length);
+        add_span(next, next_length);
+        first[0] = (uint8_t)(draw(64) << 2);
+        call c = lost_call(draw(4));
+        compare("two spans", i, &c);
+        if (number != LEMBIKAT_DONE)
+            must_answer("two spans", &c, number, 0, 0);
+        else
+            must_keep_a_trial("two spans", &c);
+    }
+}
+
+/* Offsets and lengths whose sum is near 65,536: nothing is cut to 16 bits, on the largest block and on a small one. */
+static void large_span_calls(void)
+{
+    static const size_t numbers[] = {0, 1, 2, 255, 256, 32767, 32768, 32769, 65279, 65280, 65534, 65535};
+    const size_t count = sizeof numbers / sizeof numbers[0];
+    for (int large = 0; large < 2; large++) {
+        set_plan(alike_code(16), alike_code(16), large ? LEMBIKAT_MAX_VERTICES : 16);
+        lay_in_order();
+        memset(first, 0, plan.block);
+        for (size_t i = 0; i < count * count; i++) {
+            size_t offset = numbers[i / count], length = numbers[i % count];
+            int within = length != 0 && offset + length <= plan.edges;
+            lose(offset, length);
+            call c = lost_call(1);
+            compare("large span", i, &c);
+            must_answer("large span", &c, within ? LEMBIKAT_DONE : LEMBIKAT_SPAN_OUT_OF_BLOCK, 0, 0);
+        }
+    }
+    /* The longest list: a span for each bit of the largest block, and once the last of them again. */
+    lost_size = 0;
+    for (size_t i = 0; i < plan.edges; i++)
+        add_span(i, 1);
+    memset(first, 0x5a, plan.block);
+    call c = lost_call(0);
+    compare("longest list", 0, &c);
+    must_answer("longest list", &c, LEMBIKAT_DONE, 0, 0);
+    add_span(plan.edges - 1, 1);
+    c = lost_call(0);
+    compare("longest list", 1, &c);
+    must_answer("longest list", &c, LEMBIKAT_SPAN_OUT_OF_ORDER, 0, 0);
+}
+
+/* One vertex a side that reads d bits, which must be alike, the first of them lost. The call must settle at the byte given,
+ * after one sweep that changes so many bits, or after none where that is 0. */
+static void trial_call(unsigned d, size_t lost, unsigned block, unsigned settled, unsigned sum, int end)
+{
+    set_plan(alike_code(d), alike_code(d), 1);
+    lay_in_order();
+    first[0] = (uint8_t)block;
+    lose(0, lost);
+    call c = lost_call(3);
+    compare("trial", block, &c);
+    must_answer("trial", &c, LEMBIKAT_DONE, 0, sum == 0 ? 0 : 1);
+    if (failed(must_keep_a_trial("trial", &c) != end || by_library.lent[0] != settled || by_library.sums[0] != sum ||
+               by_library.sums[1] != 0)) {
+        printf("FAILED: trial of %u bits, %zu lost, block %02x\n", d, lost, block);
+        show("library  ", &c, &by_library);
+    }
+}
+
+/* Each way in which the two trials can end. Half of the bits lost and the others apart: both trials change one bit. Half lost
+ * and the others alike: the trial that is not like them is a tie. */
+static void trial_calls(void)
+{
+    trial_call(4, 2, 0x10, 0x00, 1, EQUALLY_MANY);
+    trial_call(4, 2, 0xd0, 0x00, 1, EQUALLY_MANY);
+    trial_call(4, 4, 0xf0, 0x00, 0, EQUALLY_MANY);
+    trial_call(4, 2, 0x70, 0xf0, 0, ONES_ALONE);
+    trial_call(4, 2, 0x80, 0x00, 0, ZEROS_ALONE);
+    trial_call(5, 2, 0x30, 0xf8, 1, ONES_CHANGE_FEWER);
+    trial_call(5, 2, 0xd0, 0x00, 1, ZEROS_CHANGE_FEWER);
+    trial_call(5, 1, 0x78, 0xf8, 1, EQUALLY_MANY); /* both settle there, with ones after no sweep */
+    trial_call(2, 1, 0x00, 0x00, 0, ZEROS_ALONE);
+    trial_call(2, 1, 0x40, 0xc0, 0, ONES_ALONE);
+
+    /* Two vertices a side of three bits, each right one with two bits of one left vertex and one of the other: some blocks
+     * swing to and fro. Every block with every span, at small limits. */
+    size_t calls = 0, ends[TRIAL_ENDS] = {0};
+    set_plan(alike_code(3), alike_code(3), 2);
+    lay_in_order();
+    swap_entries(2, 3);
+    for (unsigned block = 0; block < 64; block++)
+        for (size_t offset = 0; offset < 6; offset++)
+            for (size_t length = 1; offset + length <= 6; length++)
+                for (uint64_t limit = 0; limit < 4; limit++) {
+                    first[0] = (uint8_t)(block << 2);
+                    lose(offset, length);
+                    call c = lost_call(limit);
+                    compare("swinging", calls++, &c);
+                    ends[must_keep_a_trial("swinging", &c)]++;
+                }
+    for (int end = 0; end < TRIAL_ENDS; end++)
+        if (failed(ends[end] == 0))
+            printf("FAILED: no trials on the swinging plan ended in way %d\n", end);
+
+    /* Each sweep changes two bits of 110100, to and fro; with bit 2 lost and as 1 the first sweep would change one. The block
+     * is received so, and comes back so, with the sums of the trial with zeros. */
+    first[0] = 0xf0;
+    lose(2, 1);
+    call c = lost_call(3);
+    compare("swinging", calls, &c);
+    must_answer("swinging", &c, LEMBIKAT_UNSETTLED, 0, 0);
+    if (failed(must_keep_a_trial("swinging", &c) != NEITHER_SETTLES || by_library.lent[0] != 0xf0 || by_library.sums[0] != 2 ||
+               by_library.sums[1] != 2 || by_library.sums[2] != 2 || by_library.sums[3] != 0)) {
+        printf("FAILED: swinging with bit 2 lost\n");
+        show("library  ", &c, &by_library);
+    }
+}
+
+static void span_calls(void)
+{
+    every_span_calls(alike_code(5), alike_code(7), 7); /* 35 bits: the last byte has five that are no bits of the block */
+    every_span_calls(alike_code(4), alike_code(6), 6); /* 24 bits: it has none */
+    two_span_calls();
+    large_span_calls();
+    trial_calls();
 }
 
 /* ---- random calls ---- */
@@ -1798,6 +2087,49 @@ static void draw_block(uint8_t *block)
         flip(block, draw(plan.edges));
 }
 
+/* Lists lost bits as spans. Those of one run may be listed in pieces that touch. */
+static void list_lost(const uint8_t *is_lost)
+{
+    lost_size = 0;
+    for (size_t i = 0; i < plan.edges;) {
+        size_t length = 0;
+        while (i + length < plan.edges && is_lost[i + length] && (length == 0 || !one_in(20)))
+            length++;
+        if (length != 0)
+            add_span(i, length);
+        i += larger(length, 1);
+    }
+}
+
+/* Loses so many bits, in runs anywhere in the block. */
+static void lose_bits(size_t count, uint8_t *is_lost)
+{
+    memset(is_lost, 0, plan.edges);
+    while (count > 0) {
+        size_t from = draw(plan.edges), to = smaller(from + 1 + draw(count), plan.edges);
+        for (size_t i = from; i < to; i++) {
+            count -= !is_lost[i];
+            is_lost[i] = 1;
+        }
+    }
+    list_lost(is_lost);
+}
+
+/* A list of lost spans: none, the whole block, the end of it, or some bits. */
+static void draw_spans(void)
+{
+    static uint8_t is_lost[MAX_EDGES];
+    lost_size = 0;
+    if (one_in(3))
+        return;
+    if (one_in(12))
+        lose(0, plan.edges);
+    else if (one_in(8))
+        lose(plan.edges - 1 - draw(smaller(plan.edges, 12)), 1);
+    else
+        lose_bits(1 + draw(one_in(4) ? plan.edges : smaller(plan.edges, 12)), is_lost);
+}
+
 /* A table: the sheet's own, or any bytes, at times with many marks. */
 static void draw_table(uint8_t *table, size_t size)
 {
@@ -1917,6 +2249,43 @@ static void spoil_block(call *c, int field, uint8_t *block, size_t bits)
     flip(block, bits + draw(8 - bits % 8));
 }
 
+static void spoil_spans(call *c)
+{
+    bytes *list = &c->field[SECOND];
+    if (list->size < LEMBIKAT_SPAN_BYTES) {
+        lose(draw(plan.edges), 1);
+        *list = (bytes){second, lost_size};
+    }
+    size_t count = list->size / LEMBIKAT_SPAN_BYTES, i = draw(count);
+    uint8_t *span = second + LEMBIKAT_SPAN_BYTES * i;
+    size_t offset = span[0] * 256u + span[1],
+           previous_end = i == 0 ? 0 : span[-4] * 256u + span[-3] + span[-2] * 256u + span[-1];
+    switch (draw(8)) {
+    case 0:
+    case 1:
+        list->size += 1 + draw(3);
+        break;
+    case 2:
+        put_pair(span, 1, 0);
+        break;
+    case 3: /* by a bit too long */
+        put_pair(span, 1, plan.edges - smaller(offset, plan.edges) + 1);
+        break;
+    case 4: /* would look right if the sum were cut to 16 bits */
+        put_pair(span, 1, 65535 - draw(smaller(offset + 1, 65536)));
+        break;
+    case 5: /* by a bit too early */
+        put_pair(span, 0, previous_end == 0 ? draw(65536) : previous_end - 1);
+        break;
+    case 6: /* the last span once more */
+        memcpy(second + LEMBIKAT_SPAN_BYTES * count, second + LEMBIKAT_SPAN_BYTES * (count - 1), LEMBIKAT_SPAN_BYTES);
+        list->size = LEMBIKAT_SPAN_BYTES * (count + 1);
+        break;
+    default:
+        put_pair(span, draw(2), draw(65536));
+    }
+}
+
 static void spoil_table(call *c, int field)
 {
     c->field[field].size = one_in(2) ? table_bytes() - 1 : draw(table_bytes());
@@ -1956,7 +2325,9 @@ static void spoil(call *c)
             spoil_block(c, FIRST, first, plan.edges);
             break;
         case 4:
-            if (one_in(3))
+            if (one_in(2))
+                spoil_spans(c);
+            else if (one_in(3))
                 spoil_block(c, FIRST, first, plan.edges);
             else if (one_in(2))
                 spoil_number(c);
@@ -2033,6 +2404,70 @@ static size_t first_uncovered(void)
     return beyond;
 }
 
+/* Codewords with f bits lost and e others flipped, 2e + f being at most twice what the plan covers, at a limit of the sweeps
+ * that the margin names or of more: they come back, and the call is the same whatever the lost bits were received as. */
+#define HOMECOMINGS 600
+
+static void homecoming_calls(void)
+{
+    static uint8_t sent[MAX_BLOCK], is_lost[MAX_EDGES], is_flipped[MAX_EDGES];
+    static outcome before;
+    size_t came = 0, all_lost = 0, mixed = 0, longer = 0;
+    for (size_t i = 0; came < HOMECOMINGS; i++) {
+        plan_bits_known = 0;
+        draw_codes(1);
+        draw_wiring(0, 1);
+        size_t covered = first_uncovered() - 1;
+        if (covered == 0 || plan.edges < 2 * covered)
+            continue;
+        lembikat_plan p = reference_plan();
+        uint64_t sweeps = reference_margin(&p, covered).value;
+        size_t lost = one_in(3) ? 2 * covered : 1 + draw(2 * covered), flips = (2 * covered - lost) / 2;
+        if (one_in(8))
+            flips = draw(flips + 1);
+        draw_codeword(sent);
+        lose_bits(lost, is_lost);
+        memcpy(is_flipped, is_lost, plan.edges);
+        memcpy(first, sent, plan.block);
+        for (size_t left = flips; left > 0;) {
+            size_t bit = draw(plan.edges);
+            if (is_flipped[bit])
+                continue;
+            is_flipped[bit] = 1;
+            flip(first, bit);
+            left--;
+        }
+        call c = lost_call(one_in(2) ? sweeps : sweeps + draw(6));
+        for (int received_as = 0; received_as < 4; received_as++) { /* as sent, all turned, at random, all alike */
+            for (size_t bit = 0; bit < plan.edges; bit++)
+                if (is_lost[bit] &&
+                    (received_as == 1 || (received_as == 2 && one_in(2)) || (received_as == 3 && get_bit(first, bit) != i % 2)))
+                    flip(first, bit);
+            if (received_as == 0) {
+                compare("homecoming", i, &c);
+                must_keep_a_trial("homecoming", &c);
+            } else {
+                run_on_heap(&by_parts, &c, &by_library);
+            }
+            if (failed(by_library.answer.number != LEMBIKAT_DONE || !same_bytes(by_library.lent, sent, plan.block) ||
+                       (received_as > 0 && !same_outcome(&c, &by_library, &before)))) {
+                printf("FAILED: homecoming call %zu: %zu bits lost and %zu flipped do not come back, %zu are covered\n", i,
+                       lost, flips, covered);
+                show("library  ", &c, &by_library);
+            }
+            before = by_library;
+        }
+        came++;
+        all_lost += flips == 0;
+        mixed += flips != 0;
+        longer += by_library.answer.value > sweeps;
+    }
+    printf(
+        "lost spans: %zu codewords came back, %zu with bits lost alone and %zu with others flipped; %zu after more sweeps than "
+        "the margin names\n",
+        came, all_lost, mixed, longer);
+}
+
 /* A whole call of the service on a fresh plan; some have faults by themselves, such as a block that does not settle. */
 static call draw_whole_call(unsigned service)
 {
@@ -2056,9 +2491,9 @@ static call draw_whole_call(unsigned service)
             draw_noise(first); /* so that more blocks stay unsettled */
         else
             draw_block(first);
-        c.field[FIRST] = (bytes){first, plan.block};
-        c.field[LENT] = (bytes){lent, plan.block + spare};
-        c.number = draw_limit();
+        draw_spans();
+        c = lost_call(draw_limit());
+        c.field[LENT].size += spare;
         break;
     case 5:
         draw_block(first);
@@ -2148,6 +2583,22 @@ static void show_ends(void)
     }
 }
 
+/* How the trials of random calls with lost spans ended. */
+static size_t trial_ends[TRIAL_ENDS];
+
+static void show_trials(void)
+{
+    static const char *const names[TRIAL_ENDS] = {"neither settles",    "zeros alone",       "ones alone",
+                                                  "zeros change fewer", "ones change fewer", "equally many"};
+    printf("trials with lost bits 0 and 1:");
+    for (int end = 0; end < TRIAL_ENDS; end++) {
+        printf("%s %s %zu", end == 0 ? "" : ",", names[end], trial_ends[end]);
+        if (failed(trial_ends[end] == 0))
+            printf(" (FAILED: none)");
+    }
+    printf("\n");
+}
+
 /* The sweeps that random calls of the margin named, by how the sides of the plan differ. */
 #define SWEEPS_SHOWN 6 /* so many and more */
 static size_t sweeps_named[WAYS][SWEEPS_SHOWN + 1];
@@ -2185,8 +2636,11 @@ static void random_calls(void)
         lembikat_answer answer = by_reference.answer;
         if (answer.number <= LAST_REFUSAL)
             ended[answer.number][c.service]++;
-        if (c.service == 4)
+        if (c.service == 4) {
             note_end(c.number, answer);
+            if (c.field[SECOND].size != 0 && (answer.number == LEMBIKAT_DONE || answer.number == LEMBIKAT_UNSETTLED))
+                trial_ends[must_keep_a_trial("random", &c)]++;
+        }
         if (c.service == 7 && answer.number == LEMBIKAT_DONE)
             sweeps_named[way][smaller(answer.value, SWEEPS_SHOWN)]++;
         if (ON(c.service) & ON_PLANS) {
@@ -2223,6 +2677,7 @@ static void random_calls(void)
     if (failed(plans[SAME_SIDES] > plans[OTHER_SHEETS] + plans[OTHER_DEGREES]))
         printf("FAILED: fewer than half of the random plans have unequal sides\n");
     show_ends();
+    show_trials();
     show_margins();
 }
 
@@ -2243,6 +2698,8 @@ int main(int argc, char **argv)
     tie_calls();
     all_count_calls();
     all_fault_calls();
+    span_calls();
+    homecoming_calls();
     random_calls();
     printf("test_vectors: %zu passed, %zu failed\n", cases - failures, failures);
     return failures != 0;

@@ -26,6 +26,13 @@
  *   A message is K / 8 bytes, rounded up, with the same order of bits and zero bits after bit K - 1; K depends on the plan
  *   alone and is at most N.
  *
+ * LOST SPANS
+ *   Of a received block a receiver may know that some bits were lost (erasures): what they hold means nothing. A list of lost
+ *   spans names them, four bytes a span: the number of its first bit and its length in bits, two bytes each, high byte first.
+ *   LEMBIKAT_SPAN writes a span; a list of lembikat_report has the same form. A span has at least one bit and ends within the
+ *   block. The spans stand in rising order and do not overlap; one may begin where the one before it ends. The list may be
+ *   empty, and where no bit was lost it is.
+ *
  * REFUSALS
  *   A call checks from the top of this list down, as far as the numbers concern it, and stops at the first that applies. A
  *   refused call has written nothing, with one exception: after LEMBIKAT_UNSETTLED the front of the output holds the received
@@ -47,13 +54,16 @@
  *       19  LEMBIKAT_PLAN_TOO_LARGE             0  encode, read: N is above 512
  *       11  LEMBIKAT_BLOCK_LENGTH_WRONG         0  block: its length is not N / 8 rounded up
  *       12  LEMBIKAT_STRAY_BIT                  0  block: a bit after N - 1 is set; nearest word, look-up: word at or above 2^d
+ *       24  LEMBIKAT_SPANS_LENGTH_WRONG         0  decode: the length of the list of lost spans is not a multiple of 4
+ *       25  LEMBIKAT_SPAN_OUT_OF_BLOCK          0  decode: the first faulty span has no bit, or one after bit N - 1
+ *       26  LEMBIKAT_SPAN_OUT_OF_ORDER          0  decode: the first faulty span begins before the end of the one before it
  *       22  LEMBIKAT_NO_CODEWORD                0  read: the block is no codeword
  *       20  LEMBIKAT_MESSAGE_LENGTH_WRONG       0  encode: the message's length is not K / 8 rounded up
  *       21  LEMBIKAT_MESSAGE_STRAY_BIT          0  encode: a bit after K - 1 is set
  *       13  LEMBIKAT_OUTPUT_SHORT               0  output: shorter than the block, message or table to be written;
  *                                                  look-up: the table has fewer than 2^(d - k) entries
  *       14  LEMBIKAT_LIMIT_TOO_LARGE            0  decode: limit is above 4,096
- *       15  LEMBIKAT_UNSETTLED                  0  decode: unsettled after `limit` sweeps
+ *       15  LEMBIKAT_UNSETTLED                  0  decode: unsettled after `limit` sweeps, with lost spans in both trials
  *       16  LEMBIKAT_LIST_SHORT                 0  report: the list is shorter than 4 bytes a pair
  *       17  LEMBIKAT_FLIPS_TOO_MANY             0  margin: flips is above N
  *       18  LEMBIKAT_FLIPS_NOT_COVERED          0  margin: so many flips are not covered
@@ -62,8 +72,9 @@
  * THREADS AND BUFFERS
  *   There is no state: any number of threads may call at once, as long as no thread writes to a buffer that another call uses.
  *   The buffer that a call writes (output, list) must not overlap any that it reads; those that it only reads may overlap.
- *   A buffer of no bytes may be NULL. A buffer may be longer than needed where it is written: bytes beyond stay untouched. So
- *   may the table of a look-up: bytes beyond do not matter. A table, once built, may serve any number of threads.
+ *   A buffer of no bytes, such as an empty list of lost spans, may be NULL. A buffer may be longer than needed where it is
+ *   written: bytes beyond stay untouched. So may the table of a look-up: bytes beyond do not matter. A table, once built, may
+ *   serve any number of threads.
  *   No call takes memory from the heap. Stack use is given with each call.
  */
 #ifndef LEMBIKAT_H
@@ -78,10 +89,10 @@ extern "C" {
 
 /* The version, as text (pkg-config tells the same) and as numbers; the last two are below 1,000 each. LEMBIKAT_VERSION_NUMBER
  * rises with every version, the first number where a caller must change its code. A host asks for a version or a later one so:
- *   #if LEMBIKAT_VERSION_AT_LEAST(3, 0, 0) */
-#define LEMBIKAT_VERSION "3.3"
-#define LEMBIKAT_VERSION_MAJOR 3
-#define LEMBIKAT_VERSION_MINOR 3
+ *   #if LEMBIKAT_VERSION_AT_LEAST(4, 0, 0) */
+#define LEMBIKAT_VERSION "4.0"
+#define LEMBIKAT_VERSION_MAJOR 4
+#define LEMBIKAT_VERSION_MINOR 0
 #define LEMBIKAT_VERSION_PATCH 0
 #define LEMBIKAT_VERSION_AS_NUMBER(major, minor, patch) (1000000L * (major) + 1000L * (minor) + (patch))
 #define LEMBIKAT_VERSION_NUMBER                                                                                                \
@@ -107,6 +118,12 @@ extern "C" {
 
 /* The bytes of a table, for the d and k of a sheet that is not refused: two for each of 2^(d - k) classes. */
 #define LEMBIKAT_TABLE_BYTES(d, k) ((size_t)2 << ((d) - (k)))
+
+/* A span of a list of lost spans, by its bytes: four values for an array's initialiser. Both numbers are below 65,536, and each
+ * is worked out twice. The nine bits 40 to 48 and the three bits 96 to 98 are
+ *   const uint8_t lost[] = {LEMBIKAT_SPAN(40, 9), LEMBIKAT_SPAN(96, 3)}; */
+#define LEMBIKAT_SPAN_BYTES 4
+#define LEMBIKAT_SPAN(offset, length) (uint8_t)((offset) >> 8), (uint8_t)(offset), (uint8_t)((length) >> 8), (uint8_t)(length)
 
 /* The entry of a table that marks a tie. */
 #define LEMBIKAT_TIE_MARK 0xFFFF
@@ -137,6 +154,9 @@ enum lembikat_outcome {
     LEMBIKAT_MESSAGE_STRAY_BIT = 21,
     LEMBIKAT_NO_CODEWORD = 22,
     LEMBIKAT_EDGE_COUNTS_DIFFER = 23,
+    LEMBIKAT_SPANS_LENGTH_WRONG = 24,
+    LEMBIKAT_SPAN_OUT_OF_BLOCK = 25,
+    LEMBIKAT_SPAN_OUT_OF_ORDER = 26,
 };
 
 /* What a call answers. The answers of the nearest word, of the look-up and of the decoder begin alike and tell more.
@@ -170,6 +190,7 @@ typedef struct {
  *            a sweep changes at most 32,768 bits, so 16 bits hold it.
  *            Sweeps that were not made have 0. A block that settled had `value` sweeps; with LEMBIKAT_UNSETTLED `limit` sweeps
  *            were made, and their sums are told too. With any other refusal all sums are 0. Sweeps after the 64th are not told.
+ *            With lost spans they are those of one trial: the one kept, and with LEMBIKAT_UNSETTLED the one with zeros.
  * What one sweep changed a later one may change back; lembikat_report tells how the settled block differs from the received.
  */
 typedef struct {
@@ -225,18 +246,25 @@ lembikat_answer lembikat_locate(const uint8_t *left_sheet, size_t left_sheet_byt
                                 size_t right_sheet_bytes, size_t nl, size_t nr, const uint8_t *wiring, size_t wiring_bytes,
                                 const uint8_t *block, size_t block_bytes);
 
-/* Decodes a received block. Sweep 1 puts the nearest word of the left code at every left vertex, sweep 2 the nearest word of
- * the right code at every right vertex, and so on. Where more than one pattern has the fewest ones a vertex's word stays as it
- * is for that sweep: it is no codeword, 0 of its bits are changed, and it waits for its neighbours. The block settles at the
- * first count from 0 to `limit` after which it is a codeword, on both sides. A block that differs from a codeword in no more
- * bits than lembikat_margin covers settles at that codeword within the sweeps that it names.
- *   output: the settled block at the front; with LEMBIKAT_UNSETTLED the received block; else untouched.  value: the sweeps.
- *   sums: the bits that each of the first 64 sweeps changed, with LEMBIKAT_UNSETTLED too.
- *   Refusals: the plan's, 11, 12, 13, 14, 15.  Stack: at most 96 KiB. */
+/* Decodes a received block, of which `lost` lists the lost spans. Sweep 1 puts the nearest word of the left code at every left
+ * vertex, sweep 2 the nearest word of the right code at every right vertex, and so on. Where more than one pattern has the
+ * fewest ones a vertex's word stays as it is for that sweep: it is no codeword, 0 of its bits are changed, and it waits for its
+ * neighbours. The block settles at the first count from 0 to `limit` after which it is a codeword, on both sides. A block that
+ * differs from a codeword in no more bits than lembikat_margin covers settles at that codeword within the sweeps that it names.
+ * Where bits are lost the block is tried twice, each time with the whole limit: with all lost bits 0, and with all lost bits 1.
+ * What they were received as does not matter. A trial that settles has changed so many bits outside the spans: those in which
+ * the settled block differs from the received one there. If both trials settle, the one that changed fewer is kept, and the one
+ * with zeros if they changed equally many; if only one settles, it is kept.
+ * A sent codeword with f bits lost and e others flipped comes back where lembikat_margin covers some F with 2 * e + f at most
+ * 2 * F and the limit is not below the sweeps that it names for F. The sweeps counted may be more than those: where both trials
+ * settle at the sent codeword, the one with zeros is kept, and it may be the other one that has no more than F wrong bits.
+ *   output: the settled block at the front; with LEMBIKAT_UNSETTLED the received block, lost bits as they were received; else
+ *   untouched.  value: the sweeps.  sums: the bits that each of the first 64 sweeps changed, with LEMBIKAT_UNSETTLED too.
+ *   Refusals: the plan's, 11, 12, 24, then 25 and 26 for each span in turn, 13, 14, 15.  Stack: at most 100 KiB. */
 lembikat_decode_answer lembikat_decode(const uint8_t *left_sheet, size_t left_sheet_bytes, const uint8_t *right_sheet,
                                        size_t right_sheet_bytes, size_t nl, size_t nr, const uint8_t *wiring,
-                                       size_t wiring_bytes, const uint8_t *received, size_t received_bytes, uint8_t *output,
-                                       size_t output_bytes, size_t limit);
+                                       size_t wiring_bytes, const uint8_t *received, size_t received_bytes, const uint8_t *lost,
+                                       size_t lost_bytes, uint8_t *output, size_t output_bytes, size_t limit);
 
 /* Lists the maximal runs of bits at which a received and a settled block differ, in rising order. A run takes four bytes of
  * the list: its bit offset and its length, two bytes each, high byte first. Neither block need be a codeword.
@@ -300,11 +328,12 @@ static inline lembikat_answer lembikat_plan_locate(const lembikat_plan *plan, co
 }
 
 static inline lembikat_decode_answer lembikat_plan_decode(const lembikat_plan *plan, const uint8_t *received,
-                                                          size_t received_bytes, uint8_t *output, size_t output_bytes,
-                                                          size_t limit)
+                                                          size_t received_bytes, const uint8_t *lost, size_t lost_bytes,
+                                                          uint8_t *output, size_t output_bytes, size_t limit)
 {
     return lembikat_decode(plan->left_sheet, plan->left_sheet_bytes, plan->right_sheet, plan->right_sheet_bytes, plan->nl,
-                           plan->nr, plan->wiring, plan->wiring_bytes, received, received_bytes, output, output_bytes, limit);
+                           plan->nr, plan->wiring, plan->wiring_bytes, received, received_bytes, lost, lost_bytes, output,
+                           output_bytes, limit);
 }
 
 static inline lembikat_answer lembikat_plan_report(const lembikat_plan *plan, const uint8_t *received, size_t received_bytes,

@@ -63,6 +63,9 @@ static const char *name_of(enum lembikat_outcome outcome)
         NAMED(LEMBIKAT_MESSAGE_STRAY_BIT);
         NAMED(LEMBIKAT_NO_CODEWORD);
         NAMED(LEMBIKAT_EDGE_COUNTS_DIFFER);
+        NAMED(LEMBIKAT_SPANS_LENGTH_WRONG);
+        NAMED(LEMBIKAT_SPAN_OUT_OF_BLOCK);
+        NAMED(LEMBIKAT_SPAN_OUT_OF_ORDER);
     }
     return "no name";
 }
@@ -75,7 +78,7 @@ static int calls_on_a_plan_fit(void)
     lembikat_plan plan = {bytes, 1, bytes, 1, 1, 1, bytes, 1};
     return plan.left_sheet_bytes == 1 && plan.right_sheet == bytes && plan.nl == 1 && plan.nr == 1 && plan.wiring == bytes &&
            sizeof lembikat_plan_locate(&plan, bytes, 1) == sizeof(lembikat_answer) &&
-           sizeof lembikat_plan_decode(&plan, bytes, 1, written, 1, 1) == sizeof(lembikat_decode_answer) &&
+           sizeof lembikat_plan_decode(&plan, bytes, 1, bytes, 1, written, 1, 1) == sizeof(lembikat_decode_answer) &&
            sizeof lembikat_plan_report(&plan, bytes, 1, bytes, 1, written, 1) == sizeof(lembikat_answer) &&
            sizeof lembikat_plan_spread(&plan) == sizeof(lembikat_answer) &&
            sizeof lembikat_plan_margin(&plan, 1) == sizeof(lembikat_answer) &&
@@ -113,12 +116,27 @@ static int table_bytes_fit(void)
            sizeof(LEMBIKAT_TABLE_BYTES(8, 4)) == sizeof(size_t);
 }
 
+/* Spans as the initialiser of an array: of constants, and of sums of a host's own numbers of any width. */
+static int spans_fit(void)
+{
+    static const uint8_t fixed[] = {LEMBIKAT_SPAN(40, 9), LEMBIKAT_SPAN(0x1234, 0xabcd), LEMBIKAT_SPAN(1 << 8 | 2, 3 << 8)};
+    static const uint8_t expected[] = {0, 40, 0, 9, 0x12, 0x34, 0xab, 0xcd, 1, 2, 3, 0};
+    size_t offset = 255;
+    uint8_t length = 255;
+    const uint8_t counted[] = {LEMBIKAT_SPAN(offset + 1, length + 2)};
+    for (size_t i = 0; i < sizeof fixed; i++)
+        if (fixed[i] != expected[i])
+            return 0;
+    return sizeof fixed == 3 * LEMBIKAT_SPAN_BYTES && sizeof fixed == sizeof expected &&
+           sizeof counted == LEMBIKAT_SPAN_BYTES && counted[0] == 1 && counted[1] == 0 && counted[2] == 1 && counted[3] == 1;
+}
+
 int main(void)
 {
     lembikat_answer answer = {LEMBIKAT_DONE, LEMBIKAT_NONE, 0};
     lembikat_word_answer word;
     lembikat_decode_answer decoded;
-    if (!calls_on_a_plan_fit() || !calls_on_a_sheet_fit() || !table_bytes_fit())
+    if (!calls_on_a_plan_fit() || !calls_on_a_sheet_fit() || !table_bytes_fit() || !spans_fit())
         return 1;
     if (sizeof answer.number != sizeof(uint32_t))
         return 1;
@@ -127,7 +145,7 @@ int main(void)
         sizeof decoded.sums != 128)
         return 1;
     printf("version %s, numbers %d %d %d\n", LEMBIKAT_VERSION, MAJOR, MINOR, PATCH);
-    for (; answer.number <= LEMBIKAT_EDGE_COUNTS_DIFFER; answer.number++)
+    for (; answer.number <= LEMBIKAT_SPAN_OUT_OF_ORDER; answer.number++)
         printf("%d %s\n", (int)answer.number, name_of((enum lembikat_outcome)answer.number));
     return 0;
 }
