@@ -9,6 +9,7 @@
 --   decodeCheck ..               what stops a decoder call before it decodes (specs Answer)
 --   decodeAnswer, decodeSums, decodeOutput   what the decoder answers, the sums that it tells, and its output at exit (specs Answer)
 --   Decoded .. reply sums left   the decoder answers `reply`, tells `sums` and leaves the output `left`
+--   Answered .. reply sums left  the same as a function that decodes ensures it
 -- Laws are named by their subject, then by the fact: `settles-` is about the count at which a block settles, `keeps-` about the trial that is
 -- kept, `check-` about the tests before a decoding, one outcome each, and `decode-` gives answer, sums and output at one outcome each: a check
 -- that refuses (-stopped), the trial with zeros or with ones kept (-zeros, -ones), 15 (-neither), and where no bit is lost -settled and
@@ -89,6 +90,10 @@ module _ (plan : Plan) (received lost : List ℕ) (H : ℕ) where
   abbrev onesKept : Bool
   onesKept = keepsOnes (edgeCount plan) lost received (trialFrom 0) (trialFrom 1)
 
+  -- the trial that is kept, by whether it is the one with ones
+  abbrev keptBy : Bool → Trial
+  keptBy ones = cond ones (trialFrom 1) (trialFrom 0)
+
   keeps-zeros : settlesAt plan (filled 0 lost received) H ≤ H
       → (settlesAt plan (filled 1 lost received) H ≤ H → changedFrom 0 ≤ changedFrom 1) → onesKept ≡ false
   unfolding keepsOnes trial
@@ -118,6 +123,12 @@ pub record Decoded (plan : Plan) (received lost output : List ℕ) (H : ℕ) (re
   pub tells : decodeSums plan received lost output H ≡ sums
   pub leaves : decodeOutput plan received lost output H ≡ left
 
+-- the same as a function that decodes ensures it: its reply, its sums and its output at exit
+abbrev pub Answered : Plan → List ℕ → List ℕ → List ℕ → ℕ → Reply → List ℕ → List ℕ → Type 0
+Answered plan received lost output H reply sums left =
+    (reply ≡ decodeAnswer plan received lost output H)
+    × ((sums ≡ decodeSums plan received lost output H) × (left ≡ decodeOutput plan received lost output H))
+
 module _ (plan : Plan) (received lost output : List ℕ) (H : ℕ) where
   -- a check that refuses leaves the output as it is
   pub decode-stopped : {number place : ℕ} → decodeCheck plan received lost output H ≡ refused number place
@@ -131,7 +142,7 @@ module _ (plan : Plan) (received lost output : List ℕ) (H : ℕ) where
       }
 
   module _ {values : List ℕ} (pass : decodeCheck plan received lost output H ≡ done values) where
-    decode-kept : (kept : Trial) → cond (onesKept plan received lost H) (trialFrom plan received lost H 1) (trialFrom plan received lost H 0) ≡ kept
+    decode-kept : (kept : Trial) → keptBy plan received lost H (onesKept plan received lost H) ≡ kept
         → Decoded plan received lost output H (refuseIf (not (kept .settled)) 15 0 (done (kept .count ∷ []))) (kept .sums)
         (written (cond (kept .settled) (kept .block) received) output)
     unfolding decodeAnswer decodeSums decodeOutput decoding
@@ -143,7 +154,8 @@ module _ (plan : Plan) (received lost output : List ℕ) (H : ℕ) where
         }
 
     -- the trial that is kept, where it settles
-    decode-from : (b : ℕ) → cond (onesKept plan received lost H) (trialFrom plan received lost H 1) (trialFrom plan received lost H 0) ≡ trialFrom plan received lost H b → settlesAt plan (filled b lost received) H ≤ H
+    decode-from : (b : ℕ) → keptBy plan received lost H (onesKept plan received lost H) ≡ trialFrom plan received lost H b
+        → settlesAt plan (filled b lost received) H ≤ H
         → Decoded plan received lost output H (done (settlesAt plan (filled b lost received) H ∷ []))
         (sweepSums plan (filled b lost received) (settlesAt plan (filled b lost received) H)) (written (settledFrom plan received lost H b) output)
     unfolding trial
@@ -160,19 +172,19 @@ module _ (plan : Plan) (received lost output : List ℕ) (H : ℕ) where
         → (settlesAt plan (filled 1 lost received) H ≤ H → changedFrom plan received lost H 0 ≤ changedFrom plan received lost H 1)
         → Decoded plan received lost output H (done (settlesAt plan (filled 0 lost received) H ∷ []))
         (sweepSums plan (filled 0 lost received) (settlesAt plan (filled 0 lost received) H)) (written (settledFrom plan received lost H 0) output)
-    decode-zeros l fewer = decode-from 0 (ap (λ (t : Bool). cond t (trialFrom plan received lost H 1) (trialFrom plan received lost H 0)) (keeps-zeros plan received lost H l fewer)) l
+    decode-zeros l fewer = decode-from 0 (ap (keptBy plan received lost H) (keeps-zeros plan received lost H l fewer)) l
 
     pub decode-ones : settlesAt plan (filled 1 lost received) H ≤ H
         → (settlesAt plan (filled 0 lost received) H ≤ H → changedFrom plan received lost H 1 < changedFrom plan received lost H 0)
         → Decoded plan received lost output H (done (settlesAt plan (filled 1 lost received) H ∷ []))
         (sweepSums plan (filled 1 lost received) (settlesAt plan (filled 1 lost received) H)) (written (settledFrom plan received lost H 1) output)
-    decode-ones l fewer = decode-from 1 (ap (λ (t : Bool). cond t (trialFrom plan received lost H 1) (trialFrom plan received lost H 0)) (keeps-ones plan received lost H l fewer)) l
+    decode-ones l fewer = decode-from 1 (ap (keptBy plan received lost H) (keeps-ones plan received lost H l fewer)) l
 
     pub decode-neither : H < settlesAt plan (filled 0 lost received) H → H < settlesAt plan (filled 1 lost received) H
         → Decoded plan received lost output H (refused 15 0) (sweepSums plan (filled 0 lost received) H) (written received output)
     unfolding trial
     decode-neither past late =
-        let r = decode-kept (trialFrom plan received lost H 0) (ap (λ (t : Bool). cond t (trialFrom plan received lost H 1) (trialFrom plan received lost H 0)) (keeps-neither plan received lost H late)) in
+        let r = decode-kept (trialFrom plan received lost H 0) (ap (keptBy plan received lost H) (keeps-neither plan received lost H late)) in
         let not-in-time : leb (settlesAt plan (filled 0 lost received) H) H ≡ false = lt-leb _ _ past in
         let made : min (settlesAt plan (filled 0 lost received) H) H ≡ H = min-eq-right (omega arith) in
         record {

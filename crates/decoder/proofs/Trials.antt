@@ -5,6 +5,7 @@
 --   decodeCheck ..                what stops a decoder call before it decodes (specs Answer)
 --   decodeAnswer, decodeSums, decodeOutput    what the decoder answers, the sums that it tells, and its output at exit (specs Answer)
 --   Tried ..                      a trial as the code makes it (specs Visiting)
+--   Answered ..                   what a function that decodes ensures (Settling)
 --   settledFrom, changedFrom ..   the block at which a trial settles, and the received bits that it changes outside the spans (Settling)
 --   locatedBy codes wiring block  where the code finds a vertex that is not satisfied (wiring specs Access)
 --   Passed ..                     what a call knows that nothing stops before it decodes (specs Visiting)
@@ -40,7 +41,7 @@ use Rattle.spans.proofs.Gaps.{flips-around}
 use Rattle.decoder.specs.Decode.{sweptBlock, settlesAt, sweepSums}
 use Rattle.decoder.specs.Visiting.{Passed, Tried}
 use Rattle.decoder.specs.Answer.{decodeCheck, decodeAnswer, decodeSums, decodeOutput}
-use Rattle.decoder.proofs.Settling.{settles-at, settledFrom, changedFrom, Decoded}
+use Rattle.decoder.proofs.Settling.{settles-at, settledFrom, changedFrom, Decoded, Answered}
 use Rattle.decoder.proofs.Settling.{decode-zeros, decode-ones, decode-neither, decode-settled}
 use Rattle.decoder.proofs.SweepSums.{sums-zero}
 use Rattle.decoder.proofs.Sweeping.{after-zero}
@@ -91,10 +92,7 @@ module _ (plan : Plan) (received lost output : List ℕ) (H : ℕ) (none : lost 
   check-none e = sym (ap (λ (l : List ℕ). decodeCheck plan received l output H) none) ∙ e
 
   pub answers-none : {reply : Reply} {sums after : List ℕ}
-      → (reply ≡ decodeAnswer plan received [] output H)
-      × ((sums ≡ decodeSums plan received [] output H) × (after ≡ decodeOutput plan received [] output H))
-      → (reply ≡ decodeAnswer plan received lost output H)
-      × ((sums ≡ decodeSums plan received lost output H) × (after ≡ decodeOutput plan received lost output H))
+      → Answered plan received [] output H reply sums after → Answered plan received lost output H reply sums after
   answers-none (answers, (tells, leaves)) =
       let any = sym none in (
         answers ∙ ap (λ (l : List ℕ). decodeAnswer plan received l output H) any,
@@ -143,8 +141,7 @@ module _ (plan : Plan) (received lost output : List ℕ) (H : ℕ) (checked : de
       → after ≡ written swept output
       → Decoded plan received lost output H (done (settlesAt plan (filled b lost received) H ∷ []))
       (sweepSums plan (filled b lost received) (settlesAt plan (filled b lost received) H)) (written (settledFrom plan received lost H b) output)
-      → (done (count ∷ []) ≡ decodeAnswer plan received lost output H)
-      × ((sums ≡ decodeSums plan received lost output H) × (after ≡ decodeOutput plan received lost output H))
+      → Answered plan received lost output H (done (count ∷ [])) sums after
   kept-answers b t l e r =
       let at = sym (t .counted) in (
         ap (λ (i : ℕ). done (i ∷ [])) at ∙ sym (r .answer),
@@ -158,15 +155,13 @@ module _ (plan : Plan) (received lost output : List ℕ) (H : ℕ) (checked : de
   module _ {count : ℕ} {sums swept : List ℕ} (zeros : Tried plan (filled 0 lost received) H count sums swept) where
     pub twice-zeros : {after : List ℕ} → after ≡ written swept output → count ≤ H
         → (settlesAt plan (filled 1 lost received) H ≤ H → changedFrom plan received lost H 0 ≤ changedFrom plan received lost H 1)
-        → (done (count ∷ []) ≡ decodeAnswer plan received lost output H)
-        × ((sums ≡ decodeSums plan received lost output H) × (after ≡ decodeOutput plan received lost output H))
+        → Answered plan received lost output H (done (count ∷ [])) sums after
     twice-zeros e l fewer =
         kept-answers 0 zeros l e (decode-zeros plan received lost output H checked (omega (arith, zeros .counted)) fewer)
 
     pub twice-neither : {after tells : List ℕ} {reply : Reply} → H < count → H < settlesAt plan (filled 1 lost received) H
         → after ≡ written received output → reply ≡ refused 15 0 → tells ≡ sums
-        → (reply ≡ decodeAnswer plan received lost output H)
-        × ((tells ≡ decodeSums plan received lost output H) × (after ≡ decodeOutput plan received lost output H))
+        → Answered plan received lost output H reply tells after
     twice-neither past late e answers same =
         let r = decode-neither plan received lost output H checked (omega (arith, zeros .counted)) late in (
           answers ∙ sym (r .answer),
@@ -179,8 +174,7 @@ module _ (plan : Plan) (received lost output : List ℕ) (H : ℕ) (checked : de
   pub twice-ones : {count : ℕ} {sums swept after : List ℕ} → Tried plan (filled 1 lost received) H count sums swept → after ≡ written swept output
       → count ≤ H
       → (settlesAt plan (filled 0 lost received) H ≤ H → changedFrom plan received lost H 1 < changedFrom plan received lost H 0)
-      → (done (count ∷ []) ≡ decodeAnswer plan received lost output H)
-      × ((sums ≡ decodeSums plan received lost output H) × (after ≡ decodeOutput plan received lost output H))
+      → Answered plan received lost output H (done (count ∷ [])) sums after
   twice-ones ones e l fewer = kept-answers 1 ones l e (decode-ones plan received lost output H checked (omega (arith, ones .counted)) fewer)
 
 -- where no bit is lost, both trials are of the received block
@@ -209,9 +203,7 @@ module _ (plan : Plan) (received output : List ℕ) (H : ℕ) (checked : decodeC
       (ap (isCodewordBlock (sideOf plan)) (after-zero (sideOf plan) received) ∙ located-some (sideOf plan) received codeword-located)
       (λ j l. absurd (omega arith))
 
-  pub copy-codeword : {after : List ℕ} → after ≡ written received output
-      → (done (0 ∷ []) ≡ decodeAnswer plan received [] output H)
-      × ((replicate 64 0 ≡ decodeSums plan received [] output H) × (after ≡ decodeOutput plan received [] output H))
+  pub copy-codeword : {after : List ℕ} → after ≡ written received output → Answered plan received [] output H (done (0 ∷ [])) (replicate 64 0) after
   copy-codeword e =
       let d = decode-settled plan received output H checked 0 codeword-settled (omega arith) in (
         sym (d .answer),

@@ -218,8 +218,7 @@ fn decode_trials(
         }
     }
     if lost.len() == 0 {
-        copy_front(received, output);
-        return unsettled(sums);
+        return unsettled(received, output, sums);
     }
     let mut other = [0u8; MAX_BLOCK];
     let ones = make_trial(
@@ -247,8 +246,7 @@ fn decode_trials(
         };
     }
     if limit < count {
-        copy_front(received, output);
-        return unsettled(sums);
+        return unsettled(received, output, sums);
     }
     Decoding {
         outcome: Decoded::Settled(count),
@@ -346,11 +344,14 @@ fn lay_out(received: &[u8], lost: &[u8], value: u64, room: &mut [u8])
     spans::fill(lost, value, &mut room[0..size]);
 }
 
-// The answer of a call that is worked through and does not settle.
-fn unsettled(sums: [u16; SUMS]) -> Decoding
+// The answer of a call that is worked through and does not settle: the received block is put back at the front of the output.
+fn unsettled(received: &[u8], output: &mut [u8], sums: [u16; SUMS]) -> Decoding
+    requires { ⌜ length (now received) ≤ length (now output) ⌝ }
     ensures { λ r. ⌜ decodeReply (r .outcome) ≡ refused 15 0 ⌝ }
     ensures { λ r. ⌜ r .sums ≡ sums ⌝ }
+    ensures { λ _. ⌜ now (output .exit) ≡ written (now (received .entry)) (now (output .entry)) ⌝ }
 {
+    copy_front(received, output);
     Decoding {
         outcome: Decoded::Refused(Refusal {
             number: refusal::UNSETTLED,

@@ -62,12 +62,13 @@ house-built = ap (λ (bytes : List ℕ). sameList (written bytes (replicate 32 0
 
 examples-hold : allHold examples ≡ true
 unfolding
-    allHold holds examples sameList sameReply entryBytes squareWiring nearestAnswer nearestWord bitsChanged nearestPattern tied leastPattern least key noKey
-    isCodeword someBelow combination digit word bitAt putDigit withBit pairAt sum gap
+    allHold holds examples sameList sameReply entryBytes squareWiring nearestAnswer nearestWord bitsChanged nearestPattern tied leastPattern least
+    key noKey isCodeword someBelow combination digit word bitAt putDigit withBit pairAt sum gap
     flag ones onesIn distance refuseIf andThen ifDone degree rowCount rowOf
     rowCheck rowsCheck sheetCheck houseSheet firstFailing edgeOf sideBit entryCheck entriesCheck countFaulty wiringCheck planCheck
     edgesBetween blockBytes bitsCheck vertexWord scattered satisfied firstUnsatisfied isCodewordBlock visited sweep other turn
-    afterSweeps settlesAt sweepSum sweepSums trial pairCount startOf lengthOf endOf endBefore spanCheck pairsCheck spansCheck isLost flipsOutside filledBelow filled keepsOnes decoding decodeCheck decodeAnswer decodeSums written values flips decodeOutput meeting unevenness largest spread slack
+    afterSweeps settlesAt sweepSum sweepSums trial pairCount startOf lengthOf endOf endBefore spanCheck pairsCheck spansCheck isLost flipsOutside
+    filledBelow filled keepsOnes decoding decodeCheck decodeAnswer decodeSums written values flips decodeOutput meeting unevenness largest spread slack
     stepCovered nextBound oneMore chainSweeps sweepsNamed marginAnswer bitsPut blockOf codewordNumber isPosition positionsBefore carries
     encodedNumber encodedBlock pairs houseTable smallestOf isSmallest classOf tieMark tableBytes buildAnswer buildOutput patternIn lookUpAnswer
 examples-hold = refl

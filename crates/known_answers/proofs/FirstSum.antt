@@ -1,5 +1,5 @@
--- What the sums say of a block of which nothing is lost and that settles after one sweep: its first sum is the number of bits in which the received and the settled block
--- differ, which is what the lengths of the report's runs add up to.
+-- What the sums say of a block of which no bit is lost and that settles after one sweep: its first sum is the number of bits in which the received
+-- and the settled block differ, which is what the lengths of the report's runs add up to.
 --   decodeAnswer, decodeSums, decodeOutput   what the decoder answers, the sums that it tells, and its output at exit (decoder specs Answer)
 --   reportAnswer, reportList                 what the report answers, and its list at exit (report specs Answer)
 --   flips N a b                              the number of bits 0 .. N - 1 in which two byte strings differ (bits specs Bit)

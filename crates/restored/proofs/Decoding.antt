@@ -29,7 +29,8 @@ use Rattle.restored.proofs.SquarePlan.{square-accepted, square-margin, 
 
 module _ {received : List ℕ} (r : Received received) (output : List ℕ) (room : length output ≡ 8) where
   decode-passed : (H : ℕ) → H ≤ 4096 → decodeCheck squarePlan received [] output H ≡ done []
-  decode-passed H l = check-passed squarePlan received [] output H square-accepted (received-block r .checked) (spans-none _) (square-room output room) l
+  decode-passed H l =
+      check-passed squarePlan received [] output H square-accepted (received-block r .checked) (spans-none _) (square-room output room) l
 
   decode-free : (H : ℕ) → H ≤ 4096 → stoppedBefore15 (decodeAnswer squarePlan received [] output H) ≡ false
   unfolding stoppedBefore15

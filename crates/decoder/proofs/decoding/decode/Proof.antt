@@ -15,8 +15,8 @@ use Rattle.spans.specs.Spans.{spansCheck}
 use Rattle.wiring.proofs.Blocks.{block-sized}
 use Rattle.wiring.proofs.Plans.{PlanAccepted, plan-accepted, plan-refused, accepted-edges}
 use Rattle.wiring.proofs.Permutation.{fitted-edges}
-use Rattle.decoder.specs.Answer.{decodeCheck, decodeAnswer, decodeSums, decodeOutput}
-use Rattle.decoder.proofs.Settling.{decode-stopped, check-plan, check-block, check-spans, check-short, check-limit, check-passed}
+use Rattle.decoder.specs.Answer.{decodeCheck}
+use Rattle.decoder.proofs.Settling.{Answered, decode-stopped, check-plan, check-block, check-spans, check-short, check-limit, check-passed}
 use Rattle.decoder.proofs.decoding.decode.Statement.{statement}
 use Rattle.decoder.proofs.decoding.decode.Tie as tie
 
@@ -119,8 +119,7 @@ spans c = listed (c .before .before) (done []) (ap checkReply (c .enum-told3 .gi
 -- a call that is stopped answers with `refuse`
 stopped : (plan : Plan) (received lost output : List ℕ) (H : ℕ) {number place : ℕ} {reply : Reply} {sums : List ℕ}
     → decodeCheck plan received lost output H ≡ refused number place → reply ≡ refused number place → sums ≡ replicate 64 0
-    → (reply ≡ decodeAnswer plan received lost output H)
-    × ((sums ≡ decodeSums plan received lost output H) × (output ≡ decodeOutput plan received lost output H))
+    → Answered plan received lost output H reply sums output
 stopped plan received lost output H stops answers tells =
     let r = decode-stopped plan received lost output H stops in
     (answers ∙ sym (r .answer), (tells ∙ sym (r .tells), sym (r .leaves)))

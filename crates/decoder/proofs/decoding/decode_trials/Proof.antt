@@ -101,7 +101,8 @@ module _ (c : tie.After-make-trial2) where
 
   ones-part : take (length (received call) - 0) (c .make-trial2 .last .1 .1 .1 .1 .1 .1 .1 .1 .1 .1 .1 .0) ≡ ones .swept
   ones-part =
-      ap (take (length (received call) - 0)) (ones .stands) ∙ written-part (ones .swept) (replicate 4096 0) (length (received call) - 0) (omega (arith, ones-length))
+      ap (take (length (received call) - 0)) (ones .stands)
+      ∙ written-part (ones .swept) (replicate 4096 0) (length (received call) - 0) (omega (arith, ones-length))
 
 make-trial-requires : tie.Need-make-trial-requires
 make-trial-requires c κs = let s = c .before .before .before .before .before .before .before .before .before .before .before in (s .pre .0, (passed s, omega arith))
@@ -126,13 +127,10 @@ returns c =
       | no some ↦ omega (arith, zeros-changed d some in-time, c .if2 .taken)
     ])
 
-copy-front-requires : tie.Need-copy-front-requires
-copy-front-requires c κs =
+unsettled-requires : tie.Need-unsettled-requires
+unsettled-requires c κs =
     let d = c .before .before .before .before .before .before .before .before .before .before in
     omega (arith, passed (start d) .fits, d .make-trial .kept .1 .1 .1 .1 .1 .1 .1 .1 .1 .1 .1 .0)
-
-unsettled-requires : tie.Need-unsettled-requires
-unsettled-requires c κs = search needs
 
 same-length-4 : tie.Need-same-length-4
 same-length-4 c = search needs
@@ -145,13 +143,16 @@ same-length-6 c = search needs
 
 returns-2 : tie.Need-returns-2
 returns-2 c =
-    let d = c .before .before .before .before .before .before .before .before .before .before .before .before .before .before in
+    let d = c .before .before .before .before .before .before .before .before .before .before .before .before .before in
     let s = start d in
-    let none = c .before .before .before .before .before .if3 .taken in
+    let none = c .before .before .before .before .if3 .taken in
     let past : limit s < d .make-trial .result .count =
-    elim (c .before .before .before .before .before .before .if1 .came) [ inl w ↦ absurd (omega (arith, zeros d .uncounted none, w .2 .left)) | inr w ↦ omega (arith, w .left) ] in
-    twice-neither _ _ _ _ _ (s .pre .1) (zeros d .trial) past (omega (arith, same-count s none, zeros d .trial .counted))
-    (put-back d (c .before .before .before .copy-front .ensures)) (c .unsettled .ensures .0) (c .unsettled .ensures .1)
+    elim (c .before .before .before .before .before .if1 .came) [
+      | inl w ↦ absurd (omega (arith, zeros d .uncounted none, w .2 .left))
+      | inr w ↦ omega (arith, w .left)
+    ] in
+    let (answers, (tells, leaves)) = c .before .before .unsettled .ensures in
+    twice-neither _ _ _ _ _ (s .pre .1) (zeros d .trial) past (omega (arith, same-count s none, zeros d .trial .counted)) (put-back d leaves) answers tells
 
 slice-aggregate-make-trial : tie.Need-slice-aggregate-make-trial
 slice-aggregate-make-trial c = search needs
@@ -181,8 +182,8 @@ part-copy-front-end c =
     let e = c .before .before .before .before .before .before .before .before .before in
     omega (arith, passed-fits (passed (call e)), e .make-trial2 .kept .1 .1 .1 .1 .1 .1 .1 .1 .1 .1 .1 .0, length-replicate {A = ℕ} 4096 0)
 
-copy-front-requires-2 : tie.Need-copy-front-requires-2
-copy-front-requires-2 c κs =
+copy-front-requires : tie.Need-copy-front-requires
+copy-front-requires c κs =
     let e = c .before .before .before .before .before .before .before .before .before .before .before in
     let d = first e in
     omega (arith, passed (start d) .fits, d .make-trial .kept .1 .1 .1 .1 .1 .1 .1 .1 .1 .1 .1 .0, ap length (ones-part e), ones-length e)
@@ -202,22 +203,21 @@ returns-3 c =
     let d = first e in
     let s = start d in
     let (in-time, fewer) = c .before .before .before .before .before .before .before .keeps-ones .ensures .0 (c .before .before .before .before .before .before .if4 .taken) in
-    let over = c .before .before .copy-front2 .ensures ∙ ap₂ written (ones-part e) (zeros d .stands)
+    let over = c .before .before .copy-front .ensures ∙ ap₂ written (ones-part e) (zeros d .stands)
     ∙ written-again (ones e .swept) (zeros d .swept) (output s) (zeros-length d ∙ sym (ones-length e)) in
     twice-ones _ _ _ _ _ (s .pre .1) (ones e .trial) over in-time (λ both.
     let both-in-time : d .make-trial .result .count ≤ limit s = omega (arith, zeros d .trial .counted) in
     omega (arith, zeros-changed d (some e) both-in-time, ones-changed e in-time, fewer both-in-time))
 
-copy-front-requires-3 : tie.Need-copy-front-requires-3
-copy-front-requires-3 c κs =
+unsettled-requires-2 : tie.Need-unsettled-requires-2
+unsettled-requires-2 c κs =
     let d = first (c .before .before .before .before .before .before .before .before .before .before) in
     omega (arith, passed (start d) .fits, d .make-trial .kept .1 .1 .1 .1 .1 .1 .1 .1 .1 .1 .1 .0)
 
-unsettled-requires-2 : tie.Need-unsettled-requires-2
-unsettled-requires-2 c κs = search needs
-
 same-length-10 : tie.Need-same-length-10
-same-length-10 c = let e = c .before .before .before .before .before .before .before .before .before .before .before .before .before .before in e .make-trial2 .kept .1 .1 .1 .1 .1 .0 ∙ first e .make-trial .kept .1 .1 .1 .1 .1 .0
+same-length-10 c =
+    let e = c .before .before .before .before .before .before .before .before .before .before .before .before .before in
+    e .make-trial2 .kept .1 .1 .1 .1 .1 .0 ∙ first e .make-trial .kept .1 .1 .1 .1 .1 .0
 
 same-length-11 : tie.Need-same-length-11
 same-length-11 c = search needs
@@ -227,17 +227,17 @@ same-length-12 c = search needs
 
 returns-4 : tie.Need-returns-4
 returns-4 c =
-    let e = c .before .before .before .before .before .before .before .before .before .before .before .before .before .before in
+    let e = c .before .before .before .before .before .before .before .before .before .before .before .before .before in
     let d = first e in
     let s = start d in
-    let past = c .before .before .before .before .before .if5 .taken in
     let late : limit s < e .make-trial2 .result .count =
     elim (decLe (e .make-trial2 .result .count) (limit s)) [
-      | yes l ↦ absurd (omega (arith, c .before .before .before .before .before .before .before .keeps-ones .ensures .1 (c .before .before .before .before .before .before .if4 .left) l .0))
+      | yes l ↦ absurd (omega (arith, c .before .before .before .before .before .before .keeps-ones .ensures .1 (c .before .before .before .before .before .if4 .left) l .0, c .before .before .before .before .if5 .taken))
       | no l ↦ omega arith
     ] in
-    twice-neither _ _ _ _ _ (s .pre .1) (zeros d .trial) past (omega (arith, ones e .trial .counted)) (put-back d (c .before .before .before .copy-front3 .ensures))
-    (c .unsettled2 .ensures .0) (c .unsettled2 .ensures .1)
+    let (answers, (tells, leaves)) = c .before .before .unsettled2 .ensures in
+    twice-neither _ _ _ _ _ (s .pre .1) (zeros d .trial) (c .before .before .before .before .if5 .taken) (omega (arith, ones e .trial .counted)) (put-back d leaves) answers
+    tells
 
 same-length-13 : tie.Need-same-length-13
 same-length-13 c = search needs
@@ -268,7 +268,6 @@ decode-trials-spec =
     same-length-2
     same-length-3
     returns
-    copy-front-requires
     unsettled-requires
     same-length-4
     same-length-5
@@ -280,12 +279,11 @@ decode-trials-spec =
     sub-copy-front
     part-copy-front-start
     part-copy-front-end
-    copy-front-requires-2
+    copy-front-requires
     same-length-7
     same-length-8
     same-length-9
     returns-3
-    copy-front-requires-3
     unsettled-requires-2
     same-length-10
     same-length-11
