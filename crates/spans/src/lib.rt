@@ -27,16 +27,17 @@ pub fn check_spans(bits: usize, lost: &[u8]) -> Checked
     while j < pairs {
         let start = start_of(lost, j);
         let length = length_of(lost, j);
+        let end = start + length;
         if length == 0 {
             return refuse(refusal::SPAN_OUT_OF_BLOCK);
         }
-        if bits < start + length {
+        if bits < end {
             return refuse(refusal::SPAN_OUT_OF_BLOCK);
         }
         if start < before {
             return refuse(refusal::SPAN_OUT_OF_ORDER);
         }
-        before = start + length;
+        before = end;
         j += 1;
     }
     Checked::Passed

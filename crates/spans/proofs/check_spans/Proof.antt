@@ -63,6 +63,9 @@ stops : (c : tie.After-length-of Inv-loop μ-loop) (number : ℕ) → spanCheck 
 stops c number e =
     spans-refused (bitsIn c) (lostIn c) (head c .loop .j) number 0 (head c .before .if1 .left) (head c .loop .inv .1) e (omega arith)
 
+add-end : tie.Need-add-end Inv-loop μ-loop
+add-end c = search needs
+
 refuse-requires-2 : tie.Need-refuse-requires-2 Inv-loop μ-loop
 refuse-requires-2 c κs = search needs
 
@@ -71,9 +74,6 @@ returns-2 c =
     let read = c .before .before in
     let empty = sym (read .length-of .ensures .0) ∙ c .before .if2 .taken in
     c .refuse2 .ensures ∙ sym (stops read 25 (span-empty (bitsIn read) (lostIn read) (head read .loop .j) empty))
-
-add-if3 : tie.Need-add-if3 Inv-loop μ-loop
-add-if3 c = search needs
 
 refuse-requires-3 : tie.Need-refuse-requires-3 Inv-loop μ-loop
 refuse-requires-3 c κs = search needs
@@ -93,9 +93,6 @@ returns-4 c =
     ∙ sym (stops read 26
     (span-early (bitsIn read) (lostIn read) (head read .loop .j) (λ q. c .before .before .before .if2 .left (read .length-of .ensures .0 ∙ q))
     (omega (arith, ends read)) (omega (arith, read .before .start-of .ensures .0, head read .loop .inv .2))))
-
-add-before : tie.Need-add-before Inv-loop μ-loop
-add-before c = search needs
 
 add-j : tie.Need-add-j Inv-loop μ-loop
 add-j c = search needs
@@ -132,14 +129,13 @@ check-spans-spec =
     loop-holds
     start-of-requires
     length-of-requires
+    add-end
     refuse-requires-2
     returns-2
-    add-if3
     refuse-requires-3
     returns-3
     refuse-requires-4
     returns-4
-    add-before
     add-j
     loop-less
     loop-again
