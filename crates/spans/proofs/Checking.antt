@@ -188,7 +188,7 @@ spans-number N lost {number} {place} e =
 
 -- ---- the bits of a list that passes
 
-pub lost-below : (N : ℕ) (lost : List ℕ) {values : List ℕ} → spansCheck N lost ≡ done values → (i : ℕ) → isLost lost i ≡ true → i < N
+lost-below : (N : ℕ) (lost : List ℕ) {values : List ℕ} → spansCheck N lost ≡ done values → (i : ℕ) → isLost lost i ≡ true → i < N
 lost-below N lost e i l = let (j, below, h, k) = lost-found lost i l in omega (arith, spans-each N lost e j below .within)
 
 pub filled-block : (N b : ℕ) (lost block : List ℕ) {values : List ℕ} → spansCheck N lost ≡ done values → b < 2 → blockCheck N block ≡ done []

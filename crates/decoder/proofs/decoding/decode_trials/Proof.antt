@@ -105,7 +105,9 @@ module _ (c : tie.After-make-trial2) where
       ∙ written-part (ones .swept) (replicate 4096 0) (length (received call) - 0) (omega (arith, ones-length))
 
 make-trial-requires : tie.Need-make-trial-requires
-make-trial-requires c κs = let s = c .before .before .before .before .before .before .before .before .before .before .before in (s .pre .0, (passed s, omega arith))
+make-trial-requires c κs =
+    let s = c .before .before .before .before .before .before .before .before .before .before .before in
+    (s .pre .0, (passed s, omega arith))
 
 same-length : tie.Need-same-length
 same-length c = search needs
@@ -202,7 +204,8 @@ returns-3 c =
     let e = c .before .before .before .before .before .before .before .before .before .before .before .before .before .before in
     let d = first e in
     let s = start d in
-    let (in-time, fewer) = c .before .before .before .before .before .before .before .keeps-ones .ensures .0 (c .before .before .before .before .before .before .if4 .taken) in
+    let kept = c .before .before .before .before .before .before in
+    let (in-time, fewer) = kept .before .keeps-ones .ensures .0 (kept .if4 .taken) in
     let over = c .before .before .copy-front .ensures ∙ ap₂ written (ones-part e) (zeros d .stands)
     ∙ written-again (ones e .swept) (zeros d .swept) (output s) (zeros-length d ∙ sym (ones-length e)) in
     twice-ones _ _ _ _ _ (s .pre .1) (ones e .trial) over in-time (λ both.
@@ -230,14 +233,15 @@ returns-4 c =
     let e = c .before .before .before .before .before .before .before .before .before .before .before .before .before in
     let d = first e in
     let s = start d in
+    let not-kept = c .before .before .before .before .before in
+    let past = c .before .before .before .before .if5 .taken in
     let late : limit s < e .make-trial2 .result .count =
     elim (decLe (e .make-trial2 .result .count) (limit s)) [
-      | yes l ↦ absurd (omega (arith, c .before .before .before .before .before .before .keeps-ones .ensures .1 (c .before .before .before .before .before .if4 .left) l .0, c .before .before .before .before .if5 .taken))
+      | yes l ↦ absurd (omega (arith, not-kept .before .keeps-ones .ensures .1 (not-kept .if4 .left) l .0, past))
       | no l ↦ omega arith
     ] in
     let (answers, (tells, leaves)) = c .before .before .unsettled2 .ensures in
-    twice-neither _ _ _ _ _ (s .pre .1) (zeros d .trial) (c .before .before .before .before .if5 .taken) (omega (arith, ones e .trial .counted)) (put-back d leaves) answers
-    tells
+    twice-neither _ _ _ _ _ (s .pre .1) (zeros d .trial) past (omega (arith, ones e .trial .counted)) (put-back d leaves) answers tells
 
 same-length-13 : tie.Need-same-length-13
 same-length-13 c = search needs
