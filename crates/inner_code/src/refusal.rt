@@ -56,6 +56,11 @@ pub const FLIPS_TOO_MANY: u32 = 17;
 
 pub const FLIPS_NOT_COVERED: u32 = 18;
 
+// the panel's state
+pub const BIT_TOO_LARGE: u32 = 27;
+
+pub const SWEEPS_SPENT: u32 = 28;
+
 // messages
 pub const PLAN_TOO_LARGE: u32 = 19;
 

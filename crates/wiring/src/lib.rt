@@ -22,3 +22,4 @@ pub use plan::MAX_VERTICES;
 pub use plan::check_plan;
 pub use side::SideCode;
 pub use side::SideName;
+pub use side::code_of;

@@ -18,7 +18,7 @@ pub struct SideCode {
 }
 
 // The side of a name.
-pub(crate) fn code_of(side: SideName, left: SideCode, right: SideCode) -> SideCode
+pub fn code_of(side: SideName, left: SideCode, right: SideCode) -> SideCode
     ensures { λ r. ⌜ r ≡ bothCodes left right side ⌝ }
 {
     match side {

@@ -1,0 +1,3 @@
+pub mod TurnedBits
+pub mod Visits
+pub mod Answers

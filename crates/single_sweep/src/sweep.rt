@@ -1,0 +1,93 @@
+// The vertices of a side visited in turn. A vertex that takes another word is counted before and after, and so is, for each bit that changes,
+// the vertex of the other side that reads it: no other vertex reads another word than before.
+use crate::telling::put_told;
+use inner_code::Step;
+use wiring::SideCode;
+use wiring::SideName;
+ghost use mathlib.Core.List.{[]};
+ghost use mathlib.Core.Path.{_≡_};
+ghost use mathlib.Core.Bool.{cond};
+ghost use lib.Dec.{eqb};
+ghost use Rattle.inner_code.specs.Reply.{done};
+ghost use Rattle.tables.specs.Finding.{Finds, Found};
+ghost use Rattle.wiring.specs.Plan.{planOf, sideOf, sheetOf};
+ghost use Rattle.wiring.specs.Checking.{codeOf};
+ghost use Rattle.wiring.specs.declared.side.SideName.{SideName};
+ghost use Rattle.unsatisfied.specs.Count.{countChange};
+ghost use Rattle.decoder.specs.Sweep.{sweep};
+ghost use Rattle.single_sweep.specs.Answer.{onceCheck};
+ghost use Rattle.single_sweep.specs.Telling.{sheetFor, Across};
+
+// Sweeps a side with its finder, and tells the change of the count.
+pub(crate) fn sweep_told(
+    left: &[u8],
+    right: &[u8],
+    nl: usize,
+    nr: usize,
+    wiring: &[u8],
+    left_code: SideCode,
+    right_code: SideCode,
+    side: SideName,
+    finder: &mut [u16],
+    places: &[u16],
+    block: &mut [u8],
+) -> usize
+    requires { ⌜ onceCheck (planOf (now left) (now right) nl nr (now wiring)) (now block) ≡ done [] ⌝ }
+    requires { ⌜ «left_code» ≡ codeOf (planOf (now left) (now right) nl nr (now wiring)) SideName.Left ⌝ }
+    requires { ⌜ «right_code» ≡ codeOf (planOf (now left) (now right) nl nr (now wiring)) SideName.Right ⌝ }
+    requires { ⌜ Finds (sheetOf (planOf (now left) (now right) nl nr (now wiring)) side) (now finder) ⌝ }
+    requires { ⌜ Across (planOf (now left) (now right) nl nr (now wiring)) side (now places) ⌝ }
+    ensures { λ r. ⌜ r ≡ countChange (sideOf (planOf (now (left .entry)) (now (right .entry)) nl nr (now (wiring .entry)))) (now (block .entry)) (now (block .exit)) ⌝ }
+    ensures { λ _. ⌜ now (block .exit) ≡ sweep (sideOf (planOf (now (left .entry)) (now (right .entry)) nl nr (now (wiring .entry))) side) (now (block .entry)) ⌝ }
+{
+    let code = wiring::code_of(side, left_code, right_code);
+    let n = code.n;
+    let d = code.d;
+    let mut change = 65536;
+    let mut v = 0;
+    while v < n {
+        let word = wiring::read_word(side, wiring, d, block, v);
+        if tables::is_codeword(finder, word) {
+            v += 1;
+        } else {
+            let step = nearest_on(left, right, side, finder, word);
+            let told = put_told(
+                left,
+                right,
+                nl,
+                nr,
+                wiring,
+                left_code,
+                right_code,
+                side,
+                v,
+                word ^ step.word,
+                places,
+                block,
+            );
+            change = change + told - 65536 - mended(step.changed);
+            v += 1;
+        }
+    }
+    change
+}
+
+// The step to the nearest word of a side's sheet.
+fn nearest_on(left: &[u8], right: &[u8], side: SideName, finder: &mut [u16], word: u16) -> Step
+    ensures { λ r. ⌜ Found (sheetFor side (now (left .entry)) (now (right .entry))) (now (finder .entry)) word r (now (finder .exit)) ⌝ }
+{
+    match side {
+        SideName::Left => tables::find_nearest(left, finder, word),
+        SideName::Right => tables::find_nearest(right, finder, word),
+    }
+}
+
+// 1 for a vertex that read no codeword and takes one. A tie, which changes no bit, stays unsatisfied: 0.
+fn mended(changed: u32) -> usize
+    ensures { λ r. ⌜ r ≡ cond (eqb changed 0) 0 1 ⌝ }
+{
+    if changed == 0 {
+        return 0;
+    }
+    1
+}

@@ -1,0 +1,77 @@
+-- `unsatisfied::turn_counted` meets its contract: all but the two vertices that read the bit read the same word before and after.
+use borrow.Author.Needs.{needs}
+use Rattle.unsatisfied.proofs.BitChange.{degree-left, degree-right, change-turned}
+use Rattle.unsatisfied.proofs.set.turn_counted.Statement.{statement}
+use Rattle.unsatisfied.proofs.set.turn_counted.Tie as tie
+
+div-u : tie.Need-div-u
+div-u c = degree-left (c .before .before .before .before .before .pre)
+
+entry-with-requires : tie.Need-entry-with-requires
+entry-with-requires c κs = search needs
+
+div-v : tie.Need-div-v
+div-v c = degree-right (c .before .before .before .before .before .before .before .pre)
+
+missed-at-requires : tie.Need-missed-at-requires
+missed-at-requires c κs = search needs
+
+missed-at-requires-2 : tie.Need-missed-at-requires-2
+missed-at-requires-2 c κs = search needs
+
+turn-bit-requires : tie.Need-turn-bit-requires
+turn-bit-requires c κs = search needs
+
+missed-at-requires-3 : tie.Need-missed-at-requires-3
+missed-at-requires-3 c κs = search needs
+
+missed-at-requires-4 : tie.Need-missed-at-requires-4
+missed-at-requires-4 c κs = search needs
+
+add-result : tie.Need-add-result
+add-result c = search needs
+
+add-result-2 : tie.Need-add-result-2
+add-result-2 c = search needs
+
+sub-result : tie.Need-sub-result
+sub-result c = search needs
+
+sub-result-2 : tie.Need-sub-result-2
+sub-result-2 c = search needs
+
+same-length : tie.Need-same-length
+same-length c = search needs
+
+returns : tie.Need-returns
+returns c =
+    let tested = c .before .before in
+    let turns = tested .before .before .before .before in
+    let right-read = turns .before .before in
+    let left-read = right-read .before .before in
+    let entry = left-read .before .before .before in
+    let first = entry .before .before .before .before .before .before in (
+      change-turned (first .pre) (turns .turn-bit .ensures) (entry .entry-with .ensures)
+          (left-read .missed-at .ensures .0) (right-read .missed-at2 .ensures .0) (tested .missed-at3 .ensures .0) (c .missed-at4 .ensures .0)
+          (left-read .missed-at .ensures .1) (right-read .missed-at2 .ensures .1),
+      turns .turn-bit .ensures,
+    )
+
+pub turn-counted-spec : {M : Type 1} → statement M
+turn-counted-spec =
+    tie.close
+    (tie.spec
+    div-u
+    entry-with-requires
+    div-v
+    missed-at-requires
+    missed-at-requires-2
+    turn-bit-requires
+    missed-at-requires-3
+    missed-at-requires-4
+    add-result
+    add-result-2
+    sub-result
+    sub-result-2
+    same-length
+    returns)
