@@ -6,6 +6,7 @@ use inner_code::Nearest;
 use inner_code::Refusal;
 use messages::Encoded;
 use messages::Taken;
+use panel::Shown;
 use radius::Margin;
 use radius::Spread;
 use report::Reported;
@@ -23,7 +24,8 @@ ghost use Rattle.decoder.specs.Answer.{decodeAnswer, decodeSums, decodeOutput};
 ghost use Rattle.report.specs.Answer.{reportAnswer, reportList};
 ghost use Rattle.radius.specs.Answer.{spreadAnswer, marginAnswer};
 ghost use Rattle.messages.specs.Answer.{encodeAnswer, encodeOutput, readAnswer, readOutput};
-ghost use Rattle.c_api.specs.Answer.{told, toldWord, toldDecode, toldPlace};
+ghost use Rattle.panel.specs.Answer.{loadAnswer, loadOutput, sweepAnswer, sweepOutput, setAnswer, setOutput, shownReply};
+ghost use Rattle.c_api.specs.Answer.{told, toldWord, toldDecode, toldPlace, toldState};
 
 // What a call answers. Number 0: the call is done, and `value` is its value. Any other number is the paper's refusal, and `place` the
 // row or entry at fault. The locator alone uses both fields of a call that is done: `place` is 0 for none, 1 for left and 2 for right, and
@@ -51,6 +53,16 @@ pub struct DecodeAnswer {
     pub place: u32,
     pub value: u64,
     pub sums: [u16; SUMS],
+}
+
+// What a call on a state answers: as above, the value being the number of unsatisfied vertices that the state has after the call, and beside it
+// its sweep number; both are 0 with a refusal.
+#[repr(C)]
+pub struct StateAnswer {
+    pub number: u32,
+    pub place: u32,
+    pub value: u64,
+    pub sweeps: u64,
 }
 
 // The nearest word of a word, and how many bits it changes. Refusals 1 to 6 and 12.
@@ -266,6 +278,79 @@ pub extern "C" fn lembikat_read(
     match messages::read_block(left, right, nl, nr, wiring, block, output) {
         Taken::Done => done(0),
         Taken::Refused(r) => refused(r),
+    }
+}
+
+// Puts the state of a block at the front of `state`: the number of its unsatisfied vertices, sweep 0, and the block. Refusals 1 to 13 and 23; a
+// refusal writes nothing.
+#[no_mangle]
+pub extern "C" fn lembikat_load_state(
+    left: &[u8],
+    right: &[u8],
+    nl: usize,
+    nr: usize,
+    wiring: &[u8],
+    block: &[u8],
+    state: &mut [u8],
+) -> StateAnswer
+    ensures { λ r. ⌜ r ≡ toldState (loadAnswer (planOf (now (left .entry)) (now (right .entry)) nl nr (now (wiring .entry))) (now (block .entry)) (now (state .entry))) ⌝ }
+    ensures { λ _. ⌜ now (state .exit) ≡ loadOutput (planOf (now (left .entry)) (now (right .entry)) nl nr (now (wiring .entry))) (now (block .entry)) (now (state .entry)) ⌝ }
+{
+    shown(panel::load_state(left, right, nl, nr, wiring, block, state))
+}
+
+// Makes the next sweep of a state; one whose count is 0 is settled and stays as it is. Refusals 1 to 12, 23 and 28; a refusal writes nothing.
+#[no_mangle]
+pub extern "C" fn lembikat_sweep_state(
+    left: &[u8],
+    right: &[u8],
+    nl: usize,
+    nr: usize,
+    wiring: &[u8],
+    state: &mut [u8],
+) -> StateAnswer
+    ensures { λ r. ⌜ r ≡ toldState (sweepAnswer (planOf (now (left .entry)) (now (right .entry)) nl nr (now (wiring .entry))) (now (state .entry))) ⌝ }
+    ensures { λ _. ⌜ now (state .exit) ≡ sweepOutput (planOf (now (left .entry)) (now (right .entry)) nl nr (now (wiring .entry))) (now (state .entry)) ⌝ }
+{
+    shown(panel::sweep_state(left, right, nl, nr, wiring, state))
+}
+
+// Sets a bit of a state's block, to 0 for the value 0 and to 1 for any other, and begins again at sweep 0. Refusals 1 to 12, 23 and 27; a refusal
+// writes nothing.
+#[no_mangle]
+pub extern "C" fn lembikat_set_bit(
+    left: &[u8],
+    right: &[u8],
+    nl: usize,
+    nr: usize,
+    wiring: &[u8],
+    bit: usize,
+    value: u64,
+    state: &mut [u8],
+) -> StateAnswer
+    ensures { λ r. ⌜ r ≡ toldState (setAnswer (planOf (now (left .entry)) (now (right .entry)) nl nr (now (wiring .entry))) bit value (now (state .entry))) ⌝ }
+    ensures { λ _. ⌜ now (state .exit) ≡ setOutput (planOf (now (left .entry)) (now (right .entry)) nl nr (now (wiring .entry))) bit value (now (state .entry)) ⌝ }
+{
+    shown(panel::set_bit(left, right, nl, nr, wiring, bit, value, state))
+}
+
+// The answer of a call on a state.
+fn shown(answer: Shown) -> StateAnswer
+    ensures { λ r. ⌜ r ≡ toldState (shownReply answer) ⌝ }
+{
+    match answer {
+        Shown::State { count, sweeps } => StateAnswer {
+            number: 0,
+            place: 0,
+            value: count as u64,
+            sweeps: sweeps as u64,
+        },
+        Shown::Refused(refusal) => StateAnswer {
+            number: refusal.number,
+            place: refusal.place,
+            value: 0,
+            sweeps: 0,
+        },
     }
 }
 

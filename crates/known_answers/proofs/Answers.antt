@@ -28,6 +28,9 @@ use Rattle.spans.specs.Spans.{pairCount, startOf, lengthOf, endOf, endBefore, s
 use Rattle.decoder.specs.Sweep.{visited, sweep, other, turn, afterSweeps}
 use Rattle.decoder.specs.Decode.{settlesAt, sweepSum, sweepSums, trial, keepsOnes, decoding}
 use Rattle.decoder.specs.Answer.{decodeCheck, decodeAnswer, decodeSums, decodeOutput}
+use Rattle.unsatisfied.specs.Count.{unsatisfiedAt, unsatisfiedCount, countChange}
+use Rattle.panel.specs.State.{stateBytes, countIn, sweepsIn, blockIn, stateOf, loadedState, movedCount, sweptState, setTo, setState}
+use Rattle.panel.specs.Answer.{stateCheck, told, loadCheck, loadAnswer, loadOutput, sweepCheck, sweepAnswer, sweepOutput, setCheck, setAnswer, setOutput}
 use Rattle.radius.specs.Spread.{meeting, unevenness, spread}
 use Rattle.radius.specs.Margin.{slack, stepCovered, nextBound, oneMore, chainSweeps, sweepsNamed}
 use Rattle.radius.specs.Answer.{marginAnswer}
@@ -71,6 +74,8 @@ unfolding
     filledBelow filled keepsOnes decoding decodeCheck decodeAnswer decodeSums written values flips decodeOutput meeting unevenness largest spread slack
     stepCovered nextBound oneMore chainSweeps sweepsNamed marginAnswer bitsPut blockOf codewordNumber isPosition positionsBefore carries
     encodedNumber encodedBlock pairs houseTable smallestOf isSmallest classOf tieMark tableBytes buildAnswer buildOutput patternIn lookUpAnswer
+    unsatisfiedAt unsatisfiedCount countChange stateBytes countIn sweepsIn blockIn stateOf loadedState movedCount sweptState setTo setState stateCheck told
+    loadCheck loadAnswer loadOutput sweepCheck sweepAnswer sweepOutput setCheck setAnswer setOutput
 examples-hold = refl
 
 pub known-answers : allHold table ≡ true

@@ -1,3 +1,4 @@
 pub mod Answers
 pub mod FirstSum
 pub mod PairPlan
+pub mod PanelRestored

@@ -26,6 +26,8 @@ use Rattle.wiring.specs.Plan.{Plan, planOf}
 use Rattle.wiring.specs.Square.{squareWiring, squarePlan}
 use Rattle.wiring.specs.declared.side.SideName.{SideName}
 use Rattle.decoder.specs.Answer.{decodeAnswer, decodeSums, decodeOutput}
+use Rattle.panel.specs.State.{stateOf}
+use Rattle.panel.specs.Answer.{loadAnswer, loadOutput, sweepAnswer, sweepOutput, setAnswer, setOutput}
 use Rattle.radius.specs.Margin.{sweepsNamed}
 use Rattle.radius.specs.Answer.{marginAnswer}
 use Rattle.messages.specs.Message.{encodedBlock}
@@ -42,6 +44,12 @@ pub data Row : Type 0 where
   -- a plan of one byte: a received byte, its lost spans and a limit, the decoder's answer, the byte in its output and the sum of its first
   -- sweep; the others are 0
   decoded : Plan → ℕ → List ℕ → ℕ → Reply → ℕ → ℕ → Row
+  -- a plan of one byte: a block and lent bytes, what loading answers, and the bytes afterwards
+  loaded : Plan → ℕ → List ℕ → Reply → List ℕ → Row
+  -- a plan of one byte: a state, what a sweep call on it answers, and the state afterwards
+  stepped : Plan → List ℕ → Reply → List ℕ → Row
+  -- a plan of one byte: a bit, a value and a state, what setting the bit answers, and the state afterwards
+  bitSet : Plan → ℕ → ℕ → List ℕ → Reply → List ℕ → Row
   -- the pair plan: a message byte and the byte that it encodes to
   message : ℕ → ℕ → Row
   -- a house word looked up in a table, and the answer
@@ -104,7 +112,7 @@ quadPlan = lonePlan 4 3 (0 ∷ 0 ∷ 0 ∷ 1 ∷ 0 ∷ 2 ∷ 0 ∷ 3 ∷ [])
 unfoldable pub holds : Row → Bool
 unfolding
     nearestAnswer sameReply sameList squareWiring marginAnswer sweepsNamed decodeAnswer decodeSums decodeOutput encodedBlock lookUpAnswer buildAnswer
-    buildOutput
+    buildOutput loadAnswer loadOutput sweepAnswer sweepOutput setAnswer setOutput
 holds (house word nearest changed) = sameReply (nearestAnswer houseSheet word) (done (nearest ∷ changed ∷ []))
 holds (square flips reply) = sameReply (marginAnswer squarePlan flips) reply
 holds (margin n d D R flips sweeps) = eqb (named n d n D D R flips) sweeps
@@ -113,6 +121,11 @@ holds (decoded plan received lost limit reply left sum) =
     sameReply (decodeAnswer plan (received ∷ []) lost (0 ∷ []) limit) reply
     && (sameList (decodeOutput plan (received ∷ []) lost (0 ∷ []) limit) (left ∷ [])
     && sameList (decodeSums plan (received ∷ []) lost (0 ∷ []) limit) (sum ∷ replicate 63 0))
+holds (loaded plan block lent reply left) =
+    sameReply (loadAnswer plan (block ∷ []) lent) reply && sameList (loadOutput plan (block ∷ []) lent) left
+holds (stepped plan state reply left) = sameReply (sweepAnswer plan state) reply && sameList (sweepOutput plan state) left
+holds (bitSet plan bit value state reply left) =
+    sameReply (setAnswer plan bit value state) reply && sameList (setOutput plan bit value state) left
 holds (message byte encoded) = sameList (encodedBlock pairPlan (byte ∷ [])) (encoded ∷ [])
 holds (lookedUp word bytes reply) = sameReply (lookUpAnswer houseSheet word bytes) reply
 holds (built output reply left) = sameReply (buildAnswer houseSheet output) reply && sameList (buildOutput houseSheet output) left
@@ -123,7 +136,7 @@ allHold [] = true
 allHold (row ∷ rows) = holds row && allHold rows
 
 unfoldable pub examples : List Row
-unfolding pairs houseTable
+unfolding pairs houseTable stateOf
 examples =
     house 0x01 0x00 1
     ∷ house 0x07 0x0f 1
@@ -155,6 +168,18 @@ examples =
     ∷ decoded triplePlan 0xc0 (pairs (2 ∷ 2 ∷ [])) 0 (refused 25 0) 0 0
     ∷ decoded triplePlan 0xc0 (pairs (0xffff ∷ 2 ∷ [])) 0 (refused 25 0) 0 0
     ∷ decoded triplePlan 0xc0 (pairs (0 ∷ 2 ∷ 1 ∷ 1 ∷ 0 ∷ 0 ∷ [])) 0 (refused 26 0) 0 0
+    ∷ loaded triplePlan 0xc0 (replicate 5 0 ++ (7 ∷ [])) (done (2 ∷ 0 ∷ [])) (stateOf 2 0 (0xc0 ∷ 7 ∷ []))
+    ∷ loaded triplePlan 0xc0 (replicate 4 7) (refused 13 0) (replicate 4 7)
+    ∷ stepped triplePlan (stateOf 2 0 (0xc0 ∷ [])) (done (0 ∷ 1 ∷ [])) (stateOf 0 1 (0xe0 ∷ []))
+    ∷ stepped triplePlan (stateOf 0 1 (0xe0 ∷ [])) (done (0 ∷ 1 ∷ [])) (stateOf 0 1 (0xe0 ∷ []))
+    ∷ stepped triplePlan (stateOf 0 0xffff (0xc0 ∷ [])) (done (0 ∷ 0xffff ∷ [])) (stateOf 0 0xffff (0xc0 ∷ []))
+    ∷ stepped triplePlan (stateOf 1 0 (0xc0 ∷ [])) (done (0xffff ∷ 1 ∷ [])) (stateOf 0xffff 1 (0xe0 ∷ []))
+    ∷ stepped triplePlan (stateOf 2 0 []) (refused 11 0) (stateOf 2 0 [])
+    ∷ stepped pairPlan (stateOf 2 4095 (0x80 ∷ [])) (done (2 ∷ 4096 ∷ [])) (stateOf 2 4096 (0x80 ∷ []))
+    ∷ stepped pairPlan (stateOf 2 4096 (0x80 ∷ [])) (refused 28 0) (stateOf 2 4096 (0x80 ∷ []))
+    ∷ bitSet triplePlan 0 0 (stateOf 0 1 (0xe0 ∷ [])) (done (2 ∷ 0 ∷ [])) (stateOf 2 0 (0x60 ∷ []))
+    ∷ bitSet triplePlan 0 2 (stateOf 0 1 (0xe0 ∷ [])) (done (0 ∷ 0 ∷ [])) (stateOf 0 0 (0xe0 ∷ []))
+    ∷ bitSet triplePlan 3 1 (stateOf 0 1 (0xe0 ∷ [])) (refused 27 0) (stateOf 0 1 (0xe0 ∷ []))
     ∷ message 0x80 0xc0
     ∷ lookedUp 0x07 houseTable (done (0x0f ∷ 1 ∷ []))
     ∷ lookedUp 0xc0 houseTable (done (0xc0 ∷ 0 ∷ []))

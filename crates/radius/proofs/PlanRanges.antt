@@ -145,7 +145,7 @@ first-row row (suc zero) l = codeword-last-row row 0
 first-row row (suc (suc k)) l = codeword-more row (suc k) (row 0) (first-row row (suc k) (omega arith))
 
 -- the first row is a nonzero codeword of d digits
-distance-most : (sheet : List ℕ) → Sound sheet → distance (rowOf sheet) (rowCount sheet) ≤ degree sheet
+pub distance-most : (sheet : List ℕ) → Sound sheet → distance (rowOf sheet) (rowCount sheet) ≤ degree sheet
 distance-most sheet s =
     let first : ℕ = rowOf sheet 0 in
     let nonzero : 0 < first =

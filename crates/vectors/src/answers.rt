@@ -5,6 +5,7 @@ use decoder::Decoded;
 use inner_code::Nearest;
 use messages::Encoded;
 use messages::Taken;
+use panel::Shown;
 use radius::Margin;
 use radius::Spread;
 use report::Reported;
@@ -72,6 +73,29 @@ fn on_plan(service: u8, left: &[u8], right: &[u8], nl: usize, nr: usize, wiring:
         margin(left, right, nl, nr, wiring, flips);
         return;
     }
+    if service == 13 {
+        let mut space = [0u8; 70000];
+        let state = input::bytes(&mut space);
+        sweep(left, right, nl, nr, wiring, &mut space[..state]);
+        return;
+    }
+    if service == 14 {
+        let bit = input::number();
+        let value = input::number();
+        let mut space = [0u8; 70000];
+        let state = input::bytes(&mut space);
+        set_bit(
+            left,
+            right,
+            nl,
+            nr,
+            wiring,
+            bit as usize,
+            value,
+            &mut space[..state],
+        );
+        return;
+    }
     let mut block_space = [0u8; 70000];
     let block = input::bytes(&mut block_space);
     on_block(service, left, right, nl, nr, wiring, &block_space[..block]);
@@ -99,6 +123,10 @@ fn on_block(
     }
     if service == 4 {
         decode_around(left, right, nl, nr, wiring, block, &space[..second]);
+        return;
+    }
+    if service == 12 {
+        load(left, right, nl, nr, wiring, block, &mut space[..second]);
         return;
     }
     if service == 8 {
@@ -335,4 +363,54 @@ fn read(
     }
     output::text(b" ");
     output::bytes(output);
+}
+
+fn load(
+    left: &[u8],
+    right: &[u8],
+    nl: usize,
+    nr: usize,
+    wiring: &[u8],
+    block: &[u8],
+    state: &mut [u8],
+) {
+    state_line(panel::load_state(left, right, nl, nr, wiring, block, state));
+    output::text(b" ");
+    output::bytes(state);
+}
+
+fn sweep(left: &[u8], right: &[u8], nl: usize, nr: usize, wiring: &[u8], state: &mut [u8]) {
+    state_line(panel::sweep_state(left, right, nl, nr, wiring, state));
+    output::text(b" ");
+    output::bytes(state);
+}
+
+fn set_bit(
+    left: &[u8],
+    right: &[u8],
+    nl: usize,
+    nr: usize,
+    wiring: &[u8],
+    bit: usize,
+    value: u64,
+    state: &mut [u8],
+) {
+    state_line(panel::set_bit(left, right, nl, nr, wiring, bit, value, state));
+    output::text(b" ");
+    output::bytes(state);
+}
+
+// A call on a state: its count and sweep number stand in the state itself, which the line shows.
+fn state_line(answer: Shown) {
+    match answer {
+        Shown::State {
+            count: _,
+            sweeps: _,
+        } => {
+            output::text(b"ok");
+        }
+        Shown::Refused(r) => {
+            output::refused(r.number, r.place);
+        }
+    }
 }
