@@ -1,4 +1,5 @@
-# make run       proves and builds everything, writes the margin sheets of two built-in plans and carries a caption over a simulated link
+# make run       proves and builds everything, writes the margin sheets of two built-in plans, carries a caption over a simulated link and
+#                shows the last page of a panel
 # make test      the gate: every proof, every wrong program refused, every stored run, the C host's tests
 # make bench     the library beside plain C; make bench EXPERT=FILE also beside the decoder expert_decode8 in that C file
 # make install   the library, its header and pkg-config file, the program margin and its man page, below PREFIX
@@ -20,7 +21,7 @@ AT = $(DESTDIR)$(PREFIX)
 .NOTPARALLEL:
 .PHONY: run test bench host install uninstall clean
 
-run: target/bin/margin $(BUILD)/caption_link
+run: target/bin/margin $(BUILD)/caption_link $(BUILD)/panel
 	@echo
 	@echo "16 carriers, 8 time slots: the margin sheet of the example host's plan; up to 5 flipped bits in a block of 128 are mended"
 	@target/bin/margin <tests/carrier-plan.bin
@@ -29,12 +30,15 @@ run: target/bin/margin $(BUILD)/caption_link
 	@target/bin/margin <tests/square-plan.bin
 	@echo
 	@$(BUILD)/caption_link
+	@echo
+	@echo "the last page of the panel, which at a terminal is redrawn after every sweep: $(BUILD)/panel"
+	@$(BUILD)/panel | tail -n 4
 
 test:
 	bash .ci/run
 
 # the C host's programs
-host: $(BUILD)/caption_link $(BUILD)/test_vectors $(BUILD)/test_stack $(BUILD)/bench
+host: $(BUILD)/caption_link $(BUILD)/panel $(BUILD)/test_vectors $(BUILD)/test_stack $(BUILD)/bench
 
 ifdef EXPERT
 bench: $(BUILD)/bench_expert
@@ -57,8 +61,11 @@ $(LIBRARY): $(SOURCES)
 	@rt staticlib c_api 2>&1 | tee $(BUILD)/prove.log | grep --line-buffered '^rt:' || { cat $(BUILD)/prove.log; exit 1; }
 	objcopy --set-section-alignment '.text*=64' target/staticlib/libc_api.a $@
 
-$(BUILD)/caption_link: host/caption_link.c include/lembikat.h $(LIBRARY)
+$(BUILD)/caption_link: host/caption_link.c host/carriers.h include/lembikat.h $(LIBRARY)
 	$(CC) $(CFLAGS) -Iinclude host/caption_link.c $(LIBRARY) -o $@
+
+$(BUILD)/panel: host/panel.c host/carriers.h include/lembikat.h $(LIBRARY)
+	$(CC) $(CFLAGS) -Iinclude host/panel.c $(LIBRARY) -o $@
 
 $(BUILD)/test_vectors: host/test_vectors.c host/reference.c host/reference.h include/lembikat.h $(LIBRARY)
 	$(CC) $(SANITIZED) -Iinclude host/test_vectors.c host/reference.c $(LIBRARY) -o $@

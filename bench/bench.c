@@ -276,7 +276,7 @@ static uint64_t plain_looks_up(const plan *p)
     return (uint64_t)number * 65536u + found;
 }
 
-/* What the locator, the report and the spread find, and the report's list. */
+/* What the locator, the report, the spread and the calls on a state find, and the report's list. */
 static uint64_t my_value, their_value;
 static uint8_t my_list[LEMBIKAT_MAX_LIST_BYTES], their_list[LEMBIKAT_MAX_LIST_BYTES];
 
@@ -294,6 +294,63 @@ static uint64_t plain_locates(const plan *p)
     int number = plain_locate(PLAN, received, block_bytes(p), &side, &vertex);
     their_value = side * 65536u + vertex;
     return (uint64_t)number * 65536u;
+}
+
+/* A state, which each call on one gets anew, since it changes it; the bit that is set is turned. What the library's answer
+   tells of the state is held to what stands in plain C's. */
+static uint8_t fresh_state[LEMBIKAT_MAX_STATE_BYTES], my_state[LEMBIKAT_MAX_STATE_BYTES], their_state[LEMBIKAT_MAX_STATE_BYTES];
+static size_t turned_bit;
+static uint64_t turned_to;
+
+static size_t state_bytes(const plan *p)
+{
+    return LEMBIKAT_STATE_BYTES(edges(p));
+}
+
+static uint64_t library_tells(lembikat_state_answer a)
+{
+    my_value = a.value * 65536u + a.sweeps;
+    return a.number * 65536u;
+}
+
+static uint64_t plain_tells(int number)
+{
+    their_value = their_state[0] * 16777216u + their_state[1] * 65536u + their_state[2] * 256u + their_state[3];
+    return (uint64_t)number * 65536u;
+}
+
+static uint64_t library_loads(const plan *p)
+{
+    return library_tells(lembikat_load_state(PLAN, received, block_bytes(p), my_state, state_bytes(p)));
+}
+
+static uint64_t plain_loads(const plan *p)
+{
+    return plain_tells(plain_load_state(PLAN, received, block_bytes(p), their_state, state_bytes(p)));
+}
+
+static uint64_t library_sweeps(const plan *p)
+{
+    memcpy(my_state, fresh_state, state_bytes(p));
+    return library_tells(lembikat_sweep_state(PLAN, my_state, state_bytes(p)));
+}
+
+static uint64_t plain_sweeps(const plan *p)
+{
+    memcpy(their_state, fresh_state, state_bytes(p));
+    return plain_tells(plain_sweep_state(PLAN, their_state, state_bytes(p)));
+}
+
+static uint64_t library_sets(const plan *p)
+{
+    memcpy(my_state, fresh_state, state_bytes(p));
+    return library_tells(lembikat_set_bit(PLAN, turned_bit, turned_to, my_state, state_bytes(p)));
+}
+
+static uint64_t plain_sets(const plan *p)
+{
+    memcpy(their_state, fresh_state, state_bytes(p));
+    return plain_tells(plain_set_bit(PLAN, turned_bit, turned_to, their_state, state_bytes(p)));
 }
 
 static uint64_t library_reports(const plan *p)
@@ -358,7 +415,7 @@ static int differ(const plan *p, uint64_t says, uint64_t other)
 {
     return says != other || my_value != their_value || memcmp(mine, theirs, block_bytes(p)) != 0 ||
            memcmp(my_sums, their_sums, sizeof my_sums) != 0 || memcmp(my_list, their_list, sizeof my_list) != 0 ||
-           memcmp(my_table, their_table, sizeof my_table) != 0;
+           memcmp(my_table, their_table, sizeof my_table) != 0 || memcmp(my_state, their_state, sizeof my_state) != 0;
 }
 
 /* One line of the table. Answers whether the two differ. */
@@ -396,6 +453,8 @@ static int row(const plan *p, const char *input, work library, work plain)
         snprintf(ends, sizeof ends, "built");
     else if (library == library_finds || library == library_looks_up)
         snprintf(ends, sizeof ends, "%u changed", my_sums[0]);
+    else if (library == library_loads || library == library_sweeps || library == library_sets)
+        snprintf(ends, sizeof ends, "count %u", (unsigned)(my_value / 65536u));
     else if (library == library_locates)
         snprintf(ends, sizeof ends, "%s", my_value ? "located" : "nowhere");
     else if (library == library_reports)
@@ -405,7 +464,7 @@ static int row(const plan *p, const char *input, work library, work plain)
     else
         snprintf(ends, sizeof ends, "%u sweep%s", (unsigned)says, says == 1 ? "" : "s");
     double mine_us = 1e6 * a[RUNS / 2], plain_us = 1e6 * b[RUNS / 2], expert_us = 1e6 * c[RUNS / 2];
-    printf("%-22s %-13s %-11s %12.2f %12.2f %8.2f", p->name, input, ends, plain_us, mine_us, plain_us / mine_us);
+    printf("%-22s %-19s %-11s %12.2f %12.2f %8.2f", p->name, input, ends, plain_us, mine_us, plain_us / mine_us);
     if (expert)
         printf(" %12.2f %8.2f", expert_us, mine_us / expert_us);
     printf("\n");
@@ -490,6 +549,32 @@ static int other_rows(const plan *p, unsigned flips)
     return failed | row(p, "spread", library_spreads, plain_spreads);
 }
 
+/* The calls on a state: loading, a sweep of either side, and a bit turned. The states are of the codeword sent with so many
+   bits flipped, as loaded; for a sweep of the right side their sweep number is made 1. */
+static int state_rows(const plan *p, unsigned many)
+{
+    const unsigned flips[3] = {1, 20, many};
+    char input[24];
+    int failed = 0;
+    for (int f = 0; f < 3; f++) {
+        damage(p, flips[f]);
+        failed |= plain_load_state(PLAN, received, block_bytes(p), fresh_state, state_bytes(p));
+        if (f == 1)
+            failed |= row(p, "load, 20 flips", library_loads, plain_loads);
+        for (unsigned sweeps = 0; sweeps < 2; sweeps++) {
+            put_pair(fresh_state + 2, sweeps);
+            snprintf(input, sizeof input, "sweep %u, %u flip%s", sweeps, flips[f], flips[f] == 1 ? "" : "s");
+            failed |= row(p, input, library_sweeps, plain_sweeps);
+        }
+        if (f == 1) {
+            turned_bit = draw((uint32_t)edges(p));
+            turned_to = !(fresh_state[LEMBIKAT_STATE_HEAD_BYTES + turned_bit / 8] >> (7 - turned_bit % 8) & 1);
+            failed |= row(p, "a bit set", library_sets, plain_sets);
+        }
+    }
+    return failed;
+}
+
 /* The encoder, on a message of the right length with its first bits set. */
 static int encoder_row(const plan *p)
 {
@@ -536,7 +621,7 @@ int main(int count, char **words)
     int failed = 0;
     timing = !(count > 1 && strcmp(words[1], "check") == 0);
     if (timing)
-        printf("%-22s %-13s %-11s %12s %12s %8s%s\n", "plan", "input", "ends", "plain C, us", "library, us", "ratio",
+        printf("%-22s %-19s %-11s %12s %12s %8s%s\n", "plan", "input", "ends", "plain C, us", "library, us", "ratio",
                with_expert ? "   expert, us  of that" : "");
     set_squares(&p, "house, n 64", &house, 64);
     failed |= decoder_rows(&p, 2, 12);
@@ -571,5 +656,15 @@ int main(int count, char **words)
     failed |= encoder_row(&p);
     set_rectangles(&p, "carriers, 2048 by 1024", &house, &k_11, 128);
     failed |= decoder_rows(&p, 3, 160);
+
+    /* States, on some of the plans above. */
+    set_squares(&p, "house, n 64", &house, 64);
+    failed |= state_rows(&p, 60);
+    set_squares(&p, "house, n 2048", &house, 2048);
+    failed |= state_rows(&p, 2000);
+    set_squares(&p, "d 16 k 5, n 2048", &k_5, 2048);
+    failed |= state_rows(&p, 2000);
+    set_squares(&p, "d 16 k 11, n 2048", &k_11, 2048);
+    failed |= state_rows(&p, 2000);
     return failed;
 }

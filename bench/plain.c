@@ -1,4 +1,4 @@
-/* The plain C of the benchmark: decoder, nearest word, locator, report, spread, encoder and tables. */
+/* The plain C of the benchmark: decoder, states, nearest word, locator, report, spread, encoder and tables. */
 #include "plain.h"
 
 #include <string.h>
@@ -309,6 +309,95 @@ int plain_decode(const uint8_t *left_sheet, size_t left_sheet_bytes, const uint8
     *sweeps = 0;
     memcpy(output, received, received_bytes);
     return 15;
+}
+
+/* ---- states ---- */
+
+#define HEAD 4 /* the bytes before the block: count and sweep number */
+
+static void put_number(uint8_t *bytes, size_t number)
+{
+    bytes[0] = (uint8_t)(number >> 8);
+    bytes[1] = (uint8_t)number;
+}
+
+static size_t get_number(const uint8_t *bytes)
+{
+    return bytes[0] * 256u + bytes[1];
+}
+
+static int check_state(const plan *p, const uint8_t *state, size_t bytes)
+{
+    if (bytes < HEAD)
+        return 11;
+    return check_block(p, state + HEAD, bytes - HEAD);
+}
+
+static size_t count_unsatisfied(const plan *p, const uint8_t *wiring, const uint8_t *block)
+{
+    size_t count = 0;
+    for (int right = 0; right < 2; right++)
+        for (size_t v = 0; v < p->n[right]; v++)
+            count += !is_word(&p->codes[right], read_word(&p->codes[right], right, wiring, block, v));
+    return count;
+}
+
+int plain_load_state(const uint8_t *left_sheet, size_t left_sheet_bytes, const uint8_t *right_sheet, size_t right_sheet_bytes,
+                     size_t nl, size_t nr, const uint8_t *wiring, size_t wiring_bytes, const uint8_t *block, size_t block_bytes,
+                     uint8_t *state, size_t state_bytes)
+{
+    plan p;
+    int fault = check_plan(left_sheet, left_sheet_bytes, right_sheet, right_sheet_bytes, nl, nr, wiring, wiring_bytes, &p);
+    if (!fault)
+        fault = check_block(&p, block, block_bytes);
+    if (fault)
+        return fault;
+    if (state_bytes < HEAD + block_bytes)
+        return 13;
+    put_number(state, count_unsatisfied(&p, wiring, block));
+    put_number(state + 2, 0);
+    memcpy(state + HEAD, block, block_bytes);
+    return 0;
+}
+
+int plain_sweep_state(const uint8_t *left_sheet, size_t left_sheet_bytes, const uint8_t *right_sheet, size_t right_sheet_bytes,
+                      size_t nl, size_t nr, const uint8_t *wiring, size_t wiring_bytes, uint8_t *state, size_t state_bytes)
+{
+    plan p;
+    int fault = check_plan(left_sheet, left_sheet_bytes, right_sheet, right_sheet_bytes, nl, nr, wiring, wiring_bytes, &p);
+    if (!fault)
+        fault = check_state(&p, state, state_bytes);
+    if (fault)
+        return fault;
+    if (get_number(state) == 0)
+        return 0;
+    size_t sweeps = get_number(state + 2);
+    if (sweeps >= 4096)
+        return 28;
+    int right = sweeps % 2;
+    sweep(&p.codes[right], right, p.n[right], wiring, state + HEAD);
+    put_number(state, count_unsatisfied(&p, wiring, state + HEAD));
+    put_number(state + 2, sweeps + 1);
+    return 0;
+}
+
+int plain_set_bit(const uint8_t *left_sheet, size_t left_sheet_bytes, const uint8_t *right_sheet, size_t right_sheet_bytes,
+                  size_t nl, size_t nr, const uint8_t *wiring, size_t wiring_bytes, size_t bit, uint64_t value, uint8_t *state,
+                  size_t state_bytes)
+{
+    plan p;
+    int fault = check_plan(left_sheet, left_sheet_bytes, right_sheet, right_sheet_bytes, nl, nr, wiring, wiring_bytes, &p);
+    if (!fault)
+        fault = check_state(&p, state, state_bytes);
+    if (fault)
+        return fault;
+    if (bit >= p.edges)
+        return 27;
+    uint8_t *byte = state + HEAD + bit / 8, mask = (uint8_t)(128u >> (bit % 8));
+    *byte = (uint8_t)(value ? *byte | mask : *byte & ~mask);
+    put_number(state, count_unsatisfied(&p, wiring, state + HEAD));
+    put_number(state + 2, 0);
+    return 0;
 }
 
 /* ---- locator, report, spread ---- */

@@ -25,6 +25,17 @@ int plain_decode(const uint8_t *left_sheet, size_t left_sheet_bytes, const uint8
                  size_t received_bytes, const uint8_t *lost, size_t lost_bytes, uint8_t *output, size_t output_bytes,
                  size_t limit, size_t *sweeps, uint16_t sums[64]);
 
+/* The calls on a state, by counting all unsatisfied vertices of the block anew at the end of each call: what the count was does
+ * not matter, but for 0. On a state whose count is true this is what the library does. */
+int plain_load_state(const uint8_t *left_sheet, size_t left_sheet_bytes, const uint8_t *right_sheet, size_t right_sheet_bytes,
+                     size_t nl, size_t nr, const uint8_t *wiring, size_t wiring_bytes, const uint8_t *block, size_t block_bytes,
+                     uint8_t *state, size_t state_bytes);
+int plain_sweep_state(const uint8_t *left_sheet, size_t left_sheet_bytes, const uint8_t *right_sheet, size_t right_sheet_bytes,
+                      size_t nl, size_t nr, const uint8_t *wiring, size_t wiring_bytes, uint8_t *state, size_t state_bytes);
+int plain_set_bit(const uint8_t *left_sheet, size_t left_sheet_bytes, const uint8_t *right_sheet, size_t right_sheet_bytes,
+                  size_t nl, size_t nr, const uint8_t *wiring, size_t wiring_bytes, size_t bit, uint64_t value, uint8_t *state,
+                  size_t state_bytes);
+
 /* The first vertex that reads no inner codeword: its side (1 left, 2 right) and its number, both 0 where there is none. */
 int plain_locate(const uint8_t *left_sheet, size_t left_sheet_bytes, const uint8_t *right_sheet, size_t right_sheet_bytes,
                  size_t nl, size_t nr, const uint8_t *wiring, size_t wiring_bytes, const uint8_t *block, size_t block_bytes,

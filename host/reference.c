@@ -1,7 +1,8 @@
 /* The services as documents 01 and 02 state them, by the plainest means: codewords are listed, the nearest word and the test
  * try all of them, the patterns with the fewest ones are counted, the classes of a table are found by going through all words,
  * a block is held with one byte a bit and so are the lost bits, what a sweep changed is counted on the blocks before and after
- * it, the spread fills a table of all pairs of vertices. */
+ * it, the unsatisfied vertices of a state's block are all counted anew before and after each change, the spread fills a table
+ * of all pairs of vertices. */
 #include "reference.h"
 
 #include <stdio.h>
@@ -14,6 +15,7 @@
 #define MARK 0xffff       /* a table's entry for a tie */
 #define MESSAGE_EDGES 512 /* messages are for N up to this */
 #define SWEEPS_TOLD 64    /* the first sweeps, whose sums the decoder tells */
+#define HEAD 4            /* the bytes of a state before its block: count and sweep number */
 
 /* What a sheet says. */
 typedef struct {
@@ -167,6 +169,14 @@ static lembikat_answer check_spans(const graph *g, const uint8_t *list, size_t b
     return done(0, 0);
 }
 
+/* A state that is to be changed: refusals 11 and 12. */
+static lembikat_answer check_state(const graph *g, const uint8_t *state, size_t bytes)
+{
+    if (bytes != HEAD + bytes_for(g->edges))
+        return refused(11, 0);
+    return check_block(g, state + HEAD, bytes - HEAD);
+}
+
 static void unpack(const uint8_t *bytes, size_t bits, uint8_t *bit)
 {
     for (size_t i = 0; i < bits; i++)
@@ -264,6 +274,16 @@ static lembikat_answer first_unsatisfied(const graph *g, const uint8_t *bit)
 static int is_codeword(const graph *g, const uint8_t *bit)
 {
     return first_unsatisfied(g, bit).place == LEMBIKAT_NONE;
+}
+
+/* The true count of a block: every vertex of both sides is looked at. */
+static unsigned unsatisfied(const graph *g, const uint8_t *bit)
+{
+    unsigned count = 0;
+    for (int side = LEFT; side < SIDES; side++)
+        for (size_t vertex = 0; vertex < g->n[side]; vertex++)
+            count += !is_inner_codeword(&g->code[side], word_of(g, side, vertex, bit));
+    return count;
 }
 
 static void sweep(const graph *g, int side, uint8_t *bit)
@@ -596,6 +616,80 @@ lembikat_decode_answer reference_decode(const lembikat_plan *plan, const uint8_t
     told.place = answer.place;
     told.value = answer.value;
     return told;
+}
+
+/* Writes a state, and answers what stands in it. */
+static lembikat_state_answer write_state(const graph *g, unsigned count, unsigned number, const uint8_t *bit, uint8_t *state)
+{
+    state[0] = (uint8_t)(count / 256);
+    state[1] = (uint8_t)(count % 256);
+    state[2] = (uint8_t)(number / 256);
+    state[3] = (uint8_t)(number % 256);
+    pack(bit, g->edges, state + HEAD);
+    return (lembikat_state_answer){.number = 0, .place = 0, .value = count, .sweeps = number};
+}
+
+static lembikat_state_answer state_refused(lembikat_answer answer)
+{
+    return (lembikat_state_answer){.number = answer.number, .place = answer.place, .value = 0, .sweeps = 0};
+}
+
+/* The count that a state has after its block has changed: by as much another as the true one is, modulo 65,536. */
+static unsigned changed_count(unsigned count, unsigned true_before, unsigned true_after)
+{
+    return (65536 + count + true_after - true_before) % 65536;
+}
+
+lembikat_state_answer reference_load_state(const lembikat_plan *plan, const uint8_t *block, size_t block_bytes, uint8_t *state,
+                                           size_t state_bytes)
+{
+    graph *g = &the_graph;
+    lembikat_answer answer = check_plan(plan, g);
+    if (answer.number == 0)
+        answer = check_block(g, block, block_bytes);
+    if (answer.number == 0 && state_bytes < HEAD + block_bytes)
+        answer = refused(13, 0);
+    if (answer.number != 0)
+        return state_refused(answer);
+    unpack(block, g->edges, the_bits);
+    return write_state(g, unsatisfied(g, the_bits), 0, the_bits, state);
+}
+
+/* A settled state is written back as it stands. */
+lembikat_state_answer reference_sweep_state(const lembikat_plan *plan, uint8_t *state, size_t state_bytes)
+{
+    graph *g = &the_graph;
+    lembikat_answer answer = check_plan(plan, g);
+    if (answer.number == 0)
+        answer = check_state(g, state, state_bytes);
+    if (answer.number != 0)
+        return state_refused(answer);
+    unsigned count = pair_at(state, 0), number = pair_at(state, 1);
+    unpack(state + HEAD, g->edges, the_bits);
+    if (count == 0)
+        return write_state(g, count, number, the_bits, state);
+    if (number >= 4096)
+        return state_refused(refused(28, 0));
+    unsigned before = unsatisfied(g, the_bits);
+    sweep(g, number % 2 == 0 ? LEFT : RIGHT, the_bits);
+    return write_state(g, changed_count(count, before, unsatisfied(g, the_bits)), number + 1, the_bits, state);
+}
+
+lembikat_state_answer reference_set_bit(const lembikat_plan *plan, size_t bit, uint64_t value, uint8_t *state,
+                                        size_t state_bytes)
+{
+    graph *g = &the_graph;
+    lembikat_answer answer = check_plan(plan, g);
+    if (answer.number == 0)
+        answer = check_state(g, state, state_bytes);
+    if (answer.number == 0 && bit >= g->edges)
+        answer = refused(27, 0);
+    if (answer.number != 0)
+        return state_refused(answer);
+    unpack(state + HEAD, g->edges, the_bits);
+    unsigned before = unsatisfied(g, the_bits);
+    the_bits[bit] = value != 0;
+    return write_state(g, changed_count(pair_at(state, 0), before, unsatisfied(g, the_bits)), 0, the_bits, state);
 }
 
 lembikat_answer reference_report(const lembikat_plan *plan, const uint8_t *received, size_t received_bytes,

@@ -20,6 +20,14 @@ lembikat_decode_answer reference_decode(const lembikat_plan *plan, const uint8_t
                                         const uint8_t *lost, size_t lost_bytes, uint8_t *output, size_t output_bytes,
                                         size_t limit);
 
+lembikat_state_answer reference_load_state(const lembikat_plan *plan, const uint8_t *block, size_t block_bytes, uint8_t *state,
+                                           size_t state_bytes);
+
+lembikat_state_answer reference_sweep_state(const lembikat_plan *plan, uint8_t *state, size_t state_bytes);
+
+lembikat_state_answer reference_set_bit(const lembikat_plan *plan, size_t bit, uint64_t value, uint8_t *state,
+                                        size_t state_bytes);
+
 lembikat_answer reference_report(const lembikat_plan *plan, const uint8_t *received, size_t received_bytes,
                                  const uint8_t *settled, size_t settled_bytes, uint8_t *list, size_t list_bytes);
 

@@ -1,5 +1,6 @@
 /* test_stack: how much stack each call takes, on the largest plan or sheet that it accepts, the decoder also on plans with
- * unequal sides and with lost spans, the building of a table also on the sheet with the most rows.
+ * unequal sides and with lost spans, the sweep of a state on either side of such plans, the building of a table also on the
+ * sheet with the most rows.
  *
  * Each call runs in a thread of its own, on a stack that was painted beforehand. What is no longer painted afterwards, down to
  * the lowest byte that was touched, less what a thread that does nothing touches, is the call's. Prints one line a call,
@@ -19,10 +20,13 @@ static void nearest_word(void), build_largest_table(void), build_smallest_table(
 static void locate(void), report(void), spread(void), margin(void), encode(void), read_block(void);
 static void decode(void), decode_two_codes(void), decode_house_right(void), decode_house_left(void);
 static void decode_lost(void), decode_lost_two_codes(void);
+static void load_state(void), set_bit(void), sweep_left(void), sweep_right(void);
+static void sweep_left_of_two_codes(void), sweep_right_of_two_codes(void), sweep_house_right(void), sweep_house_left(void);
 
 /* The bytes that each call may take, as the header says, and the number that it must answer here. The decoder's blocks are such
  * that do not settle, so that it runs its sweeps and writes the received block back. */
 #define DECODE_BYTES (100 * 1024)
+#define SWEEP_BYTES (112 * 1024)
 #define BUILD_BYTES (34 * 1024)
 
 static const struct {
@@ -42,6 +46,14 @@ static const struct {
     {"lembikat_decode", "house code, k 11", DECODE_BYTES, LEMBIKAT_UNSETTLED, decode_house_left},
     {"lembikat_decode", "largest, lost spans", DECODE_BYTES, LEMBIKAT_UNSETTLED, decode_lost},
     {"lembikat_decode", "two codes of k 11, lost spans", DECODE_BYTES, LEMBIKAT_UNSETTLED, decode_lost_two_codes},
+    {"lembikat_load_state", "largest", 40 * 1024, LEMBIKAT_DONE, load_state},
+    {"lembikat_sweep_state", "largest, left", SWEEP_BYTES, LEMBIKAT_DONE, sweep_left},
+    {"lembikat_sweep_state", "largest, right", SWEEP_BYTES, LEMBIKAT_DONE, sweep_right},
+    {"lembikat_sweep_state", "two codes of k 11, left", SWEEP_BYTES, LEMBIKAT_DONE, sweep_left_of_two_codes},
+    {"lembikat_sweep_state", "two codes of k 11, right", SWEEP_BYTES, LEMBIKAT_DONE, sweep_right_of_two_codes},
+    {"lembikat_sweep_state", "k 11, house code", SWEEP_BYTES, LEMBIKAT_DONE, sweep_house_right},
+    {"lembikat_sweep_state", "house code, k 11", SWEEP_BYTES, LEMBIKAT_DONE, sweep_house_left},
+    {"lembikat_set_bit", "largest", 40 * 1024, LEMBIKAT_DONE, set_bit},
     {"lembikat_report", "largest", 38 * 1024, LEMBIKAT_DONE, report},
     {"lembikat_spread", "largest", 138 * 1024, LEMBIKAT_DONE, spread},
     {"lembikat_margin", "largest", 142 * 1024, LEMBIKAT_DONE, margin},
@@ -77,6 +89,7 @@ static uint8_t large[2 * LARGE * D], small[2 * SMALL * D], mixed[2 * HALF * D];
 
 static uint8_t zeros[LEMBIKAT_MAX_BLOCK_BYTES], noise[LEMBIKAT_MAX_BLOCK_BYTES], output[LEMBIKAT_MAX_BLOCK_BYTES];
 static const uint8_t lost[] = {LEMBIKAT_SPAN(100, 200), LEMBIKAT_SPAN(5003, 77), LEMBIKAT_SPAN(5080, 1)};
+static uint8_t state[LEMBIKAT_MAX_STATE_BYTES];
 static uint8_t list[LEMBIKAT_MAX_LIST_BYTES], table[LEMBIKAT_MAX_TABLE_BYTES];
 static uint8_t message[LEMBIKAT_MAX_MESSAGE_BYTES], block[LEMBIKAT_MAX_MESSAGE_BYTES];
 static size_t message_bytes;
@@ -136,6 +149,62 @@ static void decode_lost(void)
 static void decode_lost_two_codes(void)
 {
     number = lembikat_decode(TWO_CODES, noise, sizeof noise, lost, sizeof lost, output, sizeof output, SWEEPS).number;
+}
+
+static void load_state(void)
+{
+    number = lembikat_load_state(LARGE_PLAN, noise, sizeof noise, state, sizeof state).number;
+}
+
+/* A state of noise, anew for each call, since a call changes it. Its count is made up: any but 0 lets a sweep be made. */
+static void put_state(uint8_t sweeps)
+{
+    const uint8_t head[LEMBIKAT_STATE_HEAD_BYTES] = {0, 1, 0, sweeps};
+    memcpy(state, head, sizeof head);
+    memcpy(state + sizeof head, noise, sizeof noise);
+}
+
+static void sweep_left(void)
+{
+    put_state(0);
+    number = lembikat_sweep_state(LARGE_PLAN, state, sizeof state).number;
+}
+
+static void sweep_right(void)
+{
+    put_state(1);
+    number = lembikat_sweep_state(LARGE_PLAN, state, sizeof state).number;
+}
+
+static void sweep_left_of_two_codes(void)
+{
+    put_state(0);
+    number = lembikat_sweep_state(TWO_CODES, state, sizeof state).number;
+}
+
+static void sweep_right_of_two_codes(void)
+{
+    put_state(1);
+    number = lembikat_sweep_state(TWO_CODES, state, sizeof state).number;
+}
+
+/* The house code's side is the one that is swept. */
+static void sweep_house_right(void)
+{
+    put_state(1);
+    number = lembikat_sweep_state(HOUSE_RIGHT, state, LEMBIKAT_STATE_BYTES(HALF * D)).number;
+}
+
+static void sweep_house_left(void)
+{
+    put_state(0);
+    number = lembikat_sweep_state(HOUSE_LEFT, state, LEMBIKAT_STATE_BYTES(HALF * D)).number;
+}
+
+static void set_bit(void)
+{
+    put_state(0);
+    number = lembikat_set_bit(LARGE_PLAN, LARGE * D - 1, (noise[sizeof noise - 1] & 1) == 0, state, sizeof state).number;
 }
 
 static void report(void)

@@ -2,10 +2,11 @@
  *
  * Part one runs every record of a stream of calls and compares the line that it gives with the expected one. Part two makes
  * calls that chance does not meet, among them every fault of every service alone and with every other one, the tables of all d
- * and k, and every span that may be lost of a small block, and then 25,000 calls from a fixed seed, about half of them with
- * faults and more than half of the plans with unequal sides, and compares every answer and every lent byte with reference.c.
- * Codewords with bits lost and flipped within the margin must come back. The last line is `test_vectors: N passed, M failed`;
- * the exit status is 1 where one failed.
+ * and k, every span that may be lost of a small block, and states of every small block with counts and sweep numbers that are
+ * made up, and then 32,500 calls from a fixed seed, about half of them with faults and more than half of the plans with unequal
+ * sides, and compares every answer and every lent byte with reference.c. Codewords with bits lost and flipped within the margin
+ * must come back. States that are swept call by call must come to what the decoder answers. The last line is
+ * `test_vectors: N passed, M failed`; the exit status is 1 where one failed.
  *
  * The sanitizers do not see into the library. So every call is made twice: once by the call that takes the plan's parts, with
  * buffers on the heap, what is written between canaries, and once by the header's call on a plan in one piece, with every
@@ -29,23 +30,27 @@ _Static_assert(sizeof(size_t) == 8, "numbers of the stream have 64 bits and are 
 _Static_assert(sizeof(lembikat_answer) == 16, "the answer has a gap");
 _Static_assert(sizeof(lembikat_word_answer) == 24, "the answer of the nearest word and the look-up has a gap");
 _Static_assert(sizeof(lembikat_decode_answer) == 144, "the decoder's answer has a gap");
+_Static_assert(sizeof(lembikat_state_answer) == 24, "the answer of the calls on a state has a gap");
 
-#define RANDOM_CALLS 25000
+#define RANDOM_CALLS 32500
 #define SHOWN_FAILURES 10
-#define LAST_REFUSAL LEMBIKAT_SPAN_OUT_OF_ORDER
-#define LAST_SERVICE 11
+#define LAST_REFUSAL LEMBIKAT_SWEEPS_SPENT
+#define LAST_SERVICE 14
 #define PIECE 2 /* the service that the C host does not call */
 
-/* Sets of services: on plans and on a sheet alone; with a block, a message or a table to be read; with a buffer to be
- * written. */
+/* Sets of services: on plans and on a sheet alone; on states, and of these the ones that change a state; with a block, a
+ * message or a table to be read; with a buffer to be written. */
 #define ON(service) (1u << (service))
-#define ON_PLANS (ON(2) | ON(3) | ON(4) | ON(5) | ON(6) | ON(7) | ON(8) | ON(9))
+#define ON_PLANS (ON(2) | ON(3) | ON(4) | ON(5) | ON(6) | ON(7) | ON(8) | ON(9) | ON_STATES)
 #define ON_SHEETS (ON(1) | ON(10) | ON(11))
-#define READING (ON(3) | ON(4) | ON(5) | ON(8) | ON(9) | ON(11))
-#define WRITING (ON(4) | ON(5) | ON(8) | ON(9) | ON(10))
+#define ON_STATES (ON(12) | ON(13) | ON(14))
+#define CHANGING_STATES (ON(13) | ON(14))
+#define READING (ON(3) | ON(4) | ON(5) | ON(8) | ON(9) | ON(11) | ON(12))
+#define WRITING (ON(4) | ON(5) | ON(8) | ON(9) | ON(10) | ON_STATES)
 
 #define MAX_EDGES LEMBIKAT_MAX_EDGES
 #define MAX_BLOCK LEMBIKAT_MAX_BLOCK_BYTES
+#define HEAD LEMBIKAT_STATE_HEAD_BYTES
 #define ROOM 139264 /* above every buffer of the stream (70,000) and the longest list of lost spans (131,072) */
 
 /* One call of one service, numbered as in the stream. What a service does not take is empty. */
@@ -59,22 +64,24 @@ typedef struct {
 typedef struct {
     unsigned service;
     /* LEFT_SHEET: also the one sheet of a service that takes no plan; FIRST: the block, the message or the table; SECOND: the
-     * decoder's lost spans or the report's settled block; LENT: the buffer to be written */
+     * decoder's lost spans or the report's settled block; LENT: the buffer to be written, or the state to be changed */
     bytes field[FIELDS];
     uint64_t nl, nr;
-    uint64_t number; /* the word, the limit or the flips */
+    uint64_t number; /* the word, the limit, the flips or the bit */
+    uint64_t value;  /* that the bit is set to */
 } call;
 
 /* What came out of it. */
 typedef struct {
     lembikat_answer answer;       /* the part that all answers have */
     uint64_t changed;             /* the nearest word's and the look-up's; 0 of the other services */
+    uint64_t sweeps;              /* of the calls on a state; 0 of the other services */
     uint16_t sums[LEMBIKAT_SUMS]; /* the decoder's; 0 of the other services */
     uint8_t lent[ROOM];
     const char *trouble; /* what was touched that must not be, or NULL */
 } outcome;
 
-/* The library, by its two kinds of call, and the reference have the same ten functions. */
+/* The library, by its two kinds of call, and the reference have the same thirteen functions. */
 typedef struct {
     lembikat_word_answer (*nearest_word)(const uint8_t *, size_t, uint64_t);
     lembikat_answer (*build_table)(const uint8_t *, size_t, uint8_t *, size_t);
@@ -82,6 +89,9 @@ typedef struct {
     lembikat_answer (*locate)(const lembikat_plan *, const uint8_t *, size_t);
     lembikat_decode_answer (*decode)(const lembikat_plan *, const uint8_t *, size_t, const uint8_t *, size_t, uint8_t *, size_t,
                                      size_t);
+    lembikat_state_answer (*load_state)(const lembikat_plan *, const uint8_t *, size_t, uint8_t *, size_t);
+    lembikat_state_answer (*sweep_state)(const lembikat_plan *, uint8_t *, size_t);
+    lembikat_state_answer (*set_bit)(const lembikat_plan *, size_t, uint64_t, uint8_t *, size_t);
     lembikat_answer (*report)(const lembikat_plan *, const uint8_t *, size_t, const uint8_t *, size_t, uint8_t *, size_t);
     lembikat_answer (*spread)(const lembikat_plan *);
     lembikat_answer (*margin)(const lembikat_plan *, uint64_t);
@@ -102,6 +112,23 @@ static lembikat_decode_answer decode_by_parts(const lembikat_plan *p, const uint
                                               size_t limit)
 {
     return lembikat_decode(PARTS, received, received_bytes, lost, lost_bytes, output, output_bytes, limit);
+}
+
+static lembikat_state_answer load_by_parts(const lembikat_plan *p, const uint8_t *block, size_t block_bytes, uint8_t *state,
+                                           size_t state_bytes)
+{
+    return lembikat_load_state(PARTS, block, block_bytes, state, state_bytes);
+}
+
+static lembikat_state_answer sweep_by_parts(const lembikat_plan *p, uint8_t *state, size_t state_bytes)
+{
+    return lembikat_sweep_state(PARTS, state, state_bytes);
+}
+
+static lembikat_state_answer set_by_parts(const lembikat_plan *p, size_t bit, uint64_t value, uint8_t *state,
+                                          size_t state_bytes)
+{
+    return lembikat_set_bit(PARTS, bit, value, state, state_bytes);
 }
 
 static lembikat_answer report_by_parts(const lembikat_plan *p, const uint8_t *received, size_t received_bytes,
@@ -137,6 +164,9 @@ static const services by_parts = {.nearest_word = lembikat_nearest_word,
                                   .look_up = lembikat_look_up,
                                   .locate = locate_by_parts,
                                   .decode = decode_by_parts,
+                                  .load_state = load_by_parts,
+                                  .sweep_state = sweep_by_parts,
+                                  .set_bit = set_by_parts,
                                   .report = report_by_parts,
                                   .spread = spread_by_parts,
                                   .margin = margin_by_parts,
@@ -147,6 +177,9 @@ static const services by_plan = {.nearest_word = lembikat_nearest_word,
                                  .look_up = lembikat_look_up,
                                  .locate = lembikat_plan_locate,
                                  .decode = lembikat_plan_decode,
+                                 .load_state = lembikat_plan_load_state,
+                                 .sweep_state = lembikat_plan_sweep_state,
+                                 .set_bit = lembikat_plan_set_bit,
                                  .report = lembikat_plan_report,
                                  .spread = lembikat_plan_spread,
                                  .margin = lembikat_plan_margin,
@@ -157,14 +190,18 @@ static const services reference = {.nearest_word = reference_nearest_word,
                                    .look_up = reference_look_up,
                                    .locate = reference_locate,
                                    .decode = reference_decode,
+                                   .load_state = reference_load_state,
+                                   .sweep_state = reference_sweep_state,
+                                   .set_bit = reference_set_bit,
                                    .report = reference_report,
                                    .spread = reference_spread,
                                    .margin = reference_margin,
                                    .encode = reference_encode,
                                    .read = reference_read};
 
-static const char *const service_names[LAST_SERVICE + 1] = {"",       "nearest", "piece",  "locate", "decode", "report",
-                                                            "spread", "margin",  "encode", "read",   "build",  "look up"};
+static const char *const service_names[LAST_SERVICE + 1] = {"",       "nearest", "piece",  "locate", "decode",
+                                                            "report", "spread",  "margin", "encode", "read",
+                                                            "build",  "look up", "load",   "sweep",  "set"};
 
 static size_t cases, failures;
 
@@ -198,6 +235,7 @@ static void invoke(const services *s, const call *c, uint8_t *const at[FIELDS], 
     uint8_t *lent = at[LENT];
     size_t first_size = c->field[FIRST].size, second_size = c->field[SECOND].size, lent_size = c->field[LENT].size;
     o->changed = 0;
+    o->sweeps = 0;
     memset(o->sums, 0, sizeof o->sums);
     switch (c->service) {
     case 1:
@@ -233,9 +271,24 @@ static void invoke(const services *s, const call *c, uint8_t *const at[FIELDS], 
     case 10:
         o->answer = s->build_table(plan.left_sheet, plan.left_sheet_bytes, lent, lent_size);
         break;
+    case 12:
+    case 13:
+    case 14: {
+        lembikat_state_answer shown = c->service == 12   ? s->load_state(&plan, first, first_size, lent, lent_size)
+                                      : c->service == 13 ? s->sweep_state(&plan, lent, lent_size)
+                                                         : s->set_bit(&plan, c->number, c->value, lent, lent_size);
+        o->answer = (lembikat_answer){shown.number, shown.place, shown.value};
+        o->sweeps = shown.sweeps;
+        break;
+    }
     default:
         o->answer = s->read(&plan, first, first_size, lent, lent_size);
     }
+}
+
+static size_t get_pair(const uint8_t *from, size_t index)
+{
+    return from[2 * index] * 256u + from[2 * index + 1];
 }
 
 static int same_bytes(const uint8_t *a, const uint8_t *b, size_t size)
@@ -243,7 +296,8 @@ static int same_bytes(const uint8_t *a, const uint8_t *b, size_t size)
     return size == 0 || memcmp(a, b, size) == 0;
 }
 
-/* Looks at what the call was lent, after it: the buffers that are only read must be as they were. */
+/* Looks at what the call was lent, after it: the buffers that are only read must be as they were, and a state must hold the
+ * count and the sweep number that were answered. */
 static void look_after(const call *c, uint8_t *const at[FIELDS], outcome *o)
 {
     o->trouble = NULL;
@@ -252,6 +306,9 @@ static void look_after(const call *c, uint8_t *const at[FIELDS], outcome *o)
             o->trouble = "a buffer that is only read was changed";
     if (c->field[LENT].size != 0)
         memcpy(o->lent, at[LENT], c->field[LENT].size);
+    if (ON(c->service) & ON_STATES && o->answer.number == LEMBIKAT_DONE &&
+        (o->answer.value != get_pair(o->lent, 0) || o->sweeps != get_pair(o->lent, 1)))
+        o->trouble = "the answer is not what stands in the state";
 }
 
 #define CANARIES 16
@@ -325,7 +382,7 @@ static void run_fenced(const services *s, const call *c, outcome *o)
 static int same_outcome(const call *c, const outcome *a, const outcome *b)
 {
     return a->answer.number == b->answer.number && a->answer.place == b->answer.place && a->answer.value == b->answer.value &&
-           a->changed == b->changed && memcmp(a->sums, b->sums, sizeof a->sums) == 0 &&
+           a->changed == b->changed && a->sweeps == b->sweeps && memcmp(a->sums, b->sums, sizeof a->sums) == 0 &&
            same_bytes(a->lent, b->lent, c->field[LENT].size);
 }
 
@@ -375,7 +432,7 @@ static void show(const char *who, const call *c, const outcome *o)
     for (size_t i = 0; i < c->field[LENT].size && i < 64; i++)
         printf("%s%02x", i == 0 ? " " : "", o->lent[i]);
     put_sums(sums, o->sums);
-    printf(" changed %llu sums %s\n", (unsigned long long)o->changed, sums);
+    printf(" changed %llu sweeps %llu sums %s\n", (unsigned long long)o->changed, (unsigned long long)o->sweeps, sums);
 }
 
 /* ---- part one: the stored stream ---- */
@@ -442,8 +499,10 @@ static call next_record(void)
         c.nr = next_number(8);
         c.field[WIRING] = next_bytes();
     }
-    if (c.service == 11) /* the only one whose number does not stand last */
+    if (c.service == 11 || c.service == 14) /* those whose numbers do not stand last */
         c.number = next_number(8);
+    if (c.service == 14)
+        c.value = next_number(8);
     if (ON(c.service) & READING)
         c.field[FIRST] = next_bytes();
     if (c.service == 4 || c.service == 5)
@@ -551,14 +610,14 @@ static void part_one(const char *stream_name, const char *expected_name)
 
 /* ---- part two: calls that are made up ---- */
 
-static uint64_t state = 0x9e3779b97f4a7c15u;
+static uint64_t drawn = 0x9e3779b97f4a7c15u;
 
 static uint64_t draw64(void)
 {
-    state ^= state << 13;
-    state ^= state >> 7;
-    state ^= state << 17;
-    return state * 0x2545f4914f6cdd1du;
+    drawn ^= drawn << 13;
+    drawn ^= drawn >> 7;
+    drawn ^= drawn << 17;
+    return drawn * 0x2545f4914f6cdd1du;
 }
 
 /* 0 to below - 1 */
@@ -624,8 +683,8 @@ static struct {
     int lay;
 } plan;
 
-/* What the call under way lends, `second` the decoder's list too. The faults are put in here, the plan above stays as it was.
- */
+/* What the call under way lends, `second` the decoder's list too, `lent` the state that is to be changed too. The faults are
+ * put in here, the plan above stays as it was. */
 static uint8_t left_sheet[64], right_sheet[64], wiring[ROOM], first[ROOM], second[ROOM], lent[ROOM];
 
 static void put_sheet(uint8_t *sheet, const side *s)
@@ -865,11 +924,9 @@ static call decoder_call(uint64_t limit)
  * only when the bit from the vertex before has become 1 does it read three ones, and then it hands the 1 on. The sides take
  * turns along the chain, so that each sweep changes one bit, in one vertex, and all vertices behind it, on both sides, still
  * wait. The block settles only after 2n sweeps, or 2n + 1 where the head is at a right vertex: sweep 1 then changes nothing. */
-static void chain_call(size_t n, int right_first, size_t limit)
+static void lay_chain(size_t n, int right_first)
 {
-    static size_t calls;
     const side code = {.d = 5, .k = 2, .row = {0x1e, 0x01}};
-    size_t count = right_first ? 2 * n + 1 : 2 * n, made = count <= limit ? count : limit;
     set_plan(code, code, n);
     /* Left vertex u has its bit from the vertex before, that to the vertex after, its two ones, its fifth. Right vertex v has
      * the ones and, as a rule, the fifth of left vertex v. */
@@ -891,6 +948,14 @@ static void chain_call(size_t n, int right_first, size_t limit)
         flip(first, 5 * v + 3);
     }
     flip(first, right_first ? 5 * n - 1 : 0);
+}
+
+/* The decoder on such a chain. */
+static void chain_call(size_t n, int right_first, size_t limit)
+{
+    static size_t calls;
+    size_t count = right_first ? 2 * n + 1 : 2 * n, made = count <= limit ? count : limit;
+    lay_chain(n, right_first);
     call c = decoder_call(limit);
     compare("chain", calls++, &c);
 
@@ -1363,7 +1428,7 @@ typedef struct {
 } fault;
 
 #define ON_ALL (ON_PLANS | ON_SHEETS)
-#define ON_BLOCKS (ON(3) | ON(4) | ON(5) | ON(9))
+#define ON_BLOCKS (ON(3) | ON(4) | ON(5) | ON(9) | ON(12))
 
 /* Every fault, in the order in which a call looks for them. Of rows, 5 stands before 6 and after it, of entries 9 and 10, of
  * lost spans 25 and 26: the first row, entry or span is answered, whichever number it has. Of one span 25 stands before 26. One
@@ -1393,7 +1458,13 @@ static const fault faults[] = {
     {LEMBIKAT_ENTRY_REPEATED, 8, ON_PLANS, PAIR, WIRING, 16, 7},
     {LEMBIKAT_PLAN_TOO_LARGE, 0, ON(8) | ON(9), NOTHING, 0, 0, 0}, /* of the call on many times as many vertices */
     {LEMBIKAT_BLOCK_LENGTH_WRONG, 0, ON_BLOCKS, GROWTH, FIRST, 0, 1},
+    {LEMBIKAT_BLOCK_LENGTH_WRONG, 0, CHANGING_STATES, SIZE, LENT, 0, 0},
+    {LEMBIKAT_BLOCK_LENGTH_WRONG, 0, CHANGING_STATES, SIZE, LENT, 0, HEAD},
+    {LEMBIKAT_BLOCK_LENGTH_WRONG, 0, CHANGING_STATES, SIZE, LENT, 0, LEMBIKAT_STATE_BYTES(SMALL_EDGES) - 1},
+    {LEMBIKAT_BLOCK_LENGTH_WRONG, 0, CHANGING_STATES, GROWTH, LENT, 0, 1},
     {LEMBIKAT_STRAY_BIT, 0, ON_BLOCKS, FLIP, FIRST, SMALL_EDGES, 0},
+    {LEMBIKAT_STRAY_BIT, 0, CHANGING_STATES, FLIP, LENT, 8 * HEAD + SMALL_EDGES, 0},
+    {LEMBIKAT_STRAY_BIT, 0, CHANGING_STATES, FLIP, LENT, 8 * HEAD + SMALL_EDGES + 3, 0},
     {LEMBIKAT_SPANS_LENGTH_WRONG, 0, ON(4), GROWTH, SECOND, 0, 1},
     {LEMBIKAT_SPANS_LENGTH_WRONG, 0, ON(4), GROWTH, SECOND, 0, 2},
     {LEMBIKAT_SPAN_OUT_OF_BLOCK, 0, ON(4), PAIR, SECOND, 2, 0},
@@ -1403,15 +1474,20 @@ static const fault faults[] = {
     {LEMBIKAT_SPAN_OUT_OF_BLOCK, 0, ON(4), PAIR, SECOND, 8, 0xffff},
     {LEMBIKAT_SPAN_OUT_OF_BLOCK, 0, ON(4), PAIR, SECOND, 14, 0},
     {LEMBIKAT_SPAN_OUT_OF_ORDER, 0, ON(4), PAIR, SECOND, 12, 7},
+    {LEMBIKAT_BIT_TOO_LARGE, 0, ON(14), NUMBER, 0, 0, SMALL_EDGES},
+    {LEMBIKAT_BIT_TOO_LARGE, 0, ON(14), NUMBER, 0, 0, SIZE_MAX},
+    {LEMBIKAT_SWEEPS_SPENT, 0, ON(13), PAIR, LENT, 2, LEMBIKAT_MAX_LIMIT},
+    {LEMBIKAT_SWEEPS_SPENT, 0, ON(13), PAIR, LENT, 2, 0xffff},
     {LEMBIKAT_BLOCK_LENGTH_WRONG, 0, ON(5), GROWTH, SECOND, 0, 1},
     {LEMBIKAT_STRAY_BIT, 0, ON(5), FLIP, SECOND, SMALL_EDGES + 3, 0},
     {LEMBIKAT_STRAY_BIT, 0, ON(1) | ON(11), NUMBER, 0, 0, 0x10},
     {LEMBIKAT_NO_CODEWORD, 0, ON(9), FLIP, FIRST, 0, 0},
     {LEMBIKAT_MESSAGE_LENGTH_WRONG, 0, ON(8), GROWTH, FIRST, 0, 1},
     {LEMBIKAT_MESSAGE_STRAY_BIT, 0, ON(8), FLIP, FIRST, SMALL_MESSAGE_BITS, 0},
-    {LEMBIKAT_OUTPUT_SHORT, 0, ON(10), SIZE, LENT, 0, 0},
+    {LEMBIKAT_OUTPUT_SHORT, 0, ON(10) | ON(12), SIZE, LENT, 0, 0},
+    {LEMBIKAT_OUTPUT_SHORT, 0, ON(12), SIZE, LENT, 0, LEMBIKAT_BLOCK_BYTES(1, SMALL_EDGES)},
     {LEMBIKAT_OUTPUT_SHORT, 0, ON(11), SIZE, FIRST, 0, 0},
-    {LEMBIKAT_OUTPUT_SHORT, 0, ON(4) | ON(8) | ON(9) | ON(10), GROWTH, LENT, 0, SIZE_MAX},
+    {LEMBIKAT_OUTPUT_SHORT, 0, ON(4) | ON(8) | ON(9) | ON(10) | ON(12), GROWTH, LENT, 0, SIZE_MAX},
     {LEMBIKAT_OUTPUT_SHORT, 0, ON(11), GROWTH, FIRST, 0, SIZE_MAX},
     {LEMBIKAT_LIMIT_TOO_LARGE, 0, ON(4), NUMBER, 0, 0, LEMBIKAT_MAX_LIMIT + 1},
     {LEMBIKAT_UNSETTLED, 0, ON(4), FLIP, FIRST, 0, 0}, /* within no sweeps */
@@ -1459,8 +1535,23 @@ static void put_fault(call *c, const fault *f)
 static const uint8_t small_spans[] = {LEMBIKAT_SPAN(1, 2), LEMBIKAT_SPAN(5, 1), LEMBIKAT_SPAN(6, 2),
                                       LEMBIKAT_SPAN(SMALL_EDGES - 2, 2)};
 
+/* The bytes of a state of the plan. */
+static size_t state_bytes(void)
+{
+    return LEMBIKAT_STATE_BYTES(plan.edges);
+}
+
+/* Puts a state into the lent buffer: a count and a sweep number, and what stands in the first block. */
+static void put_state(size_t count, size_t number)
+{
+    put_pair(lent, 0, count);
+    put_pair(lent, 1, number);
+    memcpy(lent + HEAD, first, plan.block);
+}
+
 /* A whole call of the service on so many times the small plan. The block, the message and the table are zero, the spans above
- * are lost, two bits of the settled block differ, and limit, word and flips are 0. */
+ * are lost, two bits of the settled block differ, and limit, word, flips and bit are 0. A state that is to be changed is one
+ * sweep from the last; its count is made up, since no vertex is unsatisfied. */
 static call small_call(unsigned service, size_t times)
 {
     set_plan(small_left, small_right, 3 * times);
@@ -1469,6 +1560,8 @@ static call small_call(unsigned service, size_t times)
     memset(second, 0, MAX_BLOCK);
     memset(lent, 0xee, MAX_BLOCK);
     second[0] = 0x44;
+    if (ON(service) & CHANGING_STATES)
+        put_state(1, LEMBIKAT_MAX_LIMIT - 1);
     call c = plan_call(service);
     if (service == 8)
         c.field[FIRST] = (bytes){first, 1};
@@ -1484,6 +1577,8 @@ static call small_call(unsigned service, size_t times)
     }
     if (service == 10)
         c.field[LENT] = (bytes){lent, table_bytes()};
+    else if (ON(service) & ON_STATES)
+        c.field[LENT] = (bytes){lent, state_bytes()};
     else if (ON(service) & WRITING)
         c.field[LENT] = (bytes){lent, service == 5 ? 8 : service == 9 ? 1 : plan.block};
     return c;
@@ -1788,6 +1883,451 @@ static void span_calls(void)
     two_span_calls();
     large_span_calls();
     trial_calls();
+}
+
+/* ---- states ---- */
+
+/* Calls on what stands in the first block, and on the state in the lent buffer. */
+static call load_call(size_t size)
+{
+    call c = plan_call(12);
+    c.field[FIRST] = (bytes){first, plan.block};
+    c.field[LENT] = (bytes){lent, size};
+    return c;
+}
+
+static call sweep_call(size_t size)
+{
+    call c = plan_call(13);
+    c.field[LENT] = (bytes){lent, size};
+    return c;
+}
+
+static call set_call(uint64_t bit, uint64_t value, size_t size)
+{
+    call c = plan_call(14);
+    c.field[LENT] = (bytes){lent, size};
+    c.number = bit;
+    c.value = value;
+    return c;
+}
+
+/* How many vertices of the plan a block leaves unsatisfied, as the reference counts them. */
+static size_t true_count(const uint8_t *block)
+{
+    static uint8_t loaded[LEMBIKAT_MAX_STATE_BYTES];
+    lembikat_plan p = reference_plan();
+    return reference_load_state(&p, block, plan.block, loaded, sizeof loaded).value;
+}
+
+/* Says what the last call compared must have shown: count and sweep number, both of the answer and of the state. */
+static void must_show(const char *kind, const call *c, size_t count, size_t sweeps)
+{
+    must_answer(kind, c, LEMBIKAT_DONE, 0, count);
+    if (failed(by_library.sweeps != sweeps))
+        printf("FAILED: %s (%s): the sweep number is %llu, not %zu\n", kind, service_names[c->service],
+               (unsigned long long)by_library.sweeps, sweeps);
+}
+
+/* Says that the last call compared left the lent buffer as it was. */
+static void must_leave(const char *kind, const call *c)
+{
+    if (failed(!same_bytes(by_library.lent, c->field[LENT].data, c->field[LENT].size))) {
+        printf("FAILED: %s (%s) must leave the state as it is\n", kind, service_names[c->service]);
+        show("library  ", c, &by_library);
+    }
+}
+
+/* Says how the last call compared must have changed the count: as the true one changed, modulo 65,536. */
+static void must_follow(const char *kind, const call *c)
+{
+    size_t count = get_pair(c->field[LENT].data, 0), before = true_count(c->field[LENT].data + HEAD),
+           after = true_count(by_library.lent + HEAD);
+    if (failed(by_library.answer.number != LEMBIKAT_DONE ||
+               by_library.answer.value != (65536 + count + after - before) % 65536)) {
+        printf("FAILED: %s (%s): the count was %zu, the true one went from %zu to %zu\n", kind, service_names[c->service],
+               count, before, after);
+        show("library  ", c, &by_library);
+    }
+}
+
+/* The plans whose blocks are few enough to try all. */
+#define SMALL_PLANS 5
+
+static void set_small_plan(size_t i)
+{
+    switch (i) {
+    case 0: /* the pair plan: blocks 10 and 01 are ties and never settle */
+        set_plan(pair_code, pair_code, 1);
+        lay_in_order();
+        break;
+    case 1: /* some blocks swing to and fro */
+        set_plan(alike_code(3), alike_code(3), 2);
+        lay_in_order();
+        swap_entries(2, 3);
+        break;
+    case 2: /* unequal sides */
+        set_plan(pair_code, alike_code(3), 3);
+        lay_evenly();
+        break;
+    case 3: /* whatever a right vertex reads is a codeword */
+        set_plan(alike_code(4), free_code(4), 2);
+        lay_in_order();
+        break;
+    default: /* whatever a left vertex reads is a codeword, and the wiring is in no order */
+        set_plan(free_code(2), alike_code(4), 4);
+        lay_evenly();
+        swap_entries(1, 6);
+    }
+}
+
+/* Every block of every small plan, with counts that are true, nearly true and made up, and all kinds of sweep numbers: swept,
+ * and each of its bits set to each of some values. */
+static void small_state_calls(void)
+{
+    static const size_t numbers[] = {
+        0, 1, 2, 3, LEMBIKAT_MAX_LIMIT - 2, LEMBIKAT_MAX_LIMIT - 1, LEMBIKAT_MAX_LIMIT, LEMBIKAT_MAX_LIMIT + 1, 65535};
+    static const uint64_t values[] = {0, 1, 2, (uint64_t)1 << 63};
+    const size_t count_of_numbers = sizeof numbers / sizeof numbers[0];
+    size_t calls = 0;
+    for (size_t i = 0; i < SMALL_PLANS; i++) {
+        set_small_plan(i);
+        for (unsigned block = 0; block < 1u << plan.edges; block++) {
+            first[0] = (uint8_t)(block << (8 - plan.edges));
+            size_t right_count = true_count(first);
+            const size_t counts[] = {right_count, 0, 1, right_count + 1, (right_count + 65535) % 65536, 65534, 65535};
+            const size_t count_of_counts = sizeof counts / sizeof counts[0];
+            call c = load_call(state_bytes());
+            memset(lent, 0xee, state_bytes());
+            compare("load", calls++, &c);
+            must_show("load", &c, right_count, 0);
+            for (size_t j = 0; j < count_of_counts * count_of_numbers; j++) {
+                size_t count = counts[j / count_of_numbers], number = numbers[j % count_of_numbers];
+                put_state(count, number);
+                c = sweep_call(state_bytes());
+                compare("sweep", calls++, &c);
+                if (count == 0) {
+                    must_show("sweep of a settled state", &c, 0, number);
+                    must_leave("sweep of a settled state", &c);
+                } else if (number >= LEMBIKAT_MAX_LIMIT) {
+                    must_answer("sweep", &c, LEMBIKAT_SWEEPS_SPENT, 0, 0);
+                    must_leave("sweep", &c);
+                } else {
+                    must_follow("sweep", &c);
+                }
+            }
+            for (size_t j = 0; j < plan.edges * 4; j++) {
+                size_t bit = j / 4;
+                put_state(counts[draw(count_of_counts)], numbers[draw(count_of_numbers)]);
+                c = set_call(bit, values[j % 4], state_bytes());
+                compare("set", calls++, &c);
+                must_follow("set", &c);
+                if (failed(by_library.sweeps != 0 || get_bit(by_library.lent + HEAD, bit) != (values[j % 4] != 0)))
+                    printf("FAILED: set: bit %zu of block %02x to %llu\n", bit, first[0], (unsigned long long)values[j % 4]);
+            }
+        }
+    }
+}
+
+/* States of all lengths up to the right one, and longer ones, on blocks whose last byte is full and on others: loading takes
+ * those that are long enough, the others take the one length. One of them would look right if it were cut to 16 bits. */
+static void state_length_calls(void)
+{
+    static const size_t longer_by[] = {1, 2, 3, 4, 8, 252, 4096, 65536};
+    static const side codes[] = {
+        {.d = 2, .k = 1, .row = {3}}, {.d = 8, .k = 4, .row = {0xff, 0x0f, 0x33, 0x55}}, {.d = 5, .k = 2, .row = {0x1e, 0x01}}};
+    size_t calls = 0;
+    for (size_t i = 0; i < 3 * sizeof codes / sizeof codes[0]; i++) {
+        set_plan(codes[i / 3], codes[i / 3], 1 + 3 * (i % 3));
+        lay_in_order();
+        memset(first, 0, plan.block);
+        flip(first, 0);
+        const size_t right_size = state_bytes(), right_count = true_count(first);
+        for (size_t j = 0; j <= right_size + sizeof longer_by / sizeof longer_by[0]; j++) {
+            size_t size = j <= right_size ? j : right_size + longer_by[j - right_size - 1];
+            draw_bytes(lent, size);
+            call c = load_call(size);
+            compare("length of a state", calls++, &c);
+            if (size < right_size) {
+                must_answer("length of a state", &c, LEMBIKAT_OUTPUT_SHORT, 0, 0);
+                must_leave("length of a state", &c);
+            } else {
+                must_show("length of a state", &c, right_count, 0);
+                if (failed(!same_bytes(by_library.lent + HEAD, first, plan.block) ||
+                           !same_bytes(by_library.lent + right_size, lent + right_size, size - right_size)))
+                    printf("FAILED: load: the block is not in the state, or a byte beyond it was written\n");
+            }
+            put_state(right_count, 0);
+            const call changing[] = {sweep_call(size), set_call(0, 1, size)};
+            for (size_t service = 0; service < 2; service++) {
+                c = changing[service];
+                compare("length of a state", calls++, &c);
+                if (size == right_size) {
+                    must_follow("length of a state", &c);
+                } else {
+                    must_answer("length of a state", &c, LEMBIKAT_BLOCK_LENGTH_WRONG, 0, 0);
+                    must_leave("length of a state", &c);
+                }
+            }
+        }
+    }
+}
+
+/* Each bit after the last, of a block to be loaded and of a state's: it is seen before the bit's number and before the sweeps
+ * that are spent, and on a settled state too. */
+static void stray_state_calls(void)
+{
+    size_t calls = 0;
+    for (size_t n = 1; n <= 7; n++) {
+        set_plan(alike_code(5), alike_code(5), n);
+        lay_in_order();
+        for (size_t bit = plan.edges; bit < 8 * plan.block; bit++)
+            for (size_t count = 0; count < 2; count++) {
+                memset(first, 0, plan.block);
+                flip(first, bit);
+                put_state(count, LEMBIKAT_MAX_LIMIT);
+                const call made[] = {load_call(state_bytes()), load_call(0), sweep_call(state_bytes()),
+                                     set_call(0, 1, state_bytes()), set_call(bit, 0, state_bytes())};
+                for (size_t i = 0; i < sizeof made / sizeof made[0]; i++) {
+                    compare("stray bit", calls++, &made[i]);
+                    must_answer("stray bit", &made[i], LEMBIKAT_STRAY_BIT, 0, 0);
+                    must_leave("stray bit", &made[i]);
+                }
+            }
+    }
+}
+
+/* Numbers of bits about the block's last one and far beyond it; some would look right if they were cut to 16 or 32 bits. The
+ * count is the true one, and stays true. */
+static void bit_number_calls(void)
+{
+    size_t calls = 0;
+    for (int large = 0; large < 2; large++) {
+        set_plan(alike_code(16), alike_code(16), large ? LEMBIKAT_MAX_VERTICES : 3);
+        lay_in_order();
+        memset(first, 0, plan.block);
+        const uint64_t last = plan.edges - 1, bit_32 = (uint64_t)1 << 32, bit_63 = (uint64_t)1 << 63;
+        const uint64_t bits[] = {0, last - 1, last, last + 1, 65536 + last, bit_32, bit_32 + last, bit_63, UINT64_MAX};
+        const uint64_t values[] = {0, 1, 2, 3, 255, 256, 65536, bit_32, bit_63, UINT64_MAX};
+        for (size_t i = 0; i < sizeof bits / sizeof bits[0]; i++)
+            for (size_t j = 0; j < sizeof values / sizeof values[0]; j++) {
+                put_state(0, 65535);
+                call c = set_call(bits[i], values[j], state_bytes());
+                compare("bit", calls++, &c);
+                if (bits[i] > last) {
+                    must_answer("bit", &c, LEMBIKAT_BIT_TOO_LARGE, 0, 0);
+                    must_leave("bit", &c);
+                } else {
+                    must_show("bit", &c, values[j] == 0 ? 0 : 2, 0);
+                }
+            }
+    }
+}
+
+/* The largest count: every vertex of both sides reads one 1 where sixteen bits must be alike, and one sweep mends them all. A
+ * count that is made up goes down by as many, and round by 65,536 where it is less; it goes up by two with a bit that is set
+ * alone, round again where it is the largest. */
+static void largest_count_calls(void)
+{
+    static const size_t counts[] = {1, 4095, 4096, 4097, 32768, 65535};
+    const size_t all = 2 * LEMBIKAT_MAX_VERTICES;
+    set_plan(alike_code(16), alike_code(16), LEMBIKAT_MAX_VERTICES);
+    lay_in_order();
+    memset(first, 0, plan.block);
+    for (size_t u = 0; u < plan.left.n; u++)
+        flip(first, 16 * u + u % 16);
+    call c = load_call(state_bytes());
+    compare("largest count", 0, &c);
+    must_show("largest count", &c, all, 0);
+    for (size_t i = 0; i < sizeof counts / sizeof counts[0]; i++) {
+        put_state(counts[i], 0);
+        c = sweep_call(state_bytes());
+        compare("largest count", i, &c);
+        must_show("largest count", &c, (65536 + counts[i] - all) % 65536, 1);
+    }
+    memset(first, 0, plan.block);
+    for (size_t i = 0; i < sizeof counts / sizeof counts[0]; i++) {
+        put_state(counts[i], 7);
+        c = set_call(40, 1, state_bytes());
+        compare("largest count", i, &c);
+        must_show("largest count", &c, (counts[i] + 2) % 65536, 0);
+    }
+}
+
+/* A made-up count of 0 on a block that is no codeword, at any sweep number: settled, and a sweep changes nothing. A bit that is
+ * set to the value it has starts again at sweep 0 and changes nothing else, on a settled state and on others. */
+static void made_up_calls(void)
+{
+    static const size_t numbers[] = {0, 1, 2, LEMBIKAT_MAX_LIMIT - 1, LEMBIKAT_MAX_LIMIT, LEMBIKAT_MAX_LIMIT + 1, 65535};
+    set_plan(alike_code(3), alike_code(3), 3);
+    lay_evenly();
+    first[0] = 0x92;
+    first[1] = 0x80;
+    const size_t counts[] = {0, true_count(first)};
+    for (size_t i = 0; i < sizeof numbers / sizeof numbers[0]; i++) {
+        put_state(0, numbers[i]);
+        call c = sweep_call(state_bytes());
+        compare("made-up count", i, &c);
+        must_show("made-up count", &c, 0, numbers[i]);
+        must_leave("made-up count", &c);
+        for (size_t j = 0; j < 2 * plan.edges; j++) {
+            size_t bit = j / 2, count = counts[j % 2];
+            put_state(count, numbers[i]);
+            c = set_call(bit, get_bit(first, bit) ? 1 + j : 0, state_bytes());
+            compare("own value", j, &c);
+            must_show("own value", &c, count, 0);
+            if (failed(!same_bytes(by_library.lent + HEAD, first, plan.block)))
+                printf("FAILED: own value: a bit of the block was changed\n");
+        }
+    }
+}
+
+/* Walks: a state that is swept call by call. It is here from one call to the next. */
+static uint8_t walked[LEMBIKAT_MAX_STATE_BYTES];
+
+/* One call on it, beside the reference. */
+static void step(const char *kind, size_t i, call c)
+{
+    c.field[LENT] = (bytes){walked, state_bytes()};
+    compare(kind, i, &c);
+    memcpy(walked, by_library.lent, state_bytes());
+}
+
+static size_t bits_apart(const uint8_t *block, const uint8_t *other)
+{
+    size_t count = 0;
+    for (size_t i = 0; i < plan.edges; i++)
+        count += get_bit(block, i) != get_bit(other, i);
+    return count;
+}
+
+/* How walks end: at a codeword from the start, settled after some sweeps, or spent after 4,096. */
+enum { SETTLED_AT_ONCE, SETTLED_LATER, SPENT, WALK_ENDS };
+
+/* Walks to the end from a state whose sweep number is 0 and whose count is true, and holds the walk to the full decoding of its
+ * block: it settles there after as many calls, of which each changes as many bits as the decoder's sum tells, and stays; or it
+ * never settles, and after 4,096 calls the next one is refused. On the way the count is true, and 0 only at the end. The first
+ * steps, some others and the last one are made beside the reference. Answers how the walk ended. */
+static int walk(const char *kind, size_t i)
+{
+    static outcome full;
+    call c = decoder_call(LEMBIKAT_MAX_LIMIT);
+    c.field[FIRST].data = walked + HEAD;
+    run_on_heap(&by_parts, &c, &full);
+    const int settles = full.answer.number == LEMBIKAT_DONE;
+    const size_t last = settles ? full.answer.value : LEMBIKAT_MAX_LIMIT;
+    const char *wrong = settles || full.answer.number == LEMBIKAT_UNSETTLED ? NULL : "the decoder refuses the block";
+    size_t made = 0;
+    c = sweep_call(state_bytes());
+    c.field[LENT].data = walked;
+    while (wrong == NULL) {
+        size_t count = get_pair(walked, 0);
+        int looked_at = made == last || (plan.edges <= 64 ? made < 40 || one_in(40) : made < 4 || one_in(400));
+        if (get_pair(walked, 1) != made)
+            wrong = "its sweep number is not the number of calls";
+        else if ((count == 0) != (settles && made == last))
+            wrong = "it settles where the decoder does not, or does not where the decoder does";
+        else if (looked_at && count != true_count(walked + HEAD))
+            wrong = "its count is not true";
+        if (made == last)
+            break;
+        if (looked_at)
+            compare(kind, i, &c);
+        else
+            run_on_heap(&by_parts, &c, &by_library);
+        if (by_library.answer.number != LEMBIKAT_DONE)
+            wrong = "a sweep is refused";
+        else if (made < LEMBIKAT_SUMS && bits_apart(walked + HEAD, by_library.lent + HEAD) != full.sums[made])
+            wrong = "a sweep changes more or fewer bits than the decoder's";
+        memcpy(walked, by_library.lent, state_bytes());
+        made++;
+    }
+    if (wrong == NULL && settles && !same_bytes(walked + HEAD, full.lent, plan.block))
+        wrong = "it settles at another block than the decoder";
+    if (failed(wrong != NULL)) {
+        printf("FAILED: %s walk %zu on nl %zu d %u k %u, nr %zu d %u k %u, after %zu calls: %s\n", kind, i, plan.left.n,
+               plan.left.d, plan.left.k, plan.right.n, plan.right.d, plan.right.k, made, wrong == NULL ? "" : wrong);
+        show("decoder  ", &c, &full);
+    }
+    compare(kind, i, &c);
+    must_answer(kind, &c, settles ? LEMBIKAT_DONE : LEMBIKAT_SWEEPS_SPENT, 0, 0);
+    must_leave(kind, &c);
+    return !settles ? SPENT : last == 0 ? SETTLED_AT_ONCE : SETTLED_LATER;
+}
+
+/* Loads what stands in the first block and walks to the end. */
+static int load_and_walk(const char *kind, size_t i)
+{
+    step(kind, i, load_call(state_bytes()));
+    return walk(kind, i);
+}
+
+/* Sets a bit of the state, wherever its walk is, and walks to the end from there. */
+static int set_and_walk(const char *kind, size_t i, size_t bit, uint64_t value)
+{
+    call c = set_call(bit, value, state_bytes());
+    step(kind, i, c);
+    must_show(kind, &c, true_count(walked + HEAD), 0);
+    return walk(kind, i);
+}
+
+static void must_end(const char *kind, int end, int right_end)
+{
+    static const char *const names[WALK_ENDS] = {"settled at once", "settled", "spent"};
+    if (failed(end != right_end))
+        printf("FAILED: the %s walk is %s, not %s\n", kind, names[end], names[right_end]);
+}
+
+/* Walks on plans where it is known how they end, or that have every way of ending among their blocks. */
+static void walk_calls(void)
+{
+    size_t ends[WALK_ENDS] = {0}, walks = 0;
+    for (size_t i = 0; i < SMALL_PLANS; i++) {
+        set_small_plan(i);
+        for (unsigned block = 0; block < 1u << plan.edges; block += i < 3 ? 1 : 5) {
+            first[0] = (uint8_t)(block << (8 - plan.edges));
+            ends[load_and_walk("every block", walks++)]++;
+            ends[set_and_walk("every block, a bit set", walks++, draw(plan.edges), draw(2))]++;
+        }
+    }
+    for (int end = 0; end < WALK_ENDS; end++)
+        if (failed(ends[end] == 0))
+            printf("FAILED: no walk on a small plan ended in way %d\n", end);
+
+    /* The pair plan: spent, then a bit set makes it a codeword, then another one a tie again. */
+    set_small_plan(0);
+    first[0] = 0x80;
+    must_end("pair", load_and_walk("pair", 0), SPENT);
+    must_end("pair", set_and_walk("pair", 1, 1, 1), SETTLED_AT_ONCE);
+    must_end("pair", set_and_walk("pair", 2, 0, 0), SPENT);
+
+    /* Chains settle after as many sweeps as they are long. The longest one settles with the last sweep that there may be, at
+     * sweep number 4,096, and stays; where its head is at a right vertex it would settle with the next one. */
+    static const size_t sizes[] = {1, 2, 3, 33};
+    for (size_t i = 0; i < sizeof sizes / sizeof sizes[0]; i++)
+        for (int right_first = 0; right_first < 2; right_first++) {
+            lay_chain(sizes[i], right_first);
+            must_end("chain", load_and_walk("chain", i), SETTLED_LATER);
+            /* a link in the middle cut: all behind it have to be mended again */
+            must_end("cut chain", set_and_walk("cut chain", i, 5 * (sizes[i] / 2), 0), SETTLED_LATER);
+        }
+    lay_chain(LEMBIKAT_MAX_VERTICES, 0);
+    must_end("longest chain", load_and_walk("longest chain", 0), SETTLED_LATER);
+    call c = sweep_call(state_bytes());
+    must_show("longest chain", &c, 0, LEMBIKAT_MAX_LIMIT);
+    lay_chain(LEMBIKAT_MAX_VERTICES, 1);
+    must_end("longer chain", load_and_walk("longer chain", 0), SPENT);
+}
+
+static void state_calls(void)
+{
+    small_state_calls();
+    state_length_calls();
+    stray_state_calls();
+    bit_number_calls();
+    largest_count_calls();
+    made_up_calls();
+    walk_calls();
 }
 
 /* ---- random calls ---- */
@@ -2130,6 +2670,25 @@ static void draw_spans(void)
         lose_bits(1 + draw(one_in(4) ? plan.edges : smaller(plan.edges, 12)), is_lost);
 }
 
+/* A state in the lent buffer, of a block in the first one: as it comes of a few sweeps, or with a count or a sweep number that
+ * is made up. */
+static void draw_state(void)
+{
+    static const size_t counts[] = {0, 0, 1, 65535},
+                        numbers[] = {LEMBIKAT_MAX_LIMIT - 1, LEMBIKAT_MAX_LIMIT, LEMBIKAT_MAX_LIMIT + 1, 65535};
+    lembikat_plan p = reference_plan();
+    if (one_in(3))
+        draw_noise(first);
+    else
+        draw_block(first);
+    size_t count = reference_load_state(&p, first, plan.block, lent, state_bytes()).value, number = draw(4);
+    if (one_in(4))
+        count = one_in(4) ? draw(65536) : one_in(2) ? counts[draw(4)] : (count + 65535 + draw(3)) % 65536;
+    if (one_in(4))
+        number = one_in(4) ? draw(65536) : numbers[draw(4)];
+    put_state(count, number);
+}
+
 /* A table: the sheet's own, or any bytes, at times with many marks. */
 static void draw_table(uint8_t *table, size_t size)
 {
@@ -2295,6 +2854,7 @@ static void spoil_number(call *c)
 {
     uint64_t above = ON(c->service) & ON_SHEETS ? (uint64_t)1 << plan.left.d
                      : c->service == 4          ? LEMBIKAT_MAX_LIMIT + 1
+                     : c->service == 14         ? plan.edges
                                                 : plan.edges + 1;
     switch (draw(4)) {
     case 0:
@@ -2308,6 +2868,17 @@ static void spoil_number(call *c)
         break;
     default:
         c->number = above;
+    }
+}
+
+static void spoil_state(call *c)
+{
+    if (one_in(3)) { /* spent, where the count is not 0 */
+        put_pair(lent, 1, LEMBIKAT_MAX_LIMIT + draw(65536 - LEMBIKAT_MAX_LIMIT));
+        if (one_in(2))
+            put_pair(lent, 0, draw(65536));
+    } else {
+        spoil_block(c, LENT, lent + HEAD, plan.edges);
     }
 }
 
@@ -2365,6 +2936,21 @@ static void spoil(call *c)
         case 11:
             if (one_in(2))
                 spoil_table(c, FIRST);
+            else
+                spoil_number(c);
+            break;
+        case 12:
+            if (one_in(3))
+                c->field[LENT].size = one_in(2) ? state_bytes() - 1 : draw(state_bytes());
+            else
+                spoil_block(c, FIRST, first, plan.edges);
+            break;
+        case 13:
+            spoil_state(c);
+            break;
+        case 14:
+            if (one_in(2))
+                spoil_state(c);
             else
                 spoil_number(c);
             break;
@@ -2468,6 +3054,56 @@ static void homecoming_calls(void)
         came, all_lost, mixed, longer);
 }
 
+/* Walks on any plans: of codewords damaged within the margin, of codewords damaged further and of noise. Then some bits are
+ * set, at the end of the walk or after the first sweeps of another one, and it goes on to the end. */
+#define RANDOM_WALKS 300
+
+static void random_walks(void)
+{
+    static uint8_t sent[MAX_BLOCK];
+    size_t within = 0, loaded[WALK_ENDS] = {0}, set[WALK_ENDS] = {0};
+    for (size_t i = 0; i < RANDOM_WALKS; i++) {
+        int sturdy = one_in(2);
+        plan_bits_known = 0;
+        do {
+            draw_codes(sturdy);
+            draw_wiring(0, sturdy);
+        } while (plan.edges > 4096); /* so that 4,096 sweeps take no minute */
+        size_t covered = first_uncovered() - 1;
+        draw_codeword(first);
+        if (sturdy && covered != 0 && one_in(2)) {
+            memcpy(sent, first, plan.block);
+            for (size_t flips = covered; flips > 0; flips--)
+                flip(first, draw(plan.edges));
+            within++;
+            if (failed(load_and_walk("within the margin", i) == SPENT || !same_bytes(walked + HEAD, sent, plan.block)))
+                printf("FAILED: walk %zu within the margin does not settle at the codeword\n", i);
+        } else {
+            if (one_in(4))
+                draw_noise(first);
+            else
+                for (size_t flips = draw(2 * covered + 6); flips > 0; flips--)
+                    flip(first, draw(plan.edges));
+            loaded[load_and_walk("random", i)]++;
+        }
+        if (one_in(2)) {
+            step("random", i, load_call(state_bytes()));
+            for (size_t sweeps = 1 + draw(3); sweeps > 0; sweeps--)
+                step("random", i, sweep_call(state_bytes()));
+        }
+        for (size_t bits = draw(4); bits > 0; bits--)
+            step("random", i, set_call(draw(plan.edges), draw(2), state_bytes()));
+        set[set_and_walk("random, a bit set", i, draw(plan.edges), draw(2))]++;
+    }
+    printf("states: %d walks, %zu of them within the margin; the others settled at once %zu, later %zu, spent %zu; after a set "
+           "bit settled at once %zu, later %zu, spent %zu\n",
+           RANDOM_WALKS, within, loaded[SETTLED_AT_ONCE], loaded[SETTLED_LATER], loaded[SPENT], set[SETTLED_AT_ONCE],
+           set[SETTLED_LATER], set[SPENT]);
+    for (int end = 0; end < WALK_ENDS; end++)
+        if (failed(loaded[end] == 0 || set[end] == 0))
+            printf("FAILED: no random walk ended in way %d\n", end);
+}
+
 /* A whole call of the service on a fresh plan; some have faults by themselves, such as a block that does not settle. */
 static call draw_whole_call(unsigned service)
 {
@@ -2540,10 +3176,25 @@ static call draw_whole_call(unsigned service)
         draw_table(first, table_bytes() + spare);
         c = look_up_call(draw((size_t)1 << plan.left.d), table_bytes() + spare);
         break;
+    case 12:
+        draw_block(first);
+        c.field[FIRST] = (bytes){first, plan.block};
+        c.field[LENT] = (bytes){lent, state_bytes() + spare};
+        break;
+    case 13:
+    case 14:
+        draw_state();
+        c.field[LENT] = (bytes){lent, state_bytes()};
+        if (service == 14) {
+            c.number = one_in(8) ? plan.edges - 1 : draw(plan.edges);
+            c.value = one_in(4) ? draw64() : draw(3);
+        }
+        break;
     default:
         break;
     }
-    draw_bytes(lent, c.field[LENT].size);
+    if (!(ON(service) & CHANGING_STATES))
+        draw_bytes(lent, c.field[LENT].size);
     return c;
 }
 
@@ -2623,7 +3274,7 @@ static void show_margins(void)
 
 static void random_calls(void)
 {
-    static const unsigned called[] = {1, 10, 11, 3, 4, 5, 6, 7, 8, 9};
+    static const unsigned called[] = {1, 10, 11, 3, 4, 12, 13, 14, 5, 6, 7, 8, 9};
     const size_t services_called = sizeof called / sizeof called[0];
     static size_t ended[LAST_REFUSAL + 1][LAST_SERVICE + 1], ended_by_way[LAST_REFUSAL + 1][WAYS], plans[WAYS];
     for (size_t i = 0; i < RANDOM_CALLS; i++) {
@@ -2699,7 +3350,9 @@ int main(int argc, char **argv)
     all_count_calls();
     all_fault_calls();
     span_calls();
+    state_calls();
     homecoming_calls();
+    random_walks();
     random_calls();
     printf("test_vectors: %zu passed, %zu failed\n", cases - failures, failures);
     return failures != 0;

@@ -33,6 +33,21 @@
  *   block. The spans stand in rising order and do not overlap; one may begin where the one before it ends. The list may be
  *   empty, and where no bit was lost it is.
  *
+ * STATES
+ *   A host that shows how a block settles, sweep by sweep, keeps a state of it, LEMBIKAT_STATE_BYTES(N) bytes:
+ *     bytes 0 and 1   the count of unsatisfied vertices, those that read no codeword of their side's sheet, left and right
+ *                     together, high byte first
+ *     bytes 2 and 3   the sweep number, how many sweeps were made since the state was loaded or a bit of it was set, high byte
+ *                     first
+ *     from byte 4 on  the block, as above
+ *   lembikat_load_state makes a state of a block, lembikat_sweep_state makes one sweep on it, lembikat_set_bit sets one of its
+ *   bits. A state is settled exactly when its count is 0.
+ *   A state is the host's own bytes, and they are all that a call knows of it: a host may have any number of states, and copy
+ *   and store them. A state does not say which plan it is of. Its count and its sweep number are not held to its block: they
+ *   are taken as they stand, whatever they are. The count changes as the true one does, modulo 65,536, so that a true count, at
+ *   most nl + nr, stays true. From loading on it is true as long as every call names the same plan and the host writes nothing
+ *   into the state by itself.
+ *
  * REFUSALS
  *   A call checks from the top of this list down, as far as the numbers concern it, and stops at the first that applies. A
  *   refused call has written nothing, with one exception: after LEMBIKAT_UNSETTLED the front of the output holds the received
@@ -52,15 +67,20 @@
  *        9  LEMBIKAT_ENTRY_TOO_LARGE        entry  wiring: the first faulty entry is at or above N
  *       10  LEMBIKAT_ENTRY_REPEATED         entry  wiring: the first faulty entry stood before
  *       19  LEMBIKAT_PLAN_TOO_LARGE             0  encode, read: N is above 512
- *       11  LEMBIKAT_BLOCK_LENGTH_WRONG         0  block: its length is not N / 8 rounded up
- *       12  LEMBIKAT_STRAY_BIT                  0  block: a bit after N - 1 is set; nearest word, look-up: word at or above 2^d
+ *       11  LEMBIKAT_BLOCK_LENGTH_WRONG         0  block: its length is not N / 8 rounded up;
+ *                                                  sweep, set: the state's length is not 4 + N / 8 rounded up
+ *       12  LEMBIKAT_STRAY_BIT                  0  block, also that of a state: a bit after N - 1 is set;
+ *                                                  nearest word, look-up: word at or above 2^d
  *       24  LEMBIKAT_SPANS_LENGTH_WRONG         0  decode: the length of the list of lost spans is not a multiple of 4
  *       25  LEMBIKAT_SPAN_OUT_OF_BLOCK          0  decode: the first faulty span has no bit, or one after bit N - 1
  *       26  LEMBIKAT_SPAN_OUT_OF_ORDER          0  decode: the first faulty span begins before the end of the one before it
+ *       27  LEMBIKAT_BIT_TOO_LARGE              0  set: the bit is at or above N
+ *       28  LEMBIKAT_SWEEPS_SPENT               0  sweep: the count is not 0 and the sweep number is 4,096 or above
  *       22  LEMBIKAT_NO_CODEWORD                0  read: the block is no codeword
  *       20  LEMBIKAT_MESSAGE_LENGTH_WRONG       0  encode: the message's length is not K / 8 rounded up
  *       21  LEMBIKAT_MESSAGE_STRAY_BIT          0  encode: a bit after K - 1 is set
  *       13  LEMBIKAT_OUTPUT_SHORT               0  output: shorter than the block, message or table to be written;
+ *                                                  load: the state is shorter than 4 + N / 8 rounded up;
  *                                                  look-up: the table has fewer than 2^(d - k) entries
  *       14  LEMBIKAT_LIMIT_TOO_LARGE            0  decode: limit is above 4,096
  *       15  LEMBIKAT_UNSETTLED                  0  decode: unsettled after `limit` sweeps, with lost spans in both trials
@@ -70,11 +90,13 @@
  *   Rows and entries are counted from 0.
  *
  * THREADS AND BUFFERS
- *   There is no state: any number of threads may call at once, as long as no thread writes to a buffer that another call uses.
- *   The buffer that a call writes (output, list) must not overlap any that it reads; those that it only reads may overlap.
+ *   The library keeps nothing: any number of threads may call at once, as long as no thread writes to a buffer that another
+ *   call uses.
+ *   The buffer that a call writes (output, list, state) must not overlap any other that it is given; those that it only reads
+ *   may overlap.
  *   A buffer of no bytes, such as an empty list of lost spans, may be NULL. A buffer may be longer than needed where it is
- *   written: bytes beyond stay untouched. So may the table of a look-up: bytes beyond do not matter. A table, once built, may
- *   serve any number of threads.
+ *   written: bytes beyond stay untouched. Only the state of a sweep or set call must have its exact length. The table of a
+ *   look-up may be longer too: bytes beyond do not matter. A table, once built, may serve any number of threads.
  *   No call takes memory from the heap. Stack use is given with each call.
  */
 #ifndef LEMBIKAT_H
@@ -89,10 +111,10 @@ extern "C" {
 
 /* The version, as text (pkg-config tells the same) and as numbers; the last two are below 1,000 each. LEMBIKAT_VERSION_NUMBER
  * rises with every version, the first number where a caller must change its code. A host asks for a version or a later one so:
- *   #if LEMBIKAT_VERSION_AT_LEAST(4, 0, 0) */
-#define LEMBIKAT_VERSION "4.0"
+ *   #if LEMBIKAT_VERSION_AT_LEAST(4, 1, 0) */
+#define LEMBIKAT_VERSION "4.1"
 #define LEMBIKAT_VERSION_MAJOR 4
-#define LEMBIKAT_VERSION_MINOR 0
+#define LEMBIKAT_VERSION_MINOR 1
 #define LEMBIKAT_VERSION_PATCH 0
 #define LEMBIKAT_VERSION_AS_NUMBER(major, minor, patch) (1000000L * (major) + 1000L * (minor) + (patch))
 #define LEMBIKAT_VERSION_NUMBER                                                                                                \
@@ -107,14 +129,19 @@ extern "C" {
 #define LEMBIKAT_MAX_TABLE_BYTES 65536  /* a table of d 16 and k 1, two bytes a class */
 #define LEMBIKAT_MAX_WIRING_BYTES 65536 /* two bytes an edge */
 #define LEMBIKAT_MAX_BLOCK_BYTES 4096   /* a bit an edge */
+#define LEMBIKAT_MAX_STATE_BYTES 4100   /* a block, its count and its sweep number */
 #define LEMBIKAT_MAX_LIST_BYTES 65536   /* a report of (N + 1) / 2 runs, four bytes each */
 #define LEMBIKAT_MAX_MESSAGE_EDGES 512  /* N, for encode and read */
 #define LEMBIKAT_MAX_MESSAGE_BYTES 64   /* a message, or a block that carries one */
-#define LEMBIKAT_MAX_LIMIT 4096         /* the decoder's limit, in sweeps */
+#define LEMBIKAT_MAX_LIMIT 4096         /* in sweeps: the decoder's limit, and the most that a state is given */
 
 /* The bytes of a block, where a side has n vertices that read d bits each. The left side's nl and dl and the right side's nr
  * and dr give the same. */
 #define LEMBIKAT_BLOCK_BYTES(n, d) (((size_t)(n) * (size_t)(d) + 7) / 8)
+
+/* The bytes of a state, where a block has N bits, and of those the ones before its block: the count and the sweep number. */
+#define LEMBIKAT_STATE_HEAD_BYTES 4
+#define LEMBIKAT_STATE_BYTES(N) (LEMBIKAT_STATE_HEAD_BYTES + ((size_t)(N) + 7) / 8)
 
 /* The bytes of a table, for the d and k of a sheet that is not refused: two for each of 2^(d - k) classes. */
 #define LEMBIKAT_TABLE_BYTES(d, k) ((size_t)2 << ((d) - (k)))
@@ -157,9 +184,12 @@ enum lembikat_outcome {
     LEMBIKAT_SPANS_LENGTH_WRONG = 24,
     LEMBIKAT_SPAN_OUT_OF_BLOCK = 25,
     LEMBIKAT_SPAN_OUT_OF_ORDER = 26,
+    LEMBIKAT_BIT_TOO_LARGE = 27,
+    LEMBIKAT_SWEEPS_SPENT = 28,
 };
 
-/* What a call answers. The answers of the nearest word, of the look-up and of the decoder begin alike and tell more.
+/* What a call answers. The answers of the nearest word, of the look-up, of the decoder and of the calls on a state begin alike
+ * and tell more.
  *   number   LEMBIKAT_DONE, else the number of the refusal. It is 32 bits wide whatever a compiler makes of an enum
  *   place    the row or entry at fault for 5, 6, 9 and 10; 0 with every other refusal. Of a call that is done: 0, but for
  *            lembikat_locate
@@ -199,6 +229,18 @@ typedef struct {
     uint64_t value;
     uint16_t sums[LEMBIKAT_SUMS];
 } lembikat_decode_answer;
+
+/* What lembikat_load_state, lembikat_sweep_state and lembikat_set_bit answer: number and place as above, and, so that a host
+ * need not take the state apart, what stands in it after the call:
+ *   value    the count of unsatisfied vertices, 0 where the state is settled; 0 with a refusal
+ *   sweeps   the sweep number; 0 with a refusal
+ */
+typedef struct {
+    uint32_t number;
+    uint32_t place;
+    uint64_t value;
+    uint64_t sweeps;
+} lembikat_state_answer;
 
 /* The sides, as lembikat_locate tells them in `place`. */
 #define LEMBIKAT_NONE 0
@@ -265,6 +307,37 @@ lembikat_decode_answer lembikat_decode(const uint8_t *left_sheet, size_t left_sh
                                        size_t right_sheet_bytes, size_t nl, size_t nr, const uint8_t *wiring,
                                        size_t wiring_bytes, const uint8_t *received, size_t received_bytes, const uint8_t *lost,
                                        size_t lost_bytes, uint8_t *output, size_t output_bytes, size_t limit);
+
+/* Makes a state of a block: the number of vertices that read no codeword, left and right, sweep number 0, and the block. What
+ * stood in the state before does not matter. A block that is a codeword gives a settled state.
+ *   state: the state at the front, LEMBIKAT_STATE_BYTES(N) bytes.  value, sweeps: the count, and 0.
+ *   Refusals: the plan's, then 11 and 12 for the block, 13.  Stack: at most 40 KiB. */
+lembikat_state_answer lembikat_load_state(const uint8_t *left_sheet, size_t left_sheet_bytes, const uint8_t *right_sheet,
+                                          size_t right_sheet_bytes, size_t nl, size_t nr, const uint8_t *wiring,
+                                          size_t wiring_bytes, const uint8_t *block, size_t block_bytes, uint8_t *state,
+                                          size_t state_bytes);
+
+/* Makes one sweep on a state, as lembikat_decode makes them: the nearest word of the left code at every left vertex where the
+ * sweep number is even, of the right code at every right vertex where it is odd; a tie keeps its bits. The sweep number goes up
+ * by one, also where no bit changed. On a state whose count is 0 the call changes nothing, whatever its sweep number and its
+ * block are.
+ * From a loaded state on, calls made one by one on the same plan come to the block and the sweep count of lembikat_decode with
+ * an empty list of lost spans and a limit of 4,096, and stay there. Where that is LEMBIKAT_UNSETTLED the count never becomes 0,
+ * and the call at sweep number 4,096 is LEMBIKAT_SWEEPS_SPENT. From a set bit on the same holds of the block as it then is.
+ *   state: count, sweep number and block after the sweep; untouched with a refusal.  value, sweeps: its count and sweep number.
+ *   Refusals: the plan's, then 11 for the state's length and 12 for its block, 28.  Stack: at most 112 KiB. */
+lembikat_state_answer lembikat_sweep_state(const uint8_t *left_sheet, size_t left_sheet_bytes, const uint8_t *right_sheet,
+                                           size_t right_sheet_bytes, size_t nl, size_t nr, const uint8_t *wiring,
+                                           size_t wiring_bytes, uint8_t *state, size_t state_bytes);
+
+/* Sets one bit of a state's block, to 0 where `value` is 0 and to 1 where it is any other number. The sweep number becomes 0,
+ * also where the bit had that value already, and on a settled state too: the next sweep is one of the left side.
+ *   state: count, sweep number and block, in which the one bit may have changed; untouched with a refusal.  value, sweeps: its
+ *   count, and 0.
+ *   Refusals: the plan's, then 11 for the state's length and 12 for its block, 27.  Stack: at most 40 KiB. */
+lembikat_state_answer lembikat_set_bit(const uint8_t *left_sheet, size_t left_sheet_bytes, const uint8_t *right_sheet,
+                                       size_t right_sheet_bytes, size_t nl, size_t nr, const uint8_t *wiring,
+                                       size_t wiring_bytes, size_t bit, uint64_t value, uint8_t *state, size_t state_bytes);
 
 /* Lists the maximal runs of bits at which a received and a settled block differ, in rising order. A run takes four bytes of
  * the list: its bit offset and its length, two bytes each, high byte first. Neither block need be a codeword.
@@ -334,6 +407,26 @@ static inline lembikat_decode_answer lembikat_plan_decode(const lembikat_plan *p
     return lembikat_decode(plan->left_sheet, plan->left_sheet_bytes, plan->right_sheet, plan->right_sheet_bytes, plan->nl,
                            plan->nr, plan->wiring, plan->wiring_bytes, received, received_bytes, lost, lost_bytes, output,
                            output_bytes, limit);
+}
+
+static inline lembikat_state_answer lembikat_plan_load_state(const lembikat_plan *plan, const uint8_t *block,
+                                                             size_t block_bytes, uint8_t *state, size_t state_bytes)
+{
+    return lembikat_load_state(plan->left_sheet, plan->left_sheet_bytes, plan->right_sheet, plan->right_sheet_bytes, plan->nl,
+                               plan->nr, plan->wiring, plan->wiring_bytes, block, block_bytes, state, state_bytes);
+}
+
+static inline lembikat_state_answer lembikat_plan_sweep_state(const lembikat_plan *plan, uint8_t *state, size_t state_bytes)
+{
+    return lembikat_sweep_state(plan->left_sheet, plan->left_sheet_bytes, plan->right_sheet, plan->right_sheet_bytes, plan->nl,
+                                plan->nr, plan->wiring, plan->wiring_bytes, state, state_bytes);
+}
+
+static inline lembikat_state_answer lembikat_plan_set_bit(const lembikat_plan *plan, size_t bit, uint64_t value, uint8_t *state,
+                                                          size_t state_bytes)
+{
+    return lembikat_set_bit(plan->left_sheet, plan->left_sheet_bytes, plan->right_sheet, plan->right_sheet_bytes, plan->nl,
+                            plan->nr, plan->wiring, plan->wiring_bytes, bit, value, state, state_bytes);
 }
 
 static inline lembikat_answer lembikat_plan_report(const lembikat_plan *plan, const uint8_t *received, size_t received_bytes,

@@ -19,6 +19,7 @@
 /* The sizes follow from the largest d, 16, the most rows, 11, and one another. */
 #if LEMBIKAT_MAX_EDGES != LEMBIKAT_MAX_VERTICES * 16 || LEMBIKAT_MAX_SHEET_BYTES != 2 + 2 * 11 ||                              \
     LEMBIKAT_MAX_WIRING_BYTES != 2 * LEMBIKAT_MAX_EDGES || LEMBIKAT_MAX_BLOCK_BYTES != LEMBIKAT_MAX_EDGES / 8 ||               \
+    LEMBIKAT_MAX_STATE_BYTES != LEMBIKAT_STATE_HEAD_BYTES + LEMBIKAT_MAX_BLOCK_BYTES ||                                        \
     LEMBIKAT_MAX_LIST_BYTES != (LEMBIKAT_MAX_EDGES + 1) / 2 * 4 ||                                                             \
     LEMBIKAT_MAX_MESSAGE_BYTES != LEMBIKAT_MAX_MESSAGE_EDGES / 8 || LEMBIKAT_MAX_TABLE_BYTES != 2 * (1 << (16 - 1))
 #error "the largest sizes do not fit one another"
@@ -30,6 +31,10 @@
 
 #if LEMBIKAT_SUMS != 64 || LEMBIKAT_MAX_EDGES > 65535
 #error "the decoder tells the sums of 64 sweeps, each in 16 bits"
+#endif
+
+#if LEMBIKAT_STATE_HEAD_BYTES != 4 || 2 * LEMBIKAT_MAX_VERTICES > 65535 || LEMBIKAT_MAX_LIMIT > 65535
+#error "a state tells all vertices of both sides and the most sweeps, each in 16 bits"
 #endif
 
 /* Without a default: the compiler complains where a name of the enum is missing here. */
@@ -66,6 +71,8 @@ static const char *name_of(enum lembikat_outcome outcome)
         NAMED(LEMBIKAT_SPANS_LENGTH_WRONG);
         NAMED(LEMBIKAT_SPAN_OUT_OF_BLOCK);
         NAMED(LEMBIKAT_SPAN_OUT_OF_ORDER);
+        NAMED(LEMBIKAT_BIT_TOO_LARGE);
+        NAMED(LEMBIKAT_SWEEPS_SPENT);
     }
     return "no name";
 }
@@ -79,6 +86,9 @@ static int calls_on_a_plan_fit(void)
     return plan.left_sheet_bytes == 1 && plan.right_sheet == bytes && plan.nl == 1 && plan.nr == 1 && plan.wiring == bytes &&
            sizeof lembikat_plan_locate(&plan, bytes, 1) == sizeof(lembikat_answer) &&
            sizeof lembikat_plan_decode(&plan, bytes, 1, bytes, 1, written, 1, 1) == sizeof(lembikat_decode_answer) &&
+           sizeof lembikat_plan_load_state(&plan, bytes, 1, written, 1) == sizeof(lembikat_state_answer) &&
+           sizeof lembikat_plan_sweep_state(&plan, written, 1) == sizeof(lembikat_state_answer) &&
+           sizeof lembikat_plan_set_bit(&plan, 1, 1, written, 1) == sizeof(lembikat_state_answer) &&
            sizeof lembikat_plan_report(&plan, bytes, 1, bytes, 1, written, 1) == sizeof(lembikat_answer) &&
            sizeof lembikat_plan_spread(&plan) == sizeof(lembikat_answer) &&
            sizeof lembikat_plan_margin(&plan, 1) == sizeof(lembikat_answer) &&
@@ -116,6 +126,19 @@ static int table_bytes_fit(void)
            sizeof(LEMBIKAT_TABLE_BYTES(8, 4)) == sizeof(size_t);
 }
 
+/* The bytes of a state: of a constant, so that a host may size an array by them, of a sum, within a sum, and for every number
+ * of bits so many more than a block's. They are a size_t. */
+static int state_bytes_fit(void)
+{
+    static uint8_t pair[LEMBIKAT_STATE_BYTES(2)], largest[LEMBIKAT_STATE_BYTES(LEMBIKAT_MAX_EDGES)];
+    for (int bits = 0; bits < LEMBIKAT_MAX_EDGES; bits++)
+        if (LEMBIKAT_STATE_BYTES(bits + 1) - LEMBIKAT_BLOCK_BYTES(1, bits + 1) != LEMBIKAT_STATE_HEAD_BYTES ||
+            2 * LEMBIKAT_STATE_BYTES(bits) != 8 + 2 * LEMBIKAT_BLOCK_BYTES(bits, 1))
+            return 0;
+    return sizeof pair == 5 && sizeof largest == LEMBIKAT_MAX_STATE_BYTES && pair[0] == largest[0] &&
+           sizeof(LEMBIKAT_STATE_BYTES(2)) == sizeof(size_t);
+}
+
 /* Spans as the initialiser of an array: of constants, and of sums of a host's own numbers of any width. */
 static int spans_fit(void)
 {
@@ -136,16 +159,17 @@ int main(void)
     lembikat_answer answer = {LEMBIKAT_DONE, LEMBIKAT_NONE, 0};
     lembikat_word_answer word;
     lembikat_decode_answer decoded;
-    if (!calls_on_a_plan_fit() || !calls_on_a_sheet_fit() || !table_bytes_fit() || !spans_fit())
+    lembikat_state_answer shown;
+    if (!calls_on_a_plan_fit() || !calls_on_a_sheet_fit() || !table_bytes_fit() || !state_bytes_fit() || !spans_fit())
         return 1;
     if (sizeof answer.number != sizeof(uint32_t))
         return 1;
     /* The fields of an answer follow one another without a gap, as the library fills them. */
     if (sizeof answer != 16 || sizeof word != 24 || sizeof word.changed != 8 || sizeof decoded != 144 ||
-        sizeof decoded.sums != 128)
+        sizeof decoded.sums != 128 || sizeof shown != 24 || sizeof shown.sweeps != 8)
         return 1;
     printf("version %s, numbers %d %d %d\n", LEMBIKAT_VERSION, MAJOR, MINOR, PATCH);
-    for (; answer.number <= LEMBIKAT_SPAN_OUT_OF_ORDER; answer.number++)
+    for (; answer.number <= LEMBIKAT_SWEEPS_SPENT; answer.number++)
         printf("%d %s\n", (int)answer.number, name_of((enum lembikat_outcome)answer.number));
     return 0;
 }
