@@ -4,15 +4,15 @@
 --   told state                   a state's count and sweep number, as a call answers them (specs Answer)
 --   lentBlock state              the bytes of a state from byte 4 on, as the code lends them on
 --   withBlock state block        a state when a block comes back in the place of those bytes
--- Laws are named by the part, then by where it is read: `-of` is a part of a state that is made of its parts. state-back leads from the parts
--- of a list of bytes back to the list, head-stored from the stores of the bytes before a block to the state. Of a block that is lent on,
--- block-lent is the part that is lent, block-back, block-same and block-copied are the state when another, the same or a copied one is back.
-use Prim.Native.Nat.{ℕ, _+_, _-_, _*_, _/_, _%_, _≤_, _<_}
+-- Laws are named by the part, then by where it is read: `-of` is a part of a state that is made of its parts. head-stored leads from the
+-- stores of the bytes before a block to the state. Of a block that is lent on, block-lent is the part that is lent, block-back, block-same and
+-- block-copied are the state when another, the same or a copied one is back.
+use Prim.Native.Nat.{ℕ, _+_, _-_, _/_, _%_, _≤_}
 use mathlib.Core.List.{List, [], _∷_, _++_, append-nil}
 use mathlib.Core.Path.{_≡_, refl, sym, ap, ap₂, _∙_}
 use native.Mathlib.Nat.{div-add-mod'}
 use native.Mathlib.Omega.{arith}
-use lib.ListN.{length, getD, set, take, drop, length-drop, take-append-drop, drop-of-length-le}
+use lib.ListN.{length, set, take, drop, length-drop, take-append-drop, drop-of-length-le}
 use lib.Seq.{length-take-le, take-all, drop-at, drop-drop}
 use Rattle.bits.specs.Bit.{written}
 use Rattle.inner_code.specs.Reply.{done}
@@ -39,23 +39,6 @@ module _ (count sweeps : ℕ) (block : List ℕ) where
   pub told-of : told (stateOf count sweeps block) ≡ done (count ∷ sweeps ∷ [])
   unfolding told
   told-of = ap₂ (λ (c s : ℕ). done (c ∷ s ∷ [])) count-of sweeps-of
-
--- the bytes of a two-byte number
-high-byte : (a b : ℕ) → b < 256 → (a * 256 + b) / 256 ≡ a
-high-byte a b small = omega arith
-
-low-byte : (a b : ℕ) → b < 256 → (a * 256 + b) % 256 ≡ b
-low-byte a b small = omega arith
-
-pub state-back : (state : List ℕ) → 4 ≤ length state → ((k : ℕ) → getD state k 0 < 256)
-    → stateOf (countIn state) (sweepsIn state) (blockIn state) ≡ state
-unfolding countIn sweepsIn blockIn stateOf
-state-back [] room small = absurd (omega arith)
-state-back (a ∷ []) room small = absurd (omega arith)
-state-back (a ∷ b ∷ []) room small = absurd (omega arith)
-state-back (a ∷ b ∷ c ∷ []) room small = absurd (omega arith)
-state-back (a ∷ b ∷ c ∷ d ∷ block) room small =
-    rw (high-byte a b (small 1), low-byte a b (small 1), high-byte c d (small 3), low-byte c d (small 3))
 
 -- the four stores of the bytes before a block
 pub head-stored : (state : List ℕ) (count sweeps : ℕ) → 4 ≤ length state

@@ -74,26 +74,11 @@ fn on_plan(service: u8, left: &[u8], right: &[u8], nl: usize, nr: usize, wiring:
         return;
     }
     if service == 13 {
-        let mut space = [0u8; 70000];
-        let state = input::bytes(&mut space);
-        sweep(left, right, nl, nr, wiring, &mut space[..state]);
+        sweep(left, right, nl, nr, wiring);
         return;
     }
     if service == 14 {
-        let bit = input::number();
-        let value = input::number();
-        let mut space = [0u8; 70000];
-        let state = input::bytes(&mut space);
-        set_bit(
-            left,
-            right,
-            nl,
-            nr,
-            wiring,
-            bit as usize,
-            value,
-            &mut space[..state],
-        );
+        set_bit(left, right, nl, nr, wiring);
         return;
     }
     let mut block_space = [0u8; 70000];
@@ -379,13 +364,36 @@ fn load(
     output::bytes(state);
 }
 
-fn sweep(left: &[u8], right: &[u8], nl: usize, nr: usize, wiring: &[u8], state: &mut [u8]) {
+fn sweep(left: &[u8], right: &[u8], nl: usize, nr: usize, wiring: &[u8]) {
+    let mut space = [0u8; 70000];
+    let state = input::bytes(&mut space);
+    sweep_in(left, right, nl, nr, wiring, &mut space[..state]);
+}
+
+fn sweep_in(left: &[u8], right: &[u8], nl: usize, nr: usize, wiring: &[u8], state: &mut [u8]) {
     state_line(panel::sweep_state(left, right, nl, nr, wiring, state));
     output::text(b" ");
     output::bytes(state);
 }
 
-fn set_bit(
+fn set_bit(left: &[u8], right: &[u8], nl: usize, nr: usize, wiring: &[u8]) {
+    let bit = input::number();
+    let value = input::number();
+    let mut space = [0u8; 70000];
+    let state = input::bytes(&mut space);
+    set_in(
+        left,
+        right,
+        nl,
+        nr,
+        wiring,
+        bit as usize,
+        value,
+        &mut space[..state],
+    );
+}
+
+fn set_in(
     left: &[u8],
     right: &[u8],
     nl: usize,
