@@ -3,7 +3,8 @@
 --   turned block e b                  the block with its bit e turned where b is 1 (bits specs Window)
 --   withWord side v w block           the block with the word w put at vertex v (wiring specs Block)
 --   scattered bit d at w m block      the block with the first m of the d digits of w put at the entries from `at` on (wiring specs Block)
--- Laws are named `pattern-` and then by the fact.
+--   Rest .., Fresh ..                 what a loop that puts the highest one first still has to put, and that the bits it has to turn are as they were
+-- Laws are named `pattern-`, `rest-` or `fresh-` and then by the fact.
 use Prim.Native.Nat.{ℕ, zero, suc, _+_, _-_, _*_, _^_, _≤_, _<_}
 use mathlib.Core.List.{List}
 use mathlib.Core.Path.{_≡_, refl, sym, ap, ap₂, _∙_}
@@ -16,7 +17,7 @@ use lib.ListN.{length}
 use lib.Pow.{pow-mono}
 use Rattle.bits.specs.Bit.{digit, bitAt, withBit}
 use Rattle.bits.specs.Window.{turned}
-use Rattle.bits.proofs.Turning.{turned-none, length-turned}
+use Rattle.bits.proofs.Turning.{turned-none, length-turned, bitAt-turned-other}
 use Rattle.bits.proofs.Xor.{xor-digit, digit-high, digit-upper, digit-pow-same, digit-pow-other}
 use Rattle.wiring.specs.Plan.{Side}
 use Rattle.wiring.specs.Block.{vertexWord, scattered, withWord}
@@ -119,6 +120,32 @@ module _ {bit : ℕ → ℕ} {d base : ℕ} {goal block : List ℕ} {rest : ℕ}
               ∙ sym (pattern-step bit d base rest (rest - power) h block (omega (arith, is)) left rest-high)
               ∙ r .putting;
         }
+
+-- ---- the bits that are still to be turned are as they were at first
+
+pub record Fresh (bit : ℕ → ℕ) (d base : ℕ) (start block : List ℕ) (rest : ℕ) : Type 0 where
+  pub each : (h : ℕ) → h < d → 2 ^ h ≤ rest → bitAt block (bit (base + (d - 1 - h))) ≡ bitAt start (bit (base + (d - 1 - h)))
+
+pub fresh-start : {bit : ℕ → ℕ} {d base : ℕ} {block : List ℕ} {rest : ℕ} → Fresh bit d base block block rest
+fresh-start = record { each = λ h l low. refl }
+
+module _ {bit : ℕ → ℕ} {d base : ℕ} {start block : List ℕ} {rest : ℕ} where
+  -- where the highest one is put; no two of the d entries are one bit
+  pub fresh-more : Fresh bit d base start block rest
+      → ((i j : ℕ) → i < d → j < d → bit (base + i) ≡ bit (base + j) → i ≡ j)
+      → (h : ℕ) → h < d → 2 ^ h ≤ rest → rest < 2 ^ (h + 1) → {e power : ℕ} {after : List ℕ} → e ≡ bit (base + (d - 1 - h)) → power ≡ 2 ^ h
+      → after ≡ turned block e 1 → Fresh bit d base start after (rest - power)
+  fresh-more fresh once h within low high {e} {power} {after} at is turns =
+      record { each = each }
+    where
+      each : (k : ℕ) → k < d → 2 ^ k ≤ rest - power → bitAt after (bit (base + (d - 1 - k))) ≡ bitAt start (bit (base + (d - 1 - k)))
+      each k l small =
+          let below : k < h = digit-below k (rest - power) h small (omega (arith, rw add-one at high, pow-suc 2 h, is, low)) in
+          let apart : e ≡ bit (base + (d - 1 - k)) → ⊥ =
+          λ q. let same = once (d - 1 - h) (d - 1 - k) (omega arith) (omega arith) (sym at ∙ q) in omega arith in
+          ap (λ (b : List ℕ). bitAt b (bit (base + (d - 1 - k)))) turns
+          ∙ bitAt-turned-other block e 1 (omega arith) (bit (base + (d - 1 - k))) apart
+          ∙ fresh .each k l (omega arith)
 
 -- ---- on a vertex's word
 

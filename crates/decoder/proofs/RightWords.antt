@@ -17,14 +17,13 @@ use Rattle.inner_code.specs.Reply.{done}
 use Rattle.inner_code.specs.Sheet.{degree}
 use Rattle.wiring.specs.Plan.{Plan, Side, edgeCount, sheetOf, countOf, sideOf, sideBit, left, right}
 use Rattle.wiring.specs.Wiring.{planCheck}
-use Rattle.wiring.specs.Block.{vertexWord, withWord}
+use Rattle.wiring.specs.Block.{vertexWord}
 use Rattle.wiring.specs.Checking.{Fitted}
 use Rattle.wiring.specs.declared.side.SideName.{SideName}
 use Rattle.wiring.proofs.EdgeEnds.{at-set-same, at-set-other}
 use Rattle.wiring.proofs.Permutation.{Whole, placeOf, place-lt, bit-place, side-fits, fitted-edges}
 use Rattle.wiring.proofs.Plans.{plan-sound, plan-joined}
 use Rattle.wiring.proofs.TurnedBits.{vertex-turned-same, vertex-turned-other}
-use Rattle.wiring.proofs.VertexWords.{withWord-same, withWord-other, length-scattered}
 use Rattle.decoder.specs.Visiting.{WordsRead, PlacesNoted}
 
 module _ {N : ℕ} {side : Side} (w : Whole N side) {block words : List ℕ} (reads : WordsRead side block words) where
@@ -71,26 +70,6 @@ module _ {N : ℕ} {side : Side} (w : Whole N side) {block words : List ℕ} (re
       there u l apart =
           ap (λ (l : List ℕ). at l u) tells ∙ at-set-other words v u _ apart ∙ reads .each u l
           ∙ sym (ap (λ (l : List ℕ). vertexWord side l u) turned-is ∙ vertex-turned-other w block holds v j v-lt j-lt u l apart)
-
-  -- a vertex that takes another word
-  pub words-put : (few : side .n ≤ 2048) (v x : ℕ) {after told : List ℕ} → v < side .n → x < 2 ^ side .d → after ≡ withWord side v x block
-      → told ≡ set words v x → WordsRead side after told
-  words-put few v x {after} {told} below low puts tells =
-      record {
-        sized = ap length tells ∙ length-set words v x ∙ reads .sized;
-        room = rw (puts, length-scattered) (reads .room);
-        each = λ u l. elim (ℕ-discrete u v) [ yes same ↦ rw same here | no apart ↦ there u l apart ];
-      }
-    where
-      here : at told v ≡ vertexWord side after v
-      here =
-          ap (λ (l : List ℕ). at l v) tells ∙ at-set-same words v x (omega (arith, reads .sized))
-          ∙ sym (ap (λ (l : List ℕ). vertexWord side l v) puts ∙ withWord-same w x block v low (rw (w .entries) at (reads .room)) below)
-
-      there : (u : ℕ) → u < side .n → (u ≡ v → ⊥) → at told u ≡ vertexWord side after u
-      there u l apart =
-          ap (λ (l : List ℕ). at l u) tells ∙ at-set-other words v u x apart ∙ reads .each u l
-          ∙ sym (ap (λ (l : List ℕ). vertexWord side l u) puts ∙ withWord-other w x block u v l below apart)
 
 -- one more word that is fetched
 pub words-more : (side : Side) (block words : List ℕ) (v x : ℕ) {told : List ℕ} → v < length words → told ≡ set words v x

@@ -7,13 +7,15 @@
 --   filled b lost block          the block with every lost bit made b (spans specs Spans)
 --   flipsOutside N lost a b      in how many bits outside the spans two blocks differ (spans specs Spans)
 --   decodeCheck ..               what stops a decoder call before it decodes (specs Answer)
---   decodeAnswer, decodeSums, decodeOutput   what the decoder answers, the sums that it tells, and its output at exit (specs Answer)
---   Decoded .. reply sums left   the decoder answers `reply`, tells `sums` and leaves the output `left`
---   Answered .. reply sums left  the same as a function that decodes ensures it
+--   decodeAnswer, decodeSums, decodeVisits, decodeOutput   what the decoder answers, the sums and the visits that it tells, and its output at exit
+--                                (specs Answer)
+--   Decoded .. reply sums visits left   the decoder answers `reply`, tells `sums` and `visits` and leaves the output `left`
+--   Answered .. reply sums visits left  the same as a function that decodes ensures it
 -- Laws are named by their subject, then by the fact: `settles-` is about the count at which a block settles, `keeps-` about the trial that is
--- kept, `check-` about the tests before a decoding, one outcome each, and `decode-` gives answer, sums and output at one outcome each: a check
--- that refuses (-stopped), the trial with zeros or with ones kept (-zeros, -ones), 15 (-neither), and where no bit is lost -settled and
--- -unsettled; decode-means leads from a count that is answered there back to what it says.
+-- kept, `check-` about the tests before a decoding, one outcome each, and `decode-` gives answer, sums, visits and output at one outcome each: a
+-- check that refuses (-stopped), none that does (-passed), the trial with zeros or with ones kept (-zeros, -ones), 15 (-neither), and where no bit
+-- is lost -settled and -unsettled; decode-means leads from a count that is answered there back to what it says. `number-` is about a number that
+-- is told.
 use Prim.Native.Nat.{ℕ, _+_, _-_, _≤_, _<_, min}
 use native.Mathlib.Nat.{le-refl, min-eq-left, min-eq-right}
 use native.Mathlib.Decide.{decLe}
@@ -37,8 +39,8 @@ use Rattle.wiring.specs.Block.{blockBytes, blockCheck}
 use Rattle.wiring.specs.declared.side.SideName.{SideName}
 use Rattle.spans.specs.Spans.{spansCheck, flipsOutside, filled}
 use Rattle.spans.proofs.Filling.{filled-none}
-use Rattle.decoder.specs.Decode.{sweptBlock, settledAfter, settlesAt, sweepSums, Trial, trial, keepsOnes, decoding}
-use Rattle.decoder.specs.Answer.{decodeCheck, decodeAnswer, decodeSums, decodeOutput}
+use Rattle.decoder.specs.Decode.{sweptBlock, settledAfter, settlesAt, sweepSums, visitsMade, Trial, trial, keepsOnes, decoding}
+use Rattle.decoder.specs.Answer.{decodeCheck, decodeAnswer, decodeSums, numberIfDone, decodeVisits, decodeOutput}
 use Rattle.decoder.proofs.Sweeping.{sheet-mends, after-stays}
 
 -- ---- where a block settles
@@ -118,46 +120,74 @@ module _ (plan : Plan) (received lost : List ℕ) (H : ℕ) where
 
 -- ---- what the decoder answers and leaves
 
-pub record Decoded (plan : Plan) (received lost output : List ℕ) (H : ℕ) (reply : Reply) (sums left : List ℕ) : Type 0 where
+number-done : (reply : Reply) (number : ℕ) (values : List ℕ) → reply ≡ done values → numberIfDone reply number ≡ number
+unfolding numberIfDone
+number-done reply number values e = rw e
+
+number-refused : (reply : Reply) (number n p : ℕ) → reply ≡ refused n p → numberIfDone reply number ≡ 0
+unfolding numberIfDone
+number-refused reply number n p e = rw e
+
+pub record Decoded (plan : Plan) (received lost output : List ℕ) (H : ℕ) (reply : Reply) (sums : List ℕ) (visits : ℕ) (left : List ℕ)
+    : Type 0 where
   pub answer : decodeAnswer plan received lost output H ≡ reply
   pub tells : decodeSums plan received lost output H ≡ sums
+  pub visited : decodeVisits plan received lost output H ≡ visits
   pub leaves : decodeOutput plan received lost output H ≡ left
 
--- the same as a function that decodes ensures it: its reply, its sums and its output at exit
-abbrev pub Answered : Plan → List ℕ → List ℕ → List ℕ → ℕ → Reply → List ℕ → List ℕ → Type 0
-Answered plan received lost output H reply sums left =
+-- the same as a function that decodes ensures it: its reply, its sums, its visits and its output at exit
+abbrev pub Answered : Plan → List ℕ → List ℕ → List ℕ → ℕ → Reply → List ℕ → ℕ → List ℕ → Type 0
+Answered plan received lost output H reply sums visits left =
     (reply ≡ decodeAnswer plan received lost output H)
-    × ((sums ≡ decodeSums plan received lost output H) × (left ≡ decodeOutput plan received lost output H))
+    × ((sums ≡ decodeSums plan received lost output H)
+    × ((visits ≡ decodeVisits plan received lost output H) × (left ≡ decodeOutput plan received lost output H)))
 
 module _ (plan : Plan) (received lost output : List ℕ) (H : ℕ) where
   -- a check that refuses leaves the output as it is
   pub decode-stopped : {number place : ℕ} → decodeCheck plan received lost output H ≡ refused number place
-      → Decoded plan received lost output H (refused number place) (replicate 64 0) output
-  unfolding decodeAnswer decodeSums decodeOutput
+      → Decoded plan received lost output H (refused number place) (replicate 64 0) 0 output
+  unfolding decodeAnswer decodeSums decodeVisits decodeOutput
   decode-stopped {number} {place} e =
       record {
         answer = andThen-refused _ _ number place e;
         tells = ifDone-refused _ _ (replicate 64 0) number place e;
+        visited = number-refused _ _ number place e;
         leaves = ifDone-refused _ _ output number place e;
       }
 
   module _ {values : List ℕ} (pass : decodeCheck plan received lost output H ≡ done values) where
-    decode-kept : (kept : Trial) → keptBy plan received lost H (onesKept plan received lost H) ≡ kept
-        → Decoded plan received lost output H (refuseIf (not (kept .settled)) 15 0 (done (kept .count ∷ []))) (kept .sums)
-        (written (cond (kept .settled) (kept .block) received) output)
-    unfolding decodeAnswer decodeSums decodeOutput decoding
-    decode-kept kept e =
+    -- the decoding is answered
+    pub decode-passed : Decoded plan received lost output H
+        (refuseIf (not (decoding plan received lost H .settled)) 15 0 (done (decoding plan received lost H .count ∷ [])))
+        (decoding plan received lost H .sums) (decoding plan received lost H .visits) (written (decoding plan received lost H .block) output)
+    unfolding decodeAnswer decodeSums decodeVisits decodeOutput
+    decode-passed =
         record {
-          answer = andThen-passed _ _ values pass ∙ ap (λ (t : Trial). refuseIf (not (t .settled)) 15 0 (done (t .count ∷ []))) e;
-          tells = ifDone-done _ _ (replicate 64 0) values pass ∙ ap (λ (t : Trial). t .sums) e;
-          leaves = ifDone-done _ _ output values pass ∙ ap (λ (t : Trial). written (cond (t .settled) (t .block) received) output) e;
+          answer = andThen-passed _ _ values pass;
+          tells = ifDone-done _ _ (replicate 64 0) values pass;
+          visited = number-done _ _ values pass;
+          leaves = ifDone-done _ _ output values pass;
+        }
+
+    decode-kept : (kept : Trial) → keptBy plan received lost H (onesKept plan received lost H) ≡ kept
+        → Decoded plan received lost output H (refuseIf (not (kept .settled)) 15 0 (done (kept .count ∷ []))) (kept .sums) (kept .visits)
+        (written (cond (kept .settled) (kept .block) received) output)
+    unfolding decoding
+    decode-kept kept e =
+        let r = decode-passed in
+        record {
+          answer = r .answer ∙ ap (λ (t : Trial). refuseIf (not (t .settled)) 15 0 (done (t .count ∷ []))) e;
+          tells = r .tells ∙ ap (λ (t : Trial). t .sums) e;
+          visited = r .visited ∙ ap (λ (t : Trial). t .visits) e;
+          leaves = r .leaves ∙ ap (λ (t : Trial). written (cond (t .settled) (t .block) received) output) e;
         }
 
     -- the trial that is kept, where it settles
     decode-from : (b : ℕ) → keptBy plan received lost H (onesKept plan received lost H) ≡ trialFrom plan received lost H b
         → settlesAt plan (filled b lost received) H ≤ H
         → Decoded plan received lost output H (done (settlesAt plan (filled b lost received) H ∷ []))
-        (sweepSums plan (filled b lost received) (settlesAt plan (filled b lost received) H)) (written (settledFrom plan received lost H b) output)
+        (sweepSums plan (filled b lost received) (settlesAt plan (filled b lost received) H))
+        (visitsMade plan (filled b lost received) (settlesAt plan (filled b lost received) H)) (written (settledFrom plan received lost H b) output)
     unfolding trial
     decode-from b e l =
         let r = decode-kept (trialFrom plan received lost H b) e in
@@ -165,23 +195,27 @@ module _ (plan : Plan) (received lost output : List ℕ) (H : ℕ) where
         record {
           answer = r .answer ∙ refuse-passed _ 15 0 _ (ap not in-time);
           tells = r .tells ∙ ap (sweepSums plan (filled b lost received)) (min-eq-left l);
+          visited = r .visited ∙ ap (visitsMade plan (filled b lost received)) (min-eq-left l);
           leaves = r .leaves ∙ ap (λ (t : Bool). written (cond t (settledFrom plan received lost H b) received) output) in-time;
         }
 
     pub decode-zeros : settlesAt plan (filled 0 lost received) H ≤ H
         → (settlesAt plan (filled 1 lost received) H ≤ H → changedFrom plan received lost H 0 ≤ changedFrom plan received lost H 1)
         → Decoded plan received lost output H (done (settlesAt plan (filled 0 lost received) H ∷ []))
-        (sweepSums plan (filled 0 lost received) (settlesAt plan (filled 0 lost received) H)) (written (settledFrom plan received lost H 0) output)
+        (sweepSums plan (filled 0 lost received) (settlesAt plan (filled 0 lost received) H))
+        (visitsMade plan (filled 0 lost received) (settlesAt plan (filled 0 lost received) H)) (written (settledFrom plan received lost H 0) output)
     decode-zeros l fewer = decode-from 0 (ap (keptBy plan received lost H) (keeps-zeros plan received lost H l fewer)) l
 
     pub decode-ones : settlesAt plan (filled 1 lost received) H ≤ H
         → (settlesAt plan (filled 0 lost received) H ≤ H → changedFrom plan received lost H 1 < changedFrom plan received lost H 0)
         → Decoded plan received lost output H (done (settlesAt plan (filled 1 lost received) H ∷ []))
-        (sweepSums plan (filled 1 lost received) (settlesAt plan (filled 1 lost received) H)) (written (settledFrom plan received lost H 1) output)
+        (sweepSums plan (filled 1 lost received) (settlesAt plan (filled 1 lost received) H))
+        (visitsMade plan (filled 1 lost received) (settlesAt plan (filled 1 lost received) H)) (written (settledFrom plan received lost H 1) output)
     decode-ones l fewer = decode-from 1 (ap (keptBy plan received lost H) (keeps-ones plan received lost H l fewer)) l
 
     pub decode-neither : H < settlesAt plan (filled 0 lost received) H → H < settlesAt plan (filled 1 lost received) H
-        → Decoded plan received lost output H (refused 15 0) (sweepSums plan (filled 0 lost received) H) (written received output)
+        → Decoded plan received lost output H (refused 15 0) (sweepSums plan (filled 0 lost received) H)
+        (visitsMade plan (filled 0 lost received) H) (written received output)
     unfolding trial
     decode-neither past late =
         let r = decode-kept (trialFrom plan received lost H 0) (ap (keptBy plan received lost H) (keeps-neither plan received lost H late)) in
@@ -190,6 +224,7 @@ module _ (plan : Plan) (received lost output : List ℕ) (H : ℕ) where
         record {
           answer = r .answer ∙ refuse-taken _ 15 0 _ (ap not not-in-time);
           tells = r .tells ∙ ap (sweepSums plan (filled 0 lost received)) made;
+          visited = r .visited ∙ ap (visitsMade plan (filled 0 lost received)) made;
           leaves = r .leaves ∙ ap (λ (t : Bool). written (cond t (settledFrom plan received lost H 0) received) output) not-in-time;
         }
 
@@ -236,14 +271,15 @@ module _ (plan : Plan) (received lost output : List ℕ) (H : ℕ) where
 module _ (plan : Plan) (received output : List ℕ) (H : ℕ) where
   module _ {values : List ℕ} (pass : decodeCheck plan received [] output H ≡ done values) where
     pub decode-settled : (count : ℕ) → settlesAt plan received H ≡ count → count ≤ H
-        → Decoded plan received [] output H (done (count ∷ [])) (sweepSums plan received count) (written (sweptBlock plan count received) output)
+        → Decoded plan received [] output H (done (count ∷ [])) (sweepSums plan received count) (visitsMade plan received count)
+        (written (sweptBlock plan count received) output)
     decode-settled count e l =
         rw (filled-none 0 received, e)
         at (decode-zeros plan received [] output H pass (rw (filled-none 0 received, e) l)
         (λ _. rw (filled-none 0 received, filled-none 1 received) (le-refl _)))
 
     pub decode-unsettled : H < settlesAt plan received H
-        → Decoded plan received [] output H (refused 15 0) (sweepSums plan received H) (written received output)
+        → Decoded plan received [] output H (refused 15 0) (sweepSums plan received H) (visitsMade plan received H) (written received output)
     decode-unsettled past =
         rw (filled-none 0 received)
         at (decode-neither plan received [] output H pass (rw (filled-none 0 received) past) (rw (filled-none 1 received) past))

@@ -170,10 +170,14 @@ module _ {N : ℕ} {side : Side} (whole : Whole N side) (block : List ℕ) (pass
       ap (λ (x : ℕ). ones (bitXor (vertexWord side block v) x)) (sweep-word mends v l)
       ∙ changed-ones (side .row) (side .k) (side .d) (vertexWord side block v))
 
-  -- a side that is swept again stays
+  -- after a sweep every vertex of the side reads its own nearest word
+  pub sweep-stays : Mends side → (v : ℕ) → v < side .n
+      → nearestOf side (vertexWord side (sweep side block) v) ≡ vertexWord side (sweep side block) v
+  sweep-stays mends v l = rw (sweep-word mends v l) (mends .map-again _ (vertex-lt side block v))
+
+  -- so that a side that is swept again stays
   pub sweep-again : Mends side → sweep side (sweep side block) ≡ sweep side block
-  sweep-again mends =
-      sweep-fixed side (sweep side block) (λ v l. rw (sweep-word mends v l) (mends .map-again _ (vertex-lt side block v)))
+  sweep-again mends = sweep-fixed side (sweep side block) (sweep-stays mends)
 
   -- without ties it is satisfied
   pub sweep-satisfied : Mends side → ((v : ℕ) → v < side .n → tiedAt side (vertexWord side block v) ≡ false)

@@ -28,7 +28,7 @@ use Rattle.inner_code.specs.Reply.{done}
 use Rattle.tables.specs.Finding.{Finds, Found}
 use Rattle.inner_code.proofs.SheetChecks.{Sound, sound}
 use Rattle.tables.proofs.Finding.{Member}
-use Rattle.wiring.specs.Plan.{Plan, Side, left, sheetOf, countOf, sideBit, sideBy}
+use Rattle.wiring.specs.Plan.{Plan, Side, left, sheetOf, countOf, sideBit, sideBy, sideOf}
 use Rattle.wiring.specs.Wiring.{planCheck}
 use Rattle.wiring.specs.declared.side.SideName.{SideName}
 use Rattle.wiring.proofs.VertexWords.{vertex-lt}
@@ -59,7 +59,7 @@ module _ (side : Side) (block : List ℕ) where
 -- ---- how many vertices wait
 
 -- 1 for a tie
-abbrev waits : Bool → ℕ
+abbrev pub waits : Bool → ℕ
 waits t = cond t 1 0
 
 waits-le : (t : Bool) → waits t ≤ 1
@@ -78,7 +78,7 @@ module _ (side : Side) (block : List ℕ) where
   unfolding tiesBy
   ties-one-more v = sum-one-more v _
 
-  ties-le : (m : ℕ) → tiesBy side m block ≤ m
+  pub ties-le : (m : ℕ) → tiesBy side m block ≤ m
   unfolding tiesBy
   ties-le m =
       le-trans (sum-mono m _ (λ v. 1) (λ v l. waits-le (tiedAt side (vertexWord side block v)))) (le-of-eq (sum-const m 1 ∙ omega arith))
@@ -133,6 +133,11 @@ visits-le {sheet} {n} {wiring} ready name {before} {v} within all =
       edges-le v (degree sheet) (le-trans within (ready .fits .n-high)) (s .degree-high),
     )
 
+-- how many wait is a matter of the block at first
+pub visits-ties : {side : Side} {before : List ℕ} {v changed ties : ℕ} {block : List ℕ} → Visits side before v changed ties block
+    → Visits side before v changed (tiesBy side v before) block
+visits-ties all = record { counted = all .counted; waiting = refl; swept = all .swept }
+
 -- no more wait than there are
 pub visits-few : {side : Side} {before : List ℕ} {v changed ties : ℕ} {block : List ℕ} → Visits side before v changed ties block → ties ≤ v
 visits-few {side} {before} {v} all = omega (arith, all .waiting, ties-le side before v)
@@ -140,7 +145,7 @@ visits-few {side} {before} {v} all = omega (arith, all .waiting, ties-le side be
 module _ {N : ℕ} {side : Side} (whole : Whole N side) {before block : List ℕ} {v changed ties : ℕ} (below : v < side .n)
     (so-far : Visits side before v changed ties block) where
   -- vertex v still reads what it read at first
-  visit-first : vertexWord side block v ≡ vertexWord side before v
+  pub visit-first : vertexWord side block v ≡ vertexWord side before v
   visit-first = ap (λ (l : List ℕ). vertexWord side l v) (so-far .swept) ∙ visited-later (nearestOf side) side whole v before v (le-refl v) below
 
   abbrev Stays : Type 0
@@ -159,8 +164,9 @@ module _ {N : ℕ} {side : Side} (whole : Whole N side) {before block : List ℕ
             ∙ sym (visited-one-more (nearestOf side) side v before);
       }
 
-  pub visits-kept : Stays → tiedAt side (vertexWord side block v) ≡ false → Visits side before (v + 1) changed ties block
-  visits-kept stays untied =
+  -- a vertex that stays, whether it waits or not
+  pub visits-stays : Stays → {tie : ℕ} → tie ≡ waits (tiedAt side (vertexWord side block v)) → Visits side before (v + 1) changed (ties + tie) block
+  visits-stays stays waited =
       record {
         counted = omega (
           arith,
@@ -168,15 +174,15 @@ module _ {N : ℕ} {side : Side} (whole : Whole N side) {before block : List ℕ
           sym (ap (changedAt side) visit-first) ∙ changed-none-back _ _ _ _ stays,
           so-far .counted,
         );
-        waiting = omega (
-          arith,
-          ties-one-more side before v,
-          sym (ap (λ (w : ℕ). waits (tiedAt side w)) visit-first) ∙ ap waits untied,
-          so-far .waiting,
-        );
+        waiting = omega (arith, ties-one-more side before v, waited ∙ ap (λ (w : ℕ). waits (tiedAt side w)) visit-first, so-far .waiting);
         swept = so-far .swept
             ∙ sym (visited-skip (nearestOf side) side v before (rw (so-far .swept) at stays));
       }
+
+  pub visits-kept : Stays → tiedAt side (vertexWord side block v) ≡ false → Visits side before (v + 1) changed ties block
+  visits-kept stays untied =
+      let none : ties + 0 ≡ ties = omega arith in
+      rw none at (visits-stays stays {tie = 0} (sym (ap waits untied)))
 
 -- after the last vertex
 pub visits-sweep : {side : Side} {before : List ℕ} {v changed ties : ℕ} {block : List ℕ} → Visits side before v changed ties block
@@ -208,6 +214,14 @@ unfolding vertexWord wordAt sideBit
 word-read ready block v d-is read =
     read ∙ ap₂ (wordAt block) (ap (λ (x : ℕ). v * x) d-is) (ap (λ (x : ℕ). min x 16) d-is ∙ min-eq-left (ready .fits .d-high))
 
+-- as a checked plan has it
+pub left-read : (plan : Plan) → planCheck plan ≡ done [] → (block : List ℕ) (v : ℕ) {d word : ℕ} → d ≡ degree (plan .leftSheet)
+    → word ≡ wordAt block (v * d) (min d 16) → word ≡ vertexWord (sideOf plan left) block v
+unfolding vertexWord wordAt sideBit
+left-read plan accepted block v d-is read =
+    let fits = side-fits plan (plan-sound plan accepted .1) left in
+    read ∙ ap₂ (wordAt block) (ap (λ (x : ℕ). v * x) d-is) (ap (λ (x : ℕ). min x 16) d-is ∙ min-eq-left (fits .d-high))
+
 module _ {sheet : List ℕ} {n : ℕ} {wiring finder : List ℕ} (ready : SideReady sheet n wiring finder) (name : SideName) (block : List ℕ)
     {v word : ℕ} (below : v < n) (word-is : word ≡ vertexWord (sideBy sheet n wiring name) block v) where
   abbrev side : Side
@@ -220,7 +234,7 @@ module _ {sheet : List ℕ} {n : ℕ} {wiring finder : List ℕ} (ready : SideRe
     abbrev ok : Sound sheet
     ok = sound sheet [] (ready .finds .accepted)
 
-    word-tells : r ≡ isCodeword (rowOf sheet) (rowCount sheet) (vertexWord side block v)
+    pub word-tells : r ≡ isCodeword (rowOf sheet) (rowCount sheet) (vertexWord side block v)
     word-tells = member .tells sheet (ready .finds) word-lt ∙ ap (isCodeword (rowOf sheet) (rowCount sheet)) word-is
 
     -- a codeword stays and is no tie
@@ -235,6 +249,13 @@ module _ {sheet : List ℕ} {n : ℕ} {wiring finder : List ℕ} (ready : SideRe
         → tie ≡ waits (tiedAt side (vertexWord side block v))
     word-waits found e told =
         told ∙ ap waits (ap (λ (x : ℕ). eqb x 0) (found .counted (ready .finds) word-lt ∙ ap (changedAt side) word-is)
+        ∙ changed-tied _ _ _ (ok .degree-high) (ok .rows-lt) _ (vertex-lt side block v) (sym word-tells ∙ e))
+
+    -- the same where the bits that are changed are told
+    pub visit-waits : r ≡ false → {bits tie : ℕ} → bits ≡ changedAt side (vertexWord side block v) → tie ≡ waits (eqb bits 0)
+        → tie ≡ waits (tiedAt side (vertexWord side block v))
+    visit-waits e counted told =
+        told ∙ ap waits (ap (λ (x : ℕ). eqb x 0) counted
         ∙ changed-tied _ _ _ (ok .degree-high) (ok .rows-lt) _ (vertex-lt side block v) (sym word-tells ∙ e))
 
   module _ {step : Step} {after : List ℕ} (found : Found sheet finder word step after) where

@@ -2,6 +2,8 @@
 --   decodeCheck ..               what stops a decoder call before it decodes: 1 to 10, 23, 11, 12, 24 to 26, 13, 14
 --   decodeAnswer, decodeOutput   the decoder: these, 15, or the sweep count; its output at exit has the decoding's block at the front
 --   decodeSums ..                the 64 sums that it tells beside: the decoding's, and zeros where it is stopped before it decodes
+--   numberIfDone reply number    the number where nothing is refused, and else 0
+--   decodeVisits ..              how many vertices were visited, which it tells beside: the decoding's, and 0 where it is stopped before it decodes
 --   decodeReply r                the paper's number, place and values for each case of the decoder's answer in the code
 use Prim.Native.Nat.{ℕ}
 use mathlib.Core.List.{List, [], _∷_}
@@ -40,6 +42,14 @@ unfoldable pub decodeSums : Plan → List ℕ → List ℕ → List ℕ → ℕ 
 unfolding ifDone decodeCheck decoding
 decodeSums plan received lost output H =
     ifDone (decodeCheck plan received lost output H) (decoding plan received lost H .sums) (replicate 64 0)
+
+unfoldable pub numberIfDone : Reply → ℕ → ℕ
+numberIfDone (done values) number = number
+numberIfDone (refused x y) number = 0
+
+unfoldable pub decodeVisits : Plan → List ℕ → List ℕ → List ℕ → ℕ → ℕ
+unfolding numberIfDone decodeCheck decoding
+decodeVisits plan received lost output H = numberIfDone (decodeCheck plan received lost output H) (decoding plan received lost H .visits)
 
 abbrev pub decodeReply : Decoded → Reply
 decodeReply (Decoded.Settled count) = done (count ∷ [])

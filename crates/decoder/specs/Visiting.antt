@@ -4,46 +4,43 @@
 --   changedBy side m block      how many bits the vertices 0 .. m - 1 of a side change, each by the nearest word of what it reads
 --   tiedAt side w               w is a tie of the side's inner code: more than one pattern has the fewest ones
 --   tiesBy side m block         how many of the vertices 0 .. m - 1 of a side read such a word
---   quiet                       the tally of a sweep that finds every vertex satisfied
 --   SideReady sheet n wiring finder  a side of this sheet and n vertices fits the wiring, whose entries are its edges, and the finder finds
 --                               the sheet's nearest words
 --   Ready plan leftFinder rightFinder  the plan is accepted, and each finder finds its side's nearest words; a right finder of no numbers
 --                               stands for the left one, and both sides have one sheet
 --   SideSwept side before tally after  one sweep as the code makes it: its tally - how many bits it changed, how many ties it left - and the block
 --                               that it leaves
---   BothSwept plan before here there after  a left sweep and the right one after it as the code makes them: their tallies, and the block that is left
---   Tried plan block H count sums swept  a trial of a block with limit H as the code makes it: its count and sums, and the block that it leaves
+--   Tried plan block H count sums visits swept  a trial of a block with limit H as the code makes it: its count, sums and visits, and the block that
+--                               it leaves
 --   Passed plan received lost room H  what a call knows that nothing stops before it decodes
---   Attempted plan received lost b H attempt before after  the trial with the lost bits b, made at the front of a buffer: `before` and `after` are
---                               the buffer, and the bits that it changes outside the spans are counted where some are lost
---   endedAt count before here past  where a sweep changed nothing: `count` where neither the sweep before nor this one left a tie, and else `past`
 --   noted sums i H changed      the sums with that of sweep i + 1 in them, where it is one of the H sweeps and one that is told
 --   patternPut bit d base p h block  the block with the h lowest digits of the pattern p put on the bits of a vertex: its d entries begin at
 --                               `base`, and digit j of p turns the bit at entry base + (d - 1 - j) where it is 1
---   WordsRead side block words  the list holds the words that the vertices of a side read, and the block holds the side's bits
---   PlacesNoted plan places     the list holds, at each edge, the entry of the wiring where it stands
+--   WordsRead side block words  the list begins with the words that the vertices of a side read, and the block holds the side's bits
+--   PlacesNoted plan places     the list holds, at each edge, the entry of the wiring where it stands; it may be longer
+--   Across plan name places     what leads from a bit of this side to the vertex of the other side that reads it: from the left side the places of the
+--                               edges; from the right side nothing is needed, since the bit's number tells its left vertex
 use Prim.Native.Nat.{ℕ, zero, suc, _+_, _-_, _*_, _≤_, _<_, min}
 use mathlib.Core.List.{List, []}
 use mathlib.Core.Bool.{Bool, cond}
 use mathlib.Core.Path.{_≡_}
-use lib.Dec.{eqb, ltb}
+use lib.Dec.{ltb}
 use lib.ListN.{length, set}
-use Rattle.bits.specs.Bit.{digit, written}
+use Rattle.bits.specs.Bit.{digit}
 use Rattle.bits.specs.Sum.{sum}
 use Rattle.bits.specs.Window.{at, turned}
 use Rattle.inner_code.specs.Reply.{done}
 use Rattle.inner_code.specs.Code.{tied, nearestWord, bitsChanged}
 use Rattle.tables.specs.Finding.{Finds}
 use Rattle.inner_code.specs.Sheet.{degree}
-use Rattle.wiring.specs.Plan.{Plan, Side, edgeOf, edgeCount, left, right, sideOf}
+use Rattle.wiring.specs.Plan.{Plan, Side, edgeOf, edgeCount, left}
 use Rattle.wiring.specs.Wiring.{planCheck}
 use Rattle.wiring.specs.Block.{vertexWord, blockCheck}
 use Rattle.wiring.specs.Checking.{Fitted, Permuted}
-use Rattle.spans.specs.Spans.{spansCheck, filled}
-use Rattle.spans.specs.Walking.{flipsAround}
+use Rattle.wiring.specs.declared.side.SideName.{SideName}
+use Rattle.spans.specs.Spans.{spansCheck}
 use Rattle.decoder.specs.Sweep.{sweep}
-use Rattle.decoder.specs.Decode.{sweptBlock, settlesAt, sweepSums}
-use Rattle.decoder.specs.declared.decoding.Attempt.{Attempt}
+use Rattle.decoder.specs.Decode.{sweptBlock, settlesAt, sweepSums, visitsMade}
 use Rattle.decoder.specs.declared.sweep.Tally.{Tally}
 
 abbrev pub nearestOf : Side → ℕ → ℕ
@@ -63,9 +60,6 @@ unfoldable pub tiesBy : Side → ℕ → List ℕ → ℕ
 unfolding sum vertexWord tied
 tiesBy side m block = sum m (λ v. cond (tiedAt side (vertexWord side block v)) 1 0)
 
-abbrev pub quiet : Tally
-quiet = record { changed = 0; ties = 0 }
-
 pub record SideReady (sheet : List ℕ) (n : ℕ) (wiring finder : List ℕ) : Type 0 where
   pub fits : Fitted (degree sheet) n wiring
   pub permuted : Permuted (n * degree sheet) wiring
@@ -82,14 +76,10 @@ pub record SideSwept (side : Side) (before : List ℕ) (tally : Tally) (after : 
   pub waiting : tally .ties ≡ tiesBy side (side .n) before
   pub leaves : after ≡ sweep side before
 
-pub record BothSwept (plan : Plan) (before : List ℕ) (here there : Tally) (after : List ℕ) : Type 0 where
-  pub between : List ℕ
-  pub left-swept : SideSwept (sideOf plan left) before here between
-  pub right-swept : SideSwept (sideOf plan right) between there after
-
-pub record Tried (plan : Plan) (block : List ℕ) (H count : ℕ) (sums swept : List ℕ) : Type 0 where
+pub record Tried (plan : Plan) (block : List ℕ) (H count : ℕ) (sums : List ℕ) (visits : ℕ) (swept : List ℕ) : Type 0 where
   pub counted : settlesAt plan block H ≡ count
   pub told : sums ≡ sweepSums plan block (min count H)
+  pub visited : visits ≡ visitsMade plan block (min count H)
   pub leaves : count ≤ H → swept ≡ sweptBlock plan count block
   pub kept : length swept ≡ length block
 
@@ -100,16 +90,6 @@ pub record Passed (plan : Plan) (received lost room : List ℕ) (H : ℕ) : Type
   pub fits : length received ≤ length room
   pub limited : H ≤ 4096
 
-pub record Attempted (plan : Plan) (received lost : List ℕ) (b H : ℕ) (attempt : Attempt) (before after : List ℕ) : Type 0 where
-  pub swept : List ℕ
-  pub trial : Tried plan (filled b lost received) H (attempt .count) (attempt .sums) swept
-  pub stands : after ≡ written swept before
-  pub changes : (length lost ≡ 0 → ⊥) → attempt .changed ≡ flipsAround (edgeCount plan) lost received swept
-  pub uncounted : length lost ≡ 0 → attempt .changed ≡ 0
-
-unfoldable pub endedAt : ℕ → ℕ → ℕ → ℕ → ℕ
-endedAt count before here past = cond (eqb before 0) (cond (eqb here 0) count past) past
-
 unfoldable pub noted : List ℕ → ℕ → ℕ → ℕ → List ℕ
 noted sums i H changed = cond (ltb i (min H 64)) (set sums i changed) sums
 
@@ -119,10 +99,13 @@ patternPut bit d base p zero block = block
 patternPut bit d base p (suc h) block = patternPut bit d base p h (turned block (bit (base + (d - 1 - h))) (digit p h))
 
 pub record WordsRead (side : Side) (block words : List ℕ) : Type 0 where
-  pub sized : length words ≡ 2048
+  pub sized : length words ≡ 2304
   pub room : side .n * side .d ≤ length block * 8
   pub each : (v : ℕ) → v < side .n → at words v ≡ vertexWord side block v
 
 pub record PlacesNoted (plan : Plan) (places : List ℕ) : Type 0 where
-  pub sized : length places ≡ 32768
+  pub sized : edgeCount plan ≤ length places
   pub each : (i : ℕ) → i < edgeCount plan → at places (edgeOf (plan .wiring) i) ≡ i
+
+pub record Across (plan : Plan) (name : SideName) (places : List ℕ) : Type 0 where
+  pub noted : name ≡ left → PlacesNoted plan places

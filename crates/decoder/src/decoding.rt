@@ -1,6 +1,11 @@
 // The decoder: refusals 1 to 15 and 23 to 26.
+use crate::news::KEPT;
+use crate::settle::Opening;
 use crate::settle::SUMS;
-use crate::settle::settle;
+use crate::settle::Settling;
+use crate::settle::finish;
+use crate::settle::open;
+use crate::words::places_for;
 use inner_code::Refusal;
 use inner_code::refusal;
 use tables::FINDER_WORDS;
@@ -8,26 +13,32 @@ use wiring::Checked;
 use wiring::Located;
 use wiring::MAX_EDGES;
 use wiring::SideCode;
-ghost use mathlib.Core.Bool.{true, false};
-ghost use mathlib.Core.List.{[]};
+ghost use mathlib.Core.Bool.{true, false, cond};
+ghost use mathlib.Core.List.{List, [], _∷_};
 ghost use mathlib.Core.Path.{_≡_};
-ghost use Prim.Native.Nat.{_%_, _≤_, _<_};
-ghost use lib.ListN.{length, replicate};
+ghost use Prim.Native.Nat.{ℕ, _/_, _%_, _≤_, _<_};
+ghost use lib.Dec.{ltb};
+ghost use lib.ListN.{length, take, replicate};
 ghost use Rattle.bits.specs.Bit.{written};
-ghost use Rattle.inner_code.specs.Reply.{done, refused};
-ghost use Rattle.wiring.specs.Plan.{planOf};
+ghost use Rattle.inner_code.specs.Reply.{done, refused, refuseIf};
+ghost use Rattle.wiring.specs.Plan.{planOf, edgeCount};
 ghost use Rattle.wiring.specs.Access.{bothCodes, locatedBy};
 ghost use Rattle.wiring.specs.Checking.{codeOf};
 ghost use Rattle.wiring.specs.declared.side.SideName.{SideName};
 ghost use Rattle.spans.specs.Spans.{filled};
-ghost use Rattle.decoder.specs.Visiting.{Ready, Passed, Attempted};
-ghost use Rattle.decoder.specs.Answer.{decodeCheck, decodeAnswer, decodeSums, decodeOutput, decodeReply};
+ghost use Rattle.spans.specs.Walking.{flipsAround};
+ghost use Rattle.decoder.specs.Visiting.{Ready, PlacesNoted, Tried};
+ghost use Rattle.decoder.specs.Turns.{Opened, OpenedSome};
+ghost use Rattle.decoder.specs.Answer.{decodeCheck, decodeAnswer, decodeSums, decodeVisits, decodeOutput, decodeReply};
 
 // The most sweeps that a call may allow.
 const MAX_LIMIT: usize = 4096;
 
 // The bytes of the largest block.
 const MAX_BLOCK: usize = MAX_EDGES / 8;
+
+// Plans of so few edges have room of their own for the places of the edges.
+const FEW_EDGES: usize = 1024;
 
 // A block of so few bytes is first tested by the rows.
 const SMALL_BLOCK: usize = 32;
@@ -38,16 +49,18 @@ pub enum Decoded {
     Refused(Refusal),
 }
 
-// The whole answer of a decoder call: with what is answered, how many bits each of the first sweeps changed, 0 for a sweep that was not made.
+// The whole answer of a decoder call: with what is answered, how many bits each of the first sweeps changed, 0 for a sweep that was not made, and
+// how many vertices the sweeps visited.
 pub struct Decoding {
     pub outcome: Decoded,
     pub sums: [u16; SUMS],
+    pub visits: u64,
 }
 
 // Decodes a received block, of which `lost` lists the spans that were lost, into the front of `output`, and answers after how many sweeps it
 // settled. It is tried with the lost bits all 0 and with all 1; of two trials that settle, the one that changes fewer bits outside the spans
 // is kept, the first where they change as many. Refusals 1 to 15 and 23 to 26; with 15 the front of `output` holds the received block, and no
-// other refusal writes a byte. The sums are those of the trial that is kept, with 15 those of the first; with any other refusal they are 0.
+// other refusal writes a byte. Sums and visits are those of the trial that is kept, with 15 those of the first; with any other refusal they are 0.
 pub fn decode(
     left: &[u8],
     right: &[u8],
@@ -61,6 +74,7 @@ pub fn decode(
 ) -> Decoding
     ensures { λ r. ⌜ decodeReply (r .outcome) ≡ decodeAnswer (planOf (now (left .entry)) (now (right .entry)) nl nr (now (wiring .entry))) (now (received .entry)) (now (lost .entry)) (now (output .entry)) limit ⌝ }
     ensures { λ r. ⌜ r .sums ≡ decodeSums (planOf (now (left .entry)) (now (right .entry)) nl nr (now (wiring .entry))) (now (received .entry)) (now (lost .entry)) (now (output .entry)) limit ⌝ }
+    ensures { λ r. ⌜ r .visits ≡ decodeVisits (planOf (now (left .entry)) (now (right .entry)) nl nr (now (wiring .entry))) (now (received .entry)) (now (lost .entry)) (now (output .entry)) limit ⌝ }
     ensures { λ _. ⌜ now (output .exit) ≡ decodeOutput (planOf (now (left .entry)) (now (right .entry)) nl nr (now (wiring .entry))) (now (received .entry)) (now (lost .entry)) (now (output .entry)) limit ⌝ }
 {
     let plan = wiring::check_plan(left, right, nl, nr, wiring);
@@ -123,6 +137,7 @@ fn decode_checked(
     requires { ⌜ decodeCheck (planOf (now left) (now right) nl nr (now wiring)) (now received) (now lost) (now output) limit ≡ done [] ⌝ }
     ensures { λ r. ⌜ decodeReply (r .outcome) ≡ decodeAnswer (planOf (now (left .entry)) (now (right .entry)) nl nr (now (wiring .entry))) (now (received .entry)) (now (lost .entry)) (now (output .entry)) limit ⌝ }
     ensures { λ r. ⌜ r .sums ≡ decodeSums (planOf (now (left .entry)) (now (right .entry)) nl nr (now (wiring .entry))) (now (received .entry)) (now (lost .entry)) (now (output .entry)) limit ⌝ }
+    ensures { λ r. ⌜ r .visits ≡ decodeVisits (planOf (now (left .entry)) (now (right .entry)) nl nr (now (wiring .entry))) (now (received .entry)) (now (lost .entry)) (now (output .entry)) limit ⌝ }
     ensures { λ _. ⌜ now (output .exit) ≡ decodeOutput (planOf (now (left .entry)) (now (right .entry)) nl nr (now (wiring .entry))) (now (received .entry)) (now (lost .entry)) (now (output .entry)) limit ⌝ }
 {
     if lost.len() == 0 {
@@ -131,6 +146,7 @@ fn decode_checked(
             return Decoding {
                 outcome: Decoded::Settled(0),
                 sums: [0; SUMS],
+                visits: 0,
             };
         }
     }
@@ -171,9 +187,8 @@ fn decode_checked(
     )
 }
 
-// Decodes with the finders of both sides. The trial with zeros is made at the front of the output, the one with ones in a buffer of its own. Where
-// the first settles and changes no bit outside the spans, it is kept whatever the second would give; where no bit is lost there is no second.
-// Where none settles the received block is put back, its lost bits as they were received.
+// Decodes with the finders of both sides. The trial with zeros is made at the front of the output. Most blocks settle in its first two sweeps; what
+// else there is to do needs more room.
 fn decode_trials(
     left: &[u8],
     right: &[u8],
@@ -191,9 +206,13 @@ fn decode_trials(
     requires { ⌜ decodeCheck (planOf (now left) (now right) nl nr (now wiring)) (now received) (now lost) (now output) limit ≡ done [] ⌝ }
     ensures { λ r. ⌜ decodeReply (r .outcome) ≡ decodeAnswer (planOf (now (left .entry)) (now (right .entry)) nl nr (now (wiring .entry))) (now (received .entry)) (now (lost .entry)) (now (output .entry)) limit ⌝ }
     ensures { λ r. ⌜ r .sums ≡ decodeSums (planOf (now (left .entry)) (now (right .entry)) nl nr (now (wiring .entry))) (now (received .entry)) (now (lost .entry)) (now (output .entry)) limit ⌝ }
+    ensures { λ r. ⌜ r .visits ≡ decodeVisits (planOf (now (left .entry)) (now (right .entry)) nl nr (now (wiring .entry))) (now (received .entry)) (now (lost .entry)) (now (output .entry)) limit ⌝ }
     ensures { λ _. ⌜ now (output .exit) ≡ decodeOutput (planOf (now (left .entry)) (now (right .entry)) nl nr (now (wiring .entry))) (now (received .entry)) (now (lost .entry)) (now (output .entry)) limit ⌝ }
 {
-    let zeros = make_trial(
+    let size = received.len();
+    lay_out(received, lost, 0, output);
+    let mut kept = [0u16; KEPT];
+    let opening = open(
         left,
         right,
         nl,
@@ -201,70 +220,52 @@ fn decode_trials(
         wiring,
         left_finder,
         right_finder,
-        received,
-        lost,
-        0,
         limit,
-        output,
+        &mut kept,
+        &mut output[0..size],
     );
-    let count = zeros.count;
-    let sums = zeros.sums;
-    if count <= limit {
-        if zeros.changed == 0 {
-            return Decoding {
-                outcome: Decoded::Settled(count),
-                sums,
-            };
-        }
-    }
-    if lost.len() == 0 {
-        return unsettled(received, output, sums);
-    }
-    let mut other = [0u8; MAX_BLOCK];
-    let ones = make_trial(
-        left,
-        right,
-        nl,
-        nr,
-        wiring,
-        left_finder,
-        right_finder,
-        received,
-        lost,
-        1,
-        limit,
-        &mut other,
-    );
-    let ones_count = ones.count;
-    let ones_sums = ones.sums;
-    if keeps_ones(limit, count, zeros.changed, ones_count, ones.changed) {
-        let size = received.len();
-        copy_front(&other[0..size], output);
+    let count = opening.count;
+    let sums = opening.sums;
+    let visits = opening.visits;
+    if at_once(lost.len(), opening.ended, count, limit) {
         return Decoding {
-            outcome: Decoded::Settled(ones_count),
-            sums: ones_sums,
+            outcome: Decoded::Settled(count),
+            sums,
+            visits,
         };
     }
-    if limit < count {
-        return unsettled(received, output, sums);
-    }
-    Decoding {
-        outcome: Decoded::Settled(count),
-        sums,
-    }
+    decode_on(
+        left,
+        right,
+        nl,
+        nr,
+        wiring,
+        left_finder,
+        right_finder,
+        received,
+        lost,
+        opening,
+        &mut kept,
+        output,
+    )
 }
 
-// What a trial came to: after how many sweeps it settled, one more than the limit where it did not, how many bits it changed outside the spans,
-// and how many each sweep changed.
-struct Attempt {
-    count: usize,
-    changed: usize,
-    sums: [u16; SUMS],
+// Whether nothing more is to do after two sweeps: no bit is lost, and the block settled.
+fn at_once(lost_bytes: usize, ended: bool, count: usize, limit: usize) -> bool
+    ensures { λ r. ⌜ (r ≡ true → («lost_bytes» ≡ 0) × ((ended ≡ true) × (count ≤ limit))) ⌝ }
+{
+    if lost_bytes != 0 {
+        return false;
+    }
+    if ended {
+        return count <= limit;
+    }
+    false
 }
 
-// Makes the trial with the lost bits all `value` at the front of a buffer. Where no bit is lost nothing depends on the bits that it changed, and
-// they are not counted.
-fn make_trial(
+// Goes on from the first two sweeps of the trial with zeros, at the front of the output. Room for the places of the edges is cleared here and not
+// before, and less of it for a small plan, since clearing all of it takes longer than such a call.
+fn decode_on(
     left: &[u8],
     right: &[u8],
     nl: usize,
@@ -274,19 +275,108 @@ fn make_trial(
     right_finder: &mut [u16],
     received: &[u8],
     lost: &[u8],
-    value: u64,
-    limit: usize,
-    room: &mut [u8],
-) -> Attempt
+    opening: Opening,
+    kept: &mut [u16; KEPT],
+    output: &mut [u8],
+) -> Decoding
     requires { ⌜ Ready (planOf (now left) (now right) nl nr (now wiring)) (now «left_finder») (now «right_finder») ⌝ }
-    requires { ⌜ Passed (planOf (now left) (now right) nl nr (now wiring)) (now received) (now lost) (now room) limit ⌝ }
-    requires { ⌜ value < 2 ⌝ }
-    ensures { λ _. ⌜ Ready (planOf (now (left .entry)) (now (right .entry)) nl nr (now (wiring .entry))) (now («left_finder» .exit)) (now («right_finder» .exit)) ⌝ }
-    ensures { λ r. ⌜ Attempted (planOf (now (left .entry)) (now (right .entry)) nl nr (now (wiring .entry))) (now (received .entry)) (now (lost .entry)) value limit r (now (room .entry)) (now (room .exit)) ⌝ }
+    requires { ⌜ decodeCheck (planOf (now left) (now right) nl nr (now wiring)) (now received) (now lost) (now output) (opening .limit) ≡ done [] ⌝ }
+    requires { ⌜ Opened (planOf (now left) (now right) nl nr (now wiring)) (filled 0 (now lost) (now received)) (opening .limit) opening (now kept) (take (length (now received)) (now output)) ⌝ }
+    ensures { λ r. ⌜ decodeReply (r .outcome) ≡ decodeAnswer (planOf (now (left .entry)) (now (right .entry)) nl nr (now (wiring .entry))) (now (received .entry)) (now (lost .entry)) (now (output .entry)) (opening .limit) ⌝ }
+    ensures { λ r. ⌜ r .sums ≡ decodeSums (planOf (now (left .entry)) (now (right .entry)) nl nr (now (wiring .entry))) (now (received .entry)) (now (lost .entry)) (now (output .entry)) (opening .limit) ⌝ }
+    ensures { λ r. ⌜ r .visits ≡ decodeVisits (planOf (now (left .entry)) (now (right .entry)) nl nr (now (wiring .entry))) (now (received .entry)) (now (lost .entry)) (now (output .entry)) (opening .limit) ⌝ }
+    ensures { λ _. ⌜ now (output .exit) ≡ decodeOutput (planOf (now (left .entry)) (now (right .entry)) nl nr (now (wiring .entry))) (now (received .entry)) (now (lost .entry)) (now (output .entry)) (opening .limit) ⌝ }
+{
+    if wiring.len() <= 2 * FEW_EDGES {
+        let mut places = [0u16; FEW_EDGES];
+        return decode_placed(
+            left,
+            right,
+            nl,
+            nr,
+            wiring,
+            left_finder,
+            right_finder,
+            received,
+            lost,
+            opening,
+            &mut places,
+            kept,
+            output,
+        );
+    }
+    let mut places = [0u16; MAX_EDGES];
+    decode_placed(
+        left,
+        right,
+        nl,
+        nr,
+        wiring,
+        left_finder,
+        right_finder,
+        received,
+        lost,
+        opening,
+        &mut places,
+        kept,
+        output,
+    )
+}
+
+// The same with room for the places of the edges, which are noted once for both trials, where one of them makes a third sweep. The trial with ones is
+// made in a buffer of its own. Where the first settles and changes no bit outside the spans, it is kept whatever the second would give; where no
+// bit is lost there is no second. Where none settles the received block is put back, its lost bits as they were received.
+fn decode_placed(
+    left: &[u8],
+    right: &[u8],
+    nl: usize,
+    nr: usize,
+    wiring: &[u8],
+    left_finder: &mut [u16],
+    right_finder: &mut [u16],
+    received: &[u8],
+    lost: &[u8],
+    opening: Opening,
+    places: &mut [u16],
+    kept: &mut [u16; KEPT],
+    output: &mut [u8],
+) -> Decoding
+    requires { ⌜ Ready (planOf (now left) (now right) nl nr (now wiring)) (now «left_finder») (now «right_finder») ⌝ }
+    requires { ⌜ decodeCheck (planOf (now left) (now right) nl nr (now wiring)) (now received) (now lost) (now output) (opening .limit) ≡ done [] ⌝ }
+    requires { ⌜ edgeCount (planOf (now left) (now right) nl nr (now wiring)) ≤ length (now places) ⌝ }
+    requires { ⌜ Opened (planOf (now left) (now right) nl nr (now wiring)) (filled 0 (now lost) (now received)) (opening .limit) opening (now kept) (take (length (now received)) (now output)) ⌝ }
+    ensures { λ r. ⌜ decodeReply (r .outcome) ≡ decodeAnswer (planOf (now (left .entry)) (now (right .entry)) nl nr (now (wiring .entry))) (now (received .entry)) (now (lost .entry)) (now (output .entry)) (opening .limit) ⌝ }
+    ensures { λ r. ⌜ r .sums ≡ decodeSums (planOf (now (left .entry)) (now (right .entry)) nl nr (now (wiring .entry))) (now (received .entry)) (now (lost .entry)) (now (output .entry)) (opening .limit) ⌝ }
+    ensures { λ r. ⌜ r .visits ≡ decodeVisits (planOf (now (left .entry)) (now (right .entry)) nl nr (now (wiring .entry))) (now (received .entry)) (now (lost .entry)) (now (output .entry)) (opening .limit) ⌝ }
+    ensures { λ _. ⌜ now (output .exit) ≡ decodeOutput (planOf (now (left .entry)) (now (right .entry)) nl nr (now (wiring .entry))) (now (received .entry)) (now (lost .entry)) (now (output .entry)) (opening .limit) ⌝ }
 {
     let size = received.len();
-    lay_out(received, lost, value, room);
-    let settled = settle(
+    let limit = opening.limit;
+    let first = finish_trial(
+        left,
+        right,
+        nl,
+        nr,
+        wiring,
+        left_finder,
+        right_finder,
+        received,
+        lost,
+        opening,
+        false,
+        places,
+        kept,
+        output,
+    );
+    let zeros = first.settling;
+    let zeros_changed = first.changed;
+    if keeps_zeros(lost.len(), limit, zeros.count, zeros_changed) {
+        return answer_by(limit, zeros, received, output);
+    }
+    let mut other = [0u8; MAX_BLOCK];
+    lay_out(received, lost, 1, &mut other);
+    *kept = [0u16; KEPT];
+    let again = open(
         left,
         right,
         nl,
@@ -295,23 +385,118 @@ fn make_trial(
         left_finder,
         right_finder,
         limit,
+        kept,
+        &mut other[0..size],
+    );
+    let second = finish_trial(
+        left,
+        right,
+        nl,
+        nr,
+        wiring,
+        left_finder,
+        right_finder,
+        received,
+        lost,
+        again,
+        first.noted,
+        places,
+        kept,
+        &mut other,
+    );
+    let ones = second.settling;
+    if keeps_ones(
+        limit,
+        zeros.count,
+        zeros_changed,
+        ones.count,
+        second.changed,
+    ) {
+        copy_front(&other[0..size], output);
+        return answer_by(limit, ones, received, output);
+    }
+    answer_by(limit, zeros, received, output)
+}
+
+// What a trial comes to: how many received bits outside the spans it changes is counted where some are lost. With it, whether the places of the edges
+// are noted.
+struct Attempt {
+    settling: Settling,
+    changed: usize,
+    noted: bool,
+}
+
+// Goes on from the first two sweeps of a trial, at the front of `room`. The places are noted where a third sweep is made and they are not yet.
+fn finish_trial(
+    left: &[u8],
+    right: &[u8],
+    nl: usize,
+    nr: usize,
+    wiring: &[u8],
+    left_finder: &mut [u16],
+    right_finder: &mut [u16],
+    received: &[u8],
+    lost: &[u8],
+    opening: Opening,
+    noted: bool,
+    places: &mut [u16],
+    kept: &mut [u16; KEPT],
+    room: &mut [u8],
+) -> Attempt
+    requires { ⌜ Ready (planOf (now left) (now right) nl nr (now wiring)) (now «left_finder») (now «right_finder») ⌝ }
+    requires { ⌜ length (now received) ≤ length (now room) ⌝ }
+    requires { ⌜ OpenedSome (planOf (now left) (now right) nl nr (now wiring)) opening (now kept) (take (length (now received)) (now room)) ⌝ }
+    requires { ⌜ edgeCount (planOf (now left) (now right) nl nr (now wiring)) ≤ length (now places) ⌝ }
+    requires { ⌜ (noted ≡ true → PlacesNoted (planOf (now left) (now right) nl nr (now wiring)) (now places)) ⌝ }
+    ensures { λ _. ⌜ Ready (planOf (now (left .entry)) (now (right .entry)) nl nr (now (wiring .entry))) (now («left_finder» .exit)) (now («right_finder» .exit)) ⌝ }
+    ensures { λ r. ⌜ (r .noted ≡ true → PlacesNoted (planOf (now (left .entry)) (now (right .entry)) nl nr (now (wiring .entry))) (now (places .exit))) ⌝ }
+    ensures { λ _. ⌜ now (room .exit) ≡ written (take (length (now (received .entry))) (now (room .exit))) (now (room .entry)) ⌝ }
+    ensures { λ r. ⌜ ((block : List ℕ) → Opened (planOf (now (left .entry)) (now (right .entry)) nl nr (now (wiring .entry))) block (opening .limit) opening (now (kept .entry)) (take (length (now (received .entry))) (now (room .entry)))
+        → Tried (planOf (now (left .entry)) (now (right .entry)) nl nr (now (wiring .entry))) block (opening .limit) (r .settling .count) (r .settling .sums) (r .settling .visits) (take (length (now (received .entry))) (now (room .exit)))) ⌝ }
+    ensures { λ r. ⌜ ((length (now (lost .entry)) ≡ 0 → ⊥) → r .changed ≡ flipsAround (length (now (wiring .entry)) / 2) (now (lost .entry)) (now (received .entry)) (take (length (now (received .entry))) (now (room .exit)))) ⌝ }
+{
+    let size = received.len();
+    let noted = places_for(left, right, nl, nr, wiring, opening.ended, noted, places);
+    let settling = finish(
+        left,
+        right,
+        nl,
+        nr,
+        wiring,
+        left_finder,
+        right_finder,
+        opening,
+        places,
+        kept,
         &mut room[0..size],
     );
-    let count = settled.count;
-    let sums = settled.sums;
     if lost.len() == 0 {
         return Attempt {
-            count,
+            settling,
             changed: 0,
-            sums,
+            noted,
         };
     }
     let changed = spans::flips_outside(wiring.len() / 2, lost, received, &room[0..size]);
     Attempt {
-        count,
+        settling,
         changed,
-        sums,
+        noted,
     }
+}
+
+// Whether the trial with zeros is kept whatever the one with ones gives: no bit is lost, or it settles and changes no bit outside the spans.
+fn keeps_zeros(lost_bytes: usize, limit: usize, zeros: usize, changed: usize) -> bool
+    ensures { λ r. ⌜ (r ≡ true → («lost_bytes» ≡ 0 → ⊥) → (zeros ≤ limit) × (changed ≡ 0)) ⌝ }
+    ensures { λ r. ⌜ (r ≡ false → «lost_bytes» ≡ 0 → ⊥) ⌝ }
+{
+    if lost_bytes == 0 {
+        return true;
+    }
+    if limit < zeros {
+        return false;
+    }
+    changed == 0
 }
 
 // Whether the trial with ones is kept: it settles, and where the one with zeros does too, it changes fewer bits outside the spans.
@@ -344,20 +529,33 @@ fn lay_out(received: &[u8], lost: &[u8], value: u64, room: &mut [u8])
     spans::fill(lost, value, &mut room[0..size]);
 }
 
-// The answer of a call that is worked through and does not settle: the received block is put back at the front of the output.
-fn unsettled(received: &[u8], output: &mut [u8], sums: [u16; SUMS]) -> Decoding
+// The answer of a call that is worked through, by the trial that is kept, whose block stands at the front of the output: where it does not settle,
+// the received block is put back there.
+fn answer_by(limit: usize, trial: Settling, received: &[u8], output: &mut [u8]) -> Decoding
     requires { ⌜ length (now received) ≤ length (now output) ⌝ }
-    ensures { λ r. ⌜ decodeReply (r .outcome) ≡ refused 15 0 ⌝ }
-    ensures { λ r. ⌜ r .sums ≡ sums ⌝ }
-    ensures { λ _. ⌜ now (output .exit) ≡ written (now (received .entry)) (now (output .entry)) ⌝ }
+    ensures { λ r. ⌜ decodeReply (r .outcome) ≡ refuseIf (ltb limit (trial .count)) 15 0 (done (trial .count ∷ [])) ⌝ }
+    ensures { λ r. ⌜ r .sums ≡ trial .sums ⌝ }
+    ensures { λ r. ⌜ r .visits ≡ trial .visits ⌝ }
+    ensures { λ _. ⌜ now (output .exit) ≡ cond (ltb limit (trial .count)) (written (now (received .entry)) (now (output .entry))) (now (output .entry)) ⌝ }
 {
-    copy_front(received, output);
+    let count = trial.count;
+    let sums = trial.sums;
+    let visits = trial.visits;
+    if limit < count {
+        copy_front(received, output);
+        return Decoding {
+            outcome: Decoded::Refused(Refusal {
+                number: refusal::UNSETTLED,
+                place: 0,
+            }),
+            sums,
+            visits,
+        };
+    }
     Decoding {
-        outcome: Decoded::Refused(Refusal {
-            number: refusal::UNSETTLED,
-            place: 0,
-        }),
+        outcome: Decoded::Settled(count),
         sums,
+        visits,
     }
 }
 
@@ -365,10 +563,12 @@ fn unsettled(received: &[u8], output: &mut [u8], sums: [u16; SUMS]) -> Decoding
 fn refuse(refusal: Refusal) -> Decoding
     ensures { λ r. ⌜ decodeReply (r .outcome) ≡ refused (refusal .number) (refusal .place) ⌝ }
     ensures { λ r. ⌜ r .sums ≡ replicate 64 0 ⌝ }
+    ensures { λ r. ⌜ r .visits ≡ 0 ⌝ }
 {
     Decoding {
         outcome: Decoded::Refused(refusal),
         sums: [0; SUMS],
+        visits: 0,
     }
 }
 

@@ -1,39 +1,54 @@
-// Sweeps in turn, up to the first count after which the block is a codeword.
+// Sweeps in turn, up to the first count after which the block is a codeword. The first two sweeps go over all vertices; the later ones, over those
+// with news.
+use crate::news::KEPT;
+use crate::news::clear_marks;
 use crate::sweep::Tally;
 use crate::sweep::all_codewords;
+use crate::sweep::all_satisfied;
+use crate::sweep::other_side;
 use crate::sweep::sweep_first;
-use crate::sweep::sweep_left;
 use crate::sweep::sweep_right;
-use crate::words::note_places;
+use crate::sweep::sweep_turn;
 use crate::words::read_words;
-use wiring::MAX_EDGES;
-use wiring::MAX_VERTICES;
-ghost use mathlib.Core.List.{[]};
+use wiring::SideName;
+ghost use mathlib.Core.Bool.{false};
+ghost use mathlib.Core.List.{List, []};
 ghost use mathlib.Core.Path.{_≡_};
-ghost use Prim.Native.Nat.{_≤_, _<_, min};
+ghost use Prim.Native.Nat.{ℕ, _+_, _≤_, _<_};
 ghost use lib.ListN.{length};
 ghost use Rattle.inner_code.specs.Reply.{done};
-ghost use Rattle.wiring.specs.Plan.{planOf, edgeCount, sideOf};
+ghost use Rattle.wiring.specs.Plan.{planOf, edgeCount};
 ghost use Rattle.wiring.specs.Block.{blockCheck};
-ghost use Rattle.decoder.specs.Decode.{sweptBlock, settlesAt, sweepSums};
-ghost use Rattle.wiring.specs.declared.side.SideName.{SideName};
-ghost use Rattle.decoder.specs.Visiting.{Ready, BothSwept, WordsRead, PlacesNoted, endedAt, noted};
+ghost use Rattle.decoder.specs.Visiting.{Ready, PlacesNoted, Tried, noted};
+ghost use Rattle.decoder.specs.News.{BothSwept};
+ghost use Rattle.decoder.specs.Turns.{addedVisits, endedTo, Opened, OpenedSome};
 
 // The sweeps whose sums are told.
 pub const SUMS: usize = 64;
 
-// After how many sweeps a block settled, one more than the limit where it did not, and how many bits each sweep up to there changed.
+// After how many sweeps a block settled, one more than the limit where it did not, how many bits each sweep up to there changed, and how many
+// vertices they visited.
 pub(crate) struct Settling {
     pub count: usize,
     pub sums: [u16; SUMS],
+    pub visits: u64,
 }
 
-// Sweeps a block until it settles. The test before each sweep is of both sides, and takes no pass of its own: a sweep that changes no bit and
-// leaves no tie found its side satisfied, and the side swept before is satisfied where that sweep left no tie. From sweep 2 on, a sweep that
-// changes nothing is the last: the side swept before reads what it read, so no later sweep changes anything either, and the block settled
-// there or never does. Where two sweeps do not end it, the left words are tested before the places of the edges are noted, which only a
-// third sweep that changes something needs. Sweeps made beyond the count or the limit are such tests, and their sums are not told.
-pub(crate) fn settle(
+// The same where two sweeps end it. Else two sweeps are made, and a third is.
+pub(crate) struct Opening {
+    pub limit: usize,
+    pub ended: bool,
+    pub count: usize,
+    pub sums: [u16; SUMS],
+    pub visits: u64,
+}
+
+// The first two sweeps. The test before each sweep is of both sides, and takes no pass of its own: a sweep that changes no bit and leaves no tie
+// found its side satisfied, and the side swept before is satisfied where that sweep left no tie. Where the second sweep changes nothing it is the
+// last: the side swept before reads what it read, so no later sweep changes anything either, and the block settled there or never does. Where it
+// changes something and leaves no tie, the left words are tested before a third sweep is made. Sums and visits of a sweep beyond the limit are
+// not told.
+pub(crate) fn open(
     left: &[u8],
     right: &[u8],
     nl: usize,
@@ -42,17 +57,16 @@ pub(crate) fn settle(
     left_finder: &mut [u16],
     right_finder: &mut [u16],
     limit: usize,
+    kept: &mut [u16; KEPT],
     block: &mut [u8],
-) -> Settling
+) -> Opening
     requires { ⌜ limit ≤ 4096 ⌝ }
+    requires { ⌜ length (now kept) ≡ 2304 ⌝ }
     requires { ⌜ Ready (planOf (now left) (now right) nl nr (now wiring)) (now «left_finder») (now «right_finder») ⌝ }
     requires { ⌜ blockCheck (edgeCount (planOf (now left) (now right) nl nr (now wiring))) (now block) ≡ done [] ⌝ }
     ensures { λ _. ⌜ Ready (planOf (now (left .entry)) (now (right .entry)) nl nr (now (wiring .entry))) (now («left_finder» .exit)) (now («right_finder» .exit)) ⌝ }
-    ensures { λ r. ⌜ r .count ≡ settlesAt (planOf (now (left .entry)) (now (right .entry)) nl nr (now (wiring .entry))) (now (block .entry)) limit ⌝ }
-    ensures { λ r. ⌜ r .sums ≡ sweepSums (planOf (now (left .entry)) (now (right .entry)) nl nr (now (wiring .entry))) (now (block .entry)) (min (r .count) limit) ⌝ }
-    ensures { λ r. ⌜ (r .count ≤ limit → now (block .exit) ≡ sweptBlock (planOf (now (left .entry)) (now (right .entry)) nl nr (now (wiring .entry))) (r .count) (now (block .entry))) ⌝ }
+    ensures { λ r. ⌜ Opened (planOf (now (left .entry)) (now (right .entry)) nl nr (now (wiring .entry))) (now (block .entry)) limit r (now (kept .exit)) (now (block .exit)) ⌝ }
 {
-    let mut words = [0u16; MAX_VERTICES];
     let firsts = sweep_firsts(
         left,
         right,
@@ -61,87 +75,80 @@ pub(crate) fn settle(
         wiring,
         left_finder,
         right_finder,
-        &mut words,
+        kept,
         block,
     );
     let first = firsts.left;
     let second = firsts.right;
-    let past = limit + 1;
+    let one = add_visits(0, 0, limit, nl as u64);
+    let two = add_visits(one, 1, limit, nr as u64);
     let mut sums = [0u16; SUMS];
     note(&mut sums, 0, limit, first.changed);
     if second.changed == 0 {
         if first.changed == 0 {
-            return Settling {
-                count: ended_at(0, first.ties, second.ties, past),
-                sums,
-            };
+            return ended(limit, 0, first.ties + second.ties, sums, 0, two);
         }
-        return Settling {
-            count: ended_at(1, first.ties, second.ties, past),
-            sums,
-        };
+        return ended(limit, 1, first.ties + second.ties, sums, one, two);
     }
     note(&mut sums, 1, limit, second.changed);
     if limit < 2 {
-        return Settling { count: past, sums };
-    }
-    if all_codewords(left, nl, wiring, left_finder, block) {
-        return Settling {
-            count: ended_at(2, second.ties, 0, past),
+        return Opening {
+            limit,
+            ended: true,
+            count: limit + 1,
             sums,
+            visits: two,
         };
     }
-    let mut places = [0u16; MAX_EDGES];
-    note_places(left, right, nl, nr, wiring, &mut places);
-    let mut ties = second.ties;
-    let mut count = 2;
-    while count <= limit {
-        let more = sweep_both(
-            left,
-            right,
-            nl,
-            nr,
-            wiring,
-            left_finder,
-            right_finder,
-            &places,
-            &mut words,
-            block,
-        );
-        let here = more.left;
-        let there = more.right;
-        if here.changed == 0 {
-            return Settling {
-                count: ended_at(count, ties, here.ties, past),
+    if second.ties == 0 {
+        if all_codewords(left, nl, wiring, left_finder, block) {
+            return Opening {
+                limit,
+                ended: true,
+                count: 2,
                 sums,
+                visits: two,
             };
         }
-        note(&mut sums, count, limit, here.changed);
-        let next = count + 1;
-        if there.changed == 0 {
-            return Settling {
-                count: ended_at(next, here.ties, there.ties, past),
-                sums,
-            };
-        }
-        note(&mut sums, next, limit, there.changed);
-        ties = there.ties;
-        count += 2;
     }
-    Settling { count: past, sums }
+    Opening {
+        limit,
+        ended: false,
+        count: 2,
+        sums,
+        visits: two,
+    }
 }
 
-// Where a sweep changed nothing: the block settled at `count` where neither the sweep before nor this one left a tie, and else it never does.
-fn ended_at(count: usize, before: usize, here: usize, past: usize) -> usize
-    ensures { λ r. ⌜ r ≡ endedAt count before here past ⌝ }
+// Where the second sweep changed nothing: the block settled at `count` with so many visits where no sweep left a tie, and else it never does, and
+// the visits are those of the two sweeps.
+fn ended(
+    limit: usize,
+    count: usize,
+    ties: usize,
+    sums: [u16; SUMS],
+    visits: u64,
+    both: u64,
+) -> Opening
+    requires { ⌜ limit ≤ 4096 ⌝ }
+    ensures { λ r. ⌜ r ≡ endedTo limit count ties sums visits both ⌝ }
 {
-    if before != 0 {
-        return past;
+    if ties == 0 {
+        return Opening {
+            limit,
+            ended: true,
+            count,
+            sums,
+            visits,
+        };
     }
-    if here != 0 {
-        return past;
+    Opening {
+        limit,
+        ended: true,
+        count: limit + 1,
+        sums,
+        visits: both,
     }
-    count
 }
 
 // What a left sweep and the right one after it tell.
@@ -159,18 +166,18 @@ fn sweep_firsts(
     wiring: &[u8],
     left_finder: &mut [u16],
     right_finder: &mut [u16],
-    words: &mut [u16; MAX_VERTICES],
+    kept: &mut [u16; KEPT],
     block: &mut [u8],
 ) -> Tallies
     requires { ⌜ Ready (planOf (now left) (now right) nl nr (now wiring)) (now «left_finder») (now «right_finder») ⌝ }
     requires { ⌜ blockCheck (edgeCount (planOf (now left) (now right) nl nr (now wiring))) (now block) ≡ done [] ⌝ }
-    requires { ⌜ length (now words) ≡ 2048 ⌝ }
-    ensures { λ r. ⌜ BothSwept (planOf (now (left .entry)) (now (right .entry)) nl nr (now (wiring .entry))) (now (block .entry)) (r .left) (r .right) (now (block .exit)) ⌝ }
+    requires { ⌜ length (now kept) ≡ 2304 ⌝ }
+    ensures { λ r. ⌜ BothSwept (planOf (now (left .entry)) (now (right .entry)) nl nr (now (wiring .entry))) (now (block .entry)) (r .left) (r .right) (now (block .exit)) (now (kept .exit)) ⌝ }
     ensures { λ _. ⌜ Ready (planOf (now (left .entry)) (now (right .entry)) nl nr (now (wiring .entry))) (now («left_finder» .exit)) (now («right_finder» .exit)) ⌝ }
-    ensures { λ _. ⌜ WordsRead (sideOf (planOf (now (left .entry)) (now (right .entry)) nl nr (now (wiring .entry))) SideName.Right) (now (block .exit)) (now (words .exit)) ⌝ }
 {
     let first = sweep_first(left, nl, wiring, left_finder, block);
-    read_words(left, right, nl, nr, wiring, block, words);
+    clear_marks(kept);
+    read_words(left, right, nl, nr, wiring, block, kept);
     let second = sweep_right(
         left,
         right,
@@ -179,7 +186,7 @@ fn sweep_firsts(
         wiring,
         left_finder,
         right_finder,
-        words,
+        kept,
         block,
     );
     Tallies {
@@ -188,8 +195,10 @@ fn sweep_firsts(
     }
 }
 
-// A later left sweep and the right one after it.
-fn sweep_both(
+// The sweeps from the third on, where two do not end it. Each goes over the vertices with news: any other was visited two sweeps before, reads
+// what it read then, and would stay. One that changes nothing is the last: no vertex has news of it. The block is then tested once, since a tie
+// may have waited without news.
+pub(crate) fn finish(
     left: &[u8],
     right: &[u8],
     nl: usize,
@@ -197,42 +206,77 @@ fn sweep_both(
     wiring: &[u8],
     left_finder: &mut [u16],
     right_finder: &mut [u16],
+    opening: Opening,
     places: &[u16],
-    words: &mut [u16; MAX_VERTICES],
+    kept: &mut [u16; KEPT],
     block: &mut [u8],
-) -> Tallies
+) -> Settling
     requires { ⌜ Ready (planOf (now left) (now right) nl nr (now wiring)) (now «left_finder») (now «right_finder») ⌝ }
-    requires { ⌜ PlacesNoted (planOf (now left) (now right) nl nr (now wiring)) (now places) ⌝ }
-    requires { ⌜ WordsRead (sideOf (planOf (now left) (now right) nl nr (now wiring)) SideName.Right) (now block) (now words) ⌝ }
-    ensures { λ r. ⌜ BothSwept (planOf (now (left .entry)) (now (right .entry)) nl nr (now (wiring .entry))) (now (block .entry)) (r .left) (r .right) (now (block .exit)) ⌝ }
+    requires { ⌜ OpenedSome (planOf (now left) (now right) nl nr (now wiring)) opening (now kept) (now block) ⌝ }
+    requires { ⌜ (opening .ended ≡ false → PlacesNoted (planOf (now left) (now right) nl nr (now wiring)) (now places)) ⌝ }
     ensures { λ _. ⌜ Ready (planOf (now (left .entry)) (now (right .entry)) nl nr (now (wiring .entry))) (now («left_finder» .exit)) (now («right_finder» .exit)) ⌝ }
-    ensures { λ _. ⌜ WordsRead (sideOf (planOf (now (left .entry)) (now (right .entry)) nl nr (now (wiring .entry))) SideName.Right) (now (block .exit)) (now (words .exit)) ⌝ }
+    ensures { λ r. ⌜ ((received : List ℕ) → Opened (planOf (now (left .entry)) (now (right .entry)) nl nr (now (wiring .entry))) received (opening .limit) opening (now (kept .entry)) (now (block .entry))
+        → Tried (planOf (now (left .entry)) (now (right .entry)) nl nr (now (wiring .entry))) received (opening .limit) (r .count) (r .sums) (r .visits) (now (block .exit))) ⌝ }
 {
-    let here = sweep_left(
-        left,
-        right,
-        nl,
-        nr,
-        wiring,
-        left_finder,
-        places,
-        words,
-        block,
-    );
-    let there = sweep_right(
-        left,
-        right,
-        nl,
-        nr,
-        wiring,
-        left_finder,
-        right_finder,
-        words,
-        block,
-    );
-    Tallies {
-        left: here,
-        right: there,
+    let limit = opening.limit;
+    let mut sums = opening.sums;
+    let mut visits = opening.visits;
+    if opening.ended {
+        return Settling {
+            count: opening.count,
+            sums,
+            visits,
+        };
+    }
+    let mut side = SideName::Left;
+    let mut count = 2;
+    while count <= limit {
+        let here = sweep_turn(
+            left,
+            right,
+            nl,
+            nr,
+            wiring,
+            left_finder,
+            right_finder,
+            side,
+            places,
+            kept,
+            block,
+        );
+        if here.changed == 0 {
+            if all_satisfied(
+                left,
+                right,
+                nl,
+                nr,
+                wiring,
+                left_finder,
+                right_finder,
+                kept,
+                block,
+            ) {
+                return Settling {
+                    count,
+                    sums,
+                    visits,
+                };
+            }
+            return Settling {
+                count: limit + 1,
+                sums,
+                visits: add_visits(visits, count, limit, here.visits),
+            };
+        }
+        note(&mut sums, count, limit, here.changed);
+        visits = add_visits(visits, count, limit, here.visits);
+        side = other_side(side);
+        count += 1;
+    }
+    Settling {
+        count: limit + 1,
+        sums,
+        visits,
     }
 }
 
@@ -247,4 +291,15 @@ fn note(sums: &mut [u16; SUMS], i: usize, limit: usize, changed: usize)
             sums[i] = changed as u16;
         }
     }
+}
+
+// The visits with those of sweep `i` + 1, where it is within the limit.
+fn add_visits(visits: u64, i: usize, limit: usize, more: u64) -> u64
+    requires { ⌜ visits + more < 18446744073709551616 ⌝ }
+    ensures { λ r. ⌜ r ≡ addedVisits visits i limit more ⌝ }
+{
+    if i < limit {
+        return visits + more;
+    }
+    visits
 }

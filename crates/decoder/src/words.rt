@@ -1,8 +1,9 @@
 // Words: that of a left vertex as it stands in the block; and the right side at hand, the words that its vertices read and where each edge
 // stands among its entries. These are fetched in one pass over the wiring each, the places only for a call that makes a third sweep.
+use crate::news::KEPT;
 use crate::pattern::edge_at;
-use wiring::MAX_VERTICES;
 use wiring::SideName;
+ghost use mathlib.Core.Bool.{true, false};
 ghost use mathlib.Core.List.{[]};
 ghost use mathlib.Core.Path.{_≡_};
 ghost use Prim.Native.Nat.{ℕ, _+_, _*_, _≤_, _<_, min};
@@ -15,6 +16,7 @@ ghost use Rattle.wiring.specs.Block.{blockCheck};
 ghost use Rattle.wiring.specs.Access.{wordFrom};
 ghost use Rattle.wiring.specs.declared.side.SideName.{SideName};
 ghost use Rattle.decoder.specs.Visiting.{WordsRead, PlacesNoted};
+ghost use Rattle.decoder.specs.News.{Cleared};
 
 // The word that left vertex v reads: one or two whole bytes where d is 8 or 16, which is what large plans have. Any other d is left to a call, so
 // that this stays small enough for the compiler to put it into the sweeps' loops.
@@ -36,7 +38,7 @@ pub(crate) fn left_word(wiring: &[u8], block: &[u8], v: usize, d: usize) -> u16
     wiring::read_word(SideName::Left, wiring, d, block, v)
 }
 
-// The words that all vertices of the right side read.
+// The words that all vertices of the right side read, in front of a list that keeps more.
 pub(crate) fn read_words(
     left: &[u8],
     right: &[u8],
@@ -44,17 +46,18 @@ pub(crate) fn read_words(
     nr: usize,
     wiring: &[u8],
     block: &[u8],
-    words: &mut [u16; MAX_VERTICES],
+    kept: &mut [u16; KEPT],
 )
     requires { ⌜ planCheck (planOf (now left) (now right) nl nr (now wiring)) ≡ done [] ⌝ }
     requires { ⌜ blockCheck (edgeCount (planOf (now left) (now right) nl nr (now wiring))) (now block) ≡ done [] ⌝ }
-    requires { ⌜ length (now words) ≡ 2048 ⌝ }
-    ensures { λ _. ⌜ WordsRead (sideOf (planOf (now (left .entry)) (now (right .entry)) nl nr (now (wiring .entry))) SideName.Right) (now (block .entry)) (now (words .exit)) ⌝ }
+    requires { ⌜ Cleared (now kept) ⌝ }
+    ensures { λ _. ⌜ WordsRead (sideOf (planOf (now (left .entry)) (now (right .entry)) nl nr (now (wiring .entry))) SideName.Right) (now (block .entry)) (now (kept .exit)) ⌝ }
+    ensures { λ _. ⌜ Cleared (now (kept .exit)) ⌝ }
 {
     let d = right[0] as usize;
     let mut v = 0;
     while v < nr {
-        words[v] = gathered(wiring, v * d, d, block);
+        kept[v] = gathered(wiring, v * d, d, block);
         v += 1;
     }
 }
@@ -79,16 +82,9 @@ fn gathered(wiring: &[u8], base: usize, d: usize, block: &[u8]) -> u16
 }
 
 // Notes at each edge the entry of the wiring where it stands.
-pub(crate) fn note_places(
-    left: &[u8],
-    right: &[u8],
-    nl: usize,
-    nr: usize,
-    wiring: &[u8],
-    places: &mut [u16],
-)
+fn note_places(left: &[u8], right: &[u8], nl: usize, nr: usize, wiring: &[u8], places: &mut [u16])
     requires { ⌜ planCheck (planOf (now left) (now right) nl nr (now wiring)) ≡ done [] ⌝ }
-    requires { ⌜ length (now places) ≡ 32768 ⌝ }
+    requires { ⌜ edgeCount (planOf (now left) (now right) nl nr (now wiring)) ≤ length (now places) ⌝ }
     ensures { λ _. ⌜ PlacesNoted (planOf (now (left .entry)) (now (right .entry)) nl nr (now (wiring .entry))) (now (places .exit)) ⌝ }
 {
     let edges = wiring.len() / 2;
@@ -97,4 +93,31 @@ pub(crate) fn note_places(
         places[edge_at(wiring, i)] = i as u16;
         i += 1;
     }
+}
+
+// Notes the places where they are needed and not yet noted, and tells whether they are noted.
+pub(crate) fn places_for(
+    left: &[u8],
+    right: &[u8],
+    nl: usize,
+    nr: usize,
+    wiring: &[u8],
+    ended: bool,
+    noted: bool,
+    places: &mut [u16],
+) -> bool
+    requires { ⌜ planCheck (planOf (now left) (now right) nl nr (now wiring)) ≡ done [] ⌝ }
+    requires { ⌜ edgeCount (planOf (now left) (now right) nl nr (now wiring)) ≤ length (now places) ⌝ }
+    requires { ⌜ (noted ≡ true → PlacesNoted (planOf (now left) (now right) nl nr (now wiring)) (now places)) ⌝ }
+    ensures { λ r. ⌜ (r ≡ true → PlacesNoted (planOf (now (left .entry)) (now (right .entry)) nl nr (now (wiring .entry))) (now (places .exit))) ⌝ }
+    ensures { λ r. ⌜ (ended ≡ false → r ≡ true) ⌝ }
+{
+    if ended {
+        return noted;
+    }
+    if noted {
+        return true;
+    }
+    note_places(left, right, nl, nr, wiring, places);
+    true
 }

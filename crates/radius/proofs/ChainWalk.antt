@@ -9,7 +9,8 @@ use mathlib.Core.Logic.{inl, inr}
 use mathlib.Core.Path.{_≡_, refl, ap, _∙_}
 use native.Mathlib.Nat.{add-zero, eq-zero-or-pos}
 use native.Mathlib.Omega.{arith}
-use Rattle.radius.specs.Margin.{Measures, stepCovered, nextBound, oneMore}
+use Rattle.radius.specs.Margin.{Measures, stepCovered, nextBound}
+use Rattle.radius.specs.Chain.{oneMore}
 use Rattle.wiring.specs.declared.side.SideName.{SideName}
 use Rattle.decoder.specs.Sweep.{other}
 use Rattle.radius.proofs.MarginChain.{sweepsFrom, chain-next, chain-step, chain-zero}

@@ -42,9 +42,11 @@ use Rattle.decoder.specs.Answer.{decodeCheck, decodeAnswer}
 use Rattle.decoder.proofs.Sweeping.{sheet-mends}
 use Rattle.decoder.proofs.Settling.{settles-codeword, settles-first, settles-stays, decode-stopped, decode-settled}
 use Rattle.decoder.proofs.Settling.{check-block, check-spans, check-short, check-limit, check-passed}
+use Rattle.report.specs.Report.{differsAt}
 use Rattle.radius.specs.Answer.{distanceOf, marginAnswer}
 use Rattle.radius.specs.Demand.{stoppedBefore15, Restored}
-use Rattle.radius.proofs.Restoring.{Nears, after-restores}
+use Rattle.radius.proofs.Convergence.{Mending}
+use Rattle.radius.proofs.Restoring.{Nears, after-mending, after-restores}
 use Rattle.radius.proofs.Answers.{Covered, margin-means}
 
 -- ---- the received block, swept
@@ -53,14 +55,17 @@ sheet-nears : (plan : Plan) → ((name : SideName) → Sound (sheetOf plan name)
     → Nears (sideOf plan name) (distanceOf (sideOf plan name))
 sheet-nears plan s name = record { mends = sheet-mends plan s name; near = nearest-near _ _ _ (s name .degree-high) (s name .rows-lt) }
 
--- every codeword within F flips is what the named sweeps make of the received block
-pub swept-restores : (plan : Plan) (received : List ℕ) (F q : ℕ) → Covered plan F q → Block (edgeCount plan) received
-    → (c : List ℕ) → Codeword plan c → flips (edgeCount plan) c received ≤ F → sweptBlock plan q received ≡ c
-swept-restores plan received F q covered block c code few =
-    rw (covered .named)
-    (after-restores (plan-joined plan (covered .accepted)) (λ name. distanceOf (sideOf plan name))
-    (sheet-nears plan (plan-sound plan (covered .accepted) .0)) c (code .satisfied-all) (distance-pos _ _) (code .block-of) received block F few
-    (rw (covered .named) at (covered .some)))
+module _ (plan : Plan) (received : List ℕ) (F q : ℕ) (covered : Covered plan F q) (block : Block (edgeCount plan) received)
+    (c : List ℕ) (code : Codeword plan c) (few : flips (edgeCount plan) c received ≤ F) where
+  pub swept-mending : Mending (edgeCount plan) (sideOf plan) (λ name. distanceOf (sideOf plan name)) F (λ i. differsAt (sweptBlock plan i received) c)
+  swept-mending =
+      after-mending (plan-joined plan (covered .accepted)) (λ name. distanceOf (sideOf plan name))
+      (sheet-nears plan (plan-sound plan (covered .accepted) .0)) c (code .satisfied-all) (distance-pos _ _) received (block .checked) F few
+
+  -- every codeword within F flips is what the named sweeps make of the received block
+  pub swept-restores : sweptBlock plan q received ≡ c
+  swept-restores =
+      rw (covered .named) (after-restores c received swept-mending (code .block-of) block (rw (covered .named) at (covered .some)))
 
 -- ---- where it settles: where q sweeps make it a codeword c, it has settled by then, as c
 

@@ -5,6 +5,7 @@ pub mod Convergence
 pub mod Restoring
 pub mod Answers
 pub mod Guarantee
+pub mod VisitsBound
 pub mod Distance
 pub mod LostSpans
 pub mod PlanRanges

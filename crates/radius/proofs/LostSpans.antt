@@ -109,8 +109,8 @@ module _ (plan : Plan) (sent received lost output : List ℕ) (F q H : ℕ) (cod
   -- ---- the trial that is kept
 
   module _ (check : decodeCheck plan received lost output H ≡ done []) where
-    kept-mended : (b : ℕ) {sums : List ℕ} → settled b ≡ sent
-        → Decoded plan received lost output H (done (settlesAt plan (trialOf b) H ∷ [])) sums (written (settled b) output)
+    kept-mended : (b : ℕ) {sums : List ℕ} {visits : ℕ} → settled b ≡ sent
+        → Decoded plan received lost output H (done (settlesAt plan (trialOf b) H ∷ [])) sums visits (written (settled b) output)
         → Mended plan sent received lost output H
     kept-mended b home decoded =
         record {

@@ -1,38 +1,44 @@
 -- Laws of the margin: the chain of bounds b falls strictly, its sweeps are counted step by step, and the flips F that it covers
 -- have no gaps.
--- The notions, of specs/Margin.antt:
+-- The notions, of specs/Margin.antt and specs/Chain.antt:
 --   Measures                 the numbers of a plan that the margin rests on
 --   slack m to b             D·nr - 2·dl·b, the paper's A for a step to a side with that side's D
 --   stepCovered m to b       the step from b is covered: A is above 0 and its square above 4·nr·R
 --   nextBound m to b         the next b
---   chainSweeps m to t b     the place of the first zero in the chain that begins with b and steps to a side, in at most t terms; 0 for none
+--   bound m F i              the b after sweep i + 1
+--   chainEnd m F             the first i at which the chain of b stops
 --   sweepsNamed m F          the sweeps named for F flips; 0 where F is not covered
+--   chainSweeps m to t b     the place of the first zero in the chain that begins with b and steps to a side, in at most t terms; 0 for none
 -- and here
 --   firstBound m F           the first b: 2F/D with the left D, rounded down
 --   sweepsFrom m to b        chainSweeps with b + 1 terms, which are always enough
--- Names: the subject first (covered, next, chain, named), then the fact.
+-- Names: the subject first (covered, next, chain, end, named), then the fact.
 --   covered-slack, slack-covered, covered-mono       when a step is covered
 --   next-falls, next-mono                            the next b
---   chain-zero, chain-step, chain-next               the chain step by step
+--   chain-zero, chain-step, chain-uncovered, chain-next  the chain step by step
 --   chain-mono                                       its length
---   chain-reaches                                    numbers under its bounds come to 0 with it
+--   end-passed, end-le, end-failed, end-counted      where the chain of b stops, and how many sweeps that names
+--   named-step, named-last                           the b of a covered F: every step is covered, and the last b is 0
 --   named-is, named-zero, named-small                which F are covered, by which chain
 --   named-monotone, named-le                         the covered F have no gaps; how many sweeps are named at most
 use Prim.Native.Nat.{ℕ, zero, suc, _+_, _-_, _*_, _/_, _≤_, _<_, zero-le}
-use mathlib.Core.Bool.{Bool, true, false, cond}
+use mathlib.Core.Bool.{Bool, true, false, cond, _&&_}
 use mathlib.Core.Logic.{_≢_, inl, inr}
-use mathlib.Core.Path.{_≡_, refl, ap, _∙_}
-use native.Mathlib.Nat.{add-suc, add-zero, div-lt-iff-lt-mul, div-zero, eq-zero-or-pos, le-refl, mul-le-mul, mul-le-mul-left}
-use native.Mathlib.Nat.{mul-le-mul-right, mul-lt-mul-of-pos-right, mul-pos, not-suc-le-zero, suc-add, zero-div}
+use mathlib.Core.Path.{_≡_, refl, sym, ap, _∙_}
+use native.Mathlib.Nat.{div-lt-iff-lt-mul, div-zero, eq-zero-or-pos, le-refl, mul-le-mul, mul-le-mul-left}
+use native.Mathlib.Nat.{mul-le-mul-right, mul-lt-mul-of-pos-right, mul-pos, not-suc-le-zero, zero-add, zero-div}
+use native.Mathlib.Numerals.{add-one}
 use native.Mathlib.Omega.{arith}
-use lib.Dec.{leb}
+use lib.Dec.{ltb, leb, eqb}
 use lib.Ieee.Nearest.{div-mono}
-use borrow.Author.Tests.{ltb-true, lt-ltb, leb-true, le-leb}
+use borrow.Author.Tests.{ltb-true, lt-ltb, leb-true, le-leb, eqb-true, ne-eqb}
 use Rattle.bits.proofs.Tests.{and-both}
-use Rattle.radius.specs.Margin.{Measures, slack, stepCovered, nextBound, oneMore, chainSweeps, sweepsNamed}
+use Rattle.bits.proofs.Searches.{first-passed, first-failed}
+use Rattle.radius.specs.Margin.{Measures, slack, stepCovered, nextBound, bound, chainEnd, sweepsNamed}
+use Rattle.radius.specs.Chain.{oneMore, chainSweeps}
 use Rattle.wiring.specs.Plan.{left, right}
 use Rattle.wiring.specs.declared.side.SideName.{SideName}
-use Rattle.decoder.specs.Sweep.{other}
+use Rattle.decoder.specs.Sweep.{other, turn}
 
 abbrev pub firstBound : Measures → ℕ → ℕ
 firstBound m F = 2 * F / m .distance left
@@ -46,18 +52,9 @@ cond-ext : (t : Bool) (x y : ℕ) → (t ≡ true → x ≡ y) → cond t x 0 �
 cond-ext true x y h = h refl
 cond-ext false x y h = refl
 
-cond-le : (t : Bool) (x y : ℕ) → (t ≡ true → x ≤ y) → cond t x 0 ≤ y
-cond-le true x y h = h refl
-cond-le false x y h = zero-le
-
 cond-some : (t : Bool) (x : ℕ) → cond t x 0 ≢ 0 → t ≡ true
 cond-some true x h = refl
 cond-some false x h = absurd (h refl)
-
-more-le : (x : ℕ) → oneMore x ≤ suc x
-unfolding oneMore
-more-le zero = zero-le
-more-le (suc x) = le-refl _
 
 more-some : (x : ℕ) → x ≢ 0 → oneMore x ≡ suc x
 unfolding oneMore
@@ -68,6 +65,11 @@ more-ends : (x : ℕ) → oneMore x ≢ 0 → x ≢ 0
 unfolding oneMore
 more-ends zero h e = h refl
 more-ends (suc x) h e = h (ap oneMore e)
+
+more-cond : (t : Bool) (k : ℕ) → oneMore (cond t (suc k) 0) ≡ cond t (suc (suc k)) 0
+unfolding oneMore
+more-cond true k = refl
+more-cond false k = refl
 
 module _ (m : Measures) where
   -- ---- when a step is covered
@@ -132,6 +134,11 @@ module _ (m : Measures) where
   chain-step to zero pos covered = absurd (not-suc-le-zero pos)
   chain-step to (suc b) pos covered = rw covered (ap oneMore (chain-enough (other to) (suc b) _ (next-falls to (suc b) covered pos)))
 
+  chain-uncovered : (to : SideName) (b : ℕ) → 0 < b → stepCovered m to b ≡ false → sweepsFrom m to b ≡ 0
+  unfolding chainSweeps
+  chain-uncovered to zero pos uncovered = absurd (not-suc-le-zero pos)
+  chain-uncovered to (suc b) pos uncovered = rw uncovered
+
   chain-covered : (to : SideName) (b : ℕ) → 0 < b → sweepsFrom m to b ≢ 0 → stepCovered m to b ≡ true
   unfolding chainSweeps
   chain-covered to zero pos some = absurd (not-suc-le-zero pos)
@@ -163,28 +170,49 @@ module _ (m : Measures) where
   pub chain-mono : (to : SideName) (b c : ℕ) → b ≤ c → sweepsFrom m to c ≢ 0 → (sweepsFrom m to b ≢ 0) × (sweepsFrom m to b ≤ sweepsFrom m to c)
   chain-mono to b c = chain-mono-within (suc c) to b c (le-refl (suc c))
 
-  chain-le : (to : SideName) (t b : ℕ) → chainSweeps m to t b ≤ b + 1
-  unfolding chainSweeps
-  chain-le to zero b = zero-le
-  chain-le to (suc t) zero = omega arith
-  chain-le to (suc t) (suc b) =
-      let rest : ℕ = chainSweeps m (other to) t (nextBound m to (suc b)) in
-      cond-le _ (oneMore rest) _ (λ covered.
-      omega (arith, next-falls to (suc b) covered (omega arith), chain-le (other to) t (nextBound m to (suc b)), more-le rest))
+  -- ---- where the chain of b stops
 
-  -- numbers w 0, w 1, .. that stay under the chain's bounds, from b on, come to 0 where the chain does; `at i` is the side of step i
-  pub chain-reaches : (at : ℕ → SideName) → ((i : ℕ) → at (suc i) ≡ other (at i)) → (w : ℕ → ℕ)
-      → ((i b : ℕ) → w i ≤ b → stepCovered m (at i) b ≡ true → w (suc i) ≤ nextBound m (at i) b)
-      → (k i b : ℕ) → w i ≤ b → sweepsFrom m (at i) b ≡ suc k → w (i + k) ≡ 0
-  chain-reaches at next w falls zero i zero l e = rw add-zero (omega arith)
-  chain-reaches at next w falls zero i (suc b) l e =
-      let (covered, ends, more) = chain-next (at i) (suc b) (omega arith) (omega arith) in
-      absurd (ends (omega arith))
-  chain-reaches at next w falls (suc k) i zero l e = absurd (omega (arith, chain-zero (at i)))
-  chain-reaches at next w falls (suc k) i (suc b) l e =
-      let (covered, ends, more) = chain-next (at i) (suc b) (omega arith) (omega arith) in
-      let rest : sweepsFrom m (at (suc i)) (nextBound m (at i) (suc b)) ≡ suc k = rw (next i) (omega arith) in
-      rw (add-suc, ← suc-add) (chain-reaches at next w falls k (suc i) _ (falls i (suc b) l covered) rest)
+  module _ (F : ℕ) where
+    -- b is above 0 and the step from it is covered
+    abbrev goesOn : ℕ → Bool
+    goesOn i = ltb 0 (bound m F i) && stepCovered m (turn (i + 1)) (bound m F i)
+
+    end-passed : (i : ℕ) → i < chainEnd m F → (0 < bound m F i) × (stepCovered m (turn (suc i)) (bound m F i) ≡ true)
+    unfolding chainEnd
+    end-passed i l =
+        let (pos, covered) = and-both _ _ (first-passed (bound m F 0 + 1) goesOn i l) in
+        (ltb-true _ _ pos, rw add-one at covered)
+
+    end-falls : (i : ℕ) → i ≤ chainEnd m F → bound m F i + i ≤ bound m F 0
+    unfolding bound
+    end-falls zero l = omega arith
+    end-falls (suc i) l =
+        let (pos, covered) = end-passed i l in
+        omega (arith, end-falls i (omega arith), next-falls (turn (suc i)) (bound m F i) covered pos)
+
+    end-le : chainEnd m F ≤ bound m F 0
+    end-le = omega (arith, end-falls (chainEnd m F) (le-refl _))
+
+    end-failed : let end : ℕ = chainEnd m F in 0 < bound m F end → stepCovered m (turn (suc end)) (bound m F end) ≡ false
+    unfolding chainEnd
+    end-failed pos =
+        let inside : chainEnd m F < bound m F 0 + 1 = omega (arith, end-le) in
+        rw (lt-ltb _ _ pos, add-one (chainEnd m F)) at (first-failed (bound m F 0 + 1) goesOn inside)
+
+    -- the chain from the i-th b on, k steps before it stops
+    end-counted : (k i : ℕ) → i + k ≡ chainEnd m F
+        → sweepsFrom m (turn (suc i)) (bound m F i) ≡ cond (eqb (bound m F (chainEnd m F)) 0) (suc k) 0
+    unfolding bound turn
+    end-counted zero i e =
+        let here : i ≡ chainEnd m F = omega arith in
+        rw here (elim (eq-zero-or-pos (bound m F (chainEnd m F))) [
+          | inl none ↦ rw none (chain-zero (turn (suc (chainEnd m F))))
+          | inr pos ↦ chain-uncovered _ _ pos (end-failed pos) ∙ rw (ne-eqb (bound m F (chainEnd m F)) 0 (λ none. omega arith))
+        ])
+    end-counted (suc k) i e =
+        let (pos, covered) = end-passed i (omega arith) in
+        chain-step (turn (suc i)) (bound m F i) pos covered ∙ ap oneMore (end-counted k (suc i) (omega arith))
+        ∙ more-cond (eqb (bound m F (chainEnd m F)) 0) k
 
   -- ---- the sweeps named for F flips
 
@@ -195,20 +223,44 @@ module _ (m : Measures) where
         | inr pos ↦ div-mono _ _ _ _ pos pos (mul-le-mul-right (m .distance left) (mul-le-mul-left 2 l))
       ]
 
-  pub named-is : (F : ℕ) → F ≤ m .edges → sweepsNamed m F ≡ sweepsFrom m right (firstBound m F)
-  unfolding sweepsNamed
-  named-is F l = rw (le-leb _ _ l)
+  module _ (F : ℕ) where
+    named-tests : sweepsNamed m F ≡ cond (leb F (m .edges) && eqb (bound m F (chainEnd m F)) 0) (chainEnd m F + 1) 0
+    unfolding sweepsNamed
+    named-tests = refl
 
-  pub named-small : (F : ℕ) → sweepsNamed m F ≢ 0 → F ≤ m .edges
-  unfolding sweepsNamed
-  named-small F some = leb-true _ _ (cond-some _ _ some)
+    pub named-is : F ≤ m .edges → sweepsNamed m F ≡ sweepsFrom m right (firstBound m F)
+    unfolding bound turn other
+    named-is l = named-tests ∙ rw (le-leb _ _ l, add-one) (sym (end-counted F (chainEnd m F) 0 (zero-add _)))
+
+    -- a covered F is at most N, and its chain stops at a b that is 0
+    named-end : sweepsNamed m F ≢ 0 → (F ≤ m .edges) × (bound m F (chainEnd m F) ≡ 0) × (sweepsNamed m F ≡ chainEnd m F + 1)
+    named-end some =
+        let both = cond-some _ _ (rw named-tests at some) in
+        let (small, ends) = and-both _ _ both in
+        (leb-true _ _ small, eqb-true _ _ ends, named-tests ∙ rw both)
+
+    pub named-small : sweepsNamed m F ≢ 0 → F ≤ m .edges
+    named-small some = named-end some .0
+
+    pub named-le : sweepsNamed m F ≤ firstBound m F + 1
+    unfolding bound
+    named-le =
+        elim (eq-zero-or-pos (sweepsNamed m F)) [
+          | inl none ↦ omega arith
+          | inr pos ↦ omega (arith, named-end (λ none. omega arith) .2, end-le F)
+        ]
+
+    pub named-step : (i : ℕ) → suc i < sweepsNamed m F → stepCovered m (turn (suc i)) (bound m F i) ≡ true
+    named-step i l = end-passed F i (omega (arith, named-end (λ none. omega arith) .2)) .1
+
+    pub named-last : (k : ℕ) → sweepsNamed m F ≡ suc k → bound m F k ≡ 0
+    named-last k e =
+        let (small, none, more) = named-end (λ none. omega arith) in
+        let last : chainEnd m F ≡ k = omega arith in
+        rw last at none
 
   pub named-zero : sweepsNamed m 0 ≡ 1
   named-zero = named-is 0 zero-le ∙ rw zero-div (chain-zero right)
-
-  pub named-le : (F : ℕ) → sweepsNamed m F ≤ firstBound m F + 1
-  unfolding sweepsNamed
-  named-le F = cond-le (leb F (m .edges)) _ _ (λ small. chain-le right (suc (firstBound m F)) _)
 
   -- what is below a covered F is covered and names no more sweeps
   pub named-monotone : (F G : ℕ) → F ≤ G → sweepsNamed m G ≢ 0 → (sweepsNamed m F ≢ 0) × (sweepsNamed m F ≤ sweepsNamed m G)

@@ -4,10 +4,11 @@
 --   wrongAt side wrong v          how many bits of vertex v are wrong (Convergence)
 --   sweep, afterSweeps            the block after a sweep, and after i sweeps (decoder specs Sweep)
 --   sweepsNamed m F               the sweeps named for F flips, 0 where F is not covered (specs Margin)
+--   Mending N sides D F wrong     what is known of sweeps that mend (Convergence)
 --   Nears side D                  what is needed of a side's nearest word: a word that differs from a codeword in fewer than D/2 digits
 --                                 is mended to it
--- Laws are named by their subject, then by the fact: `flips-` is about the bits of two blocks, `sweep-` about one sweep. The theorem is
--- after-restores.
+-- Laws are named by their subject, then by the fact: `flips-` is about the bits of two blocks, `sweep-` about one sweep, `after-` about
+-- many. The theorem is after-restores.
 use Prim.Native.Nat.{ℕ, _+_, _*_, _^_, _≤_, _<_}
 use mathlib.Core.Bool.{true, false}
 use mathlib.Core.List.{List, []}
@@ -33,7 +34,7 @@ use Rattle.decoder.proofs.Sweeping.{Mends, sweep-word, after-block, after-bytes
 use Rattle.report.specs.Report.{differsAt}
 use Rattle.report.proofs.Runs.{differs-flag, differs-agree, differs-none, flips-differ}
 use Rattle.radius.specs.Margin.{sweepsNamed}
-use Rattle.radius.proofs.Convergence.{measuresOn, wrongAt, converges}
+use Rattle.radius.proofs.Convergence.{measuresOn, wrongAt, Mending, converges}
 
 -- ---- two blocks, bit by bit
 
@@ -63,14 +64,25 @@ module _ {N : ℕ} {sides : SideName → Side} (g : Joined N sides) (D : SideNam
       let near = nears name .near _ _ (vertex-lt side block v) word-c (rw (flips-vertex block c side v) few) in
       differs-agree after c _ (vertex-bits side after c v (sweep-word (g .whole name) block pass (nears name .mends) v l ∙ near) j h)
 
-  pub after-restores : 0 < D left → Block N c → (received : List ℕ) → Block N received → (F : ℕ) → flips N c received ≤ F
-      → let q : ℕ = sweepsNamed (measuresOn N sides D) F in q ≢ 0 → afterSweeps sides q received ≡ c
+  -- what is known of the sweeps of a received block: the wrong bits are those in which it differs from the codeword block
+  pub after-mending : 0 < D left → (received : List ℕ) → blockCheck N received ≡ done [] → (F : ℕ) → flips N c received ≤ F
+      → Mending N sides D F (λ i. differsAt (afterSweeps sides i received) c)
   unfolding afterSweeps
-  after-restores distance-pos whole received block F few some =
-      let q : ℕ = sweepsNamed (measuresOn N sides D) F in
-      let after : ℕ → List ℕ = λ i. afterSweeps sides i received in
-      let checked : (i : ℕ) → blockCheck N (after i) ≡ done [] = λ i. after-block sides (g .whole) i received (block .checked) in
-      block-ext N (after q) c (record { bytes = after-bytes sides q received (block .bytes); checked = checked q }) whole
-      (λ e l. differs-none (after q) c e
-      (converges g D F distance-pos (λ i. differsAt (after i) c) (rw (flips-comm N c received ∙ flips-differ received c N) at few)
-      (λ i. sweep-mends (after i) (checked i) (turn i)) some e l))
+  after-mending distance-pos received pass F few =
+      record {
+        joined = g;
+        distance-pos = distance-pos;
+        few = rw (flips-comm N c received ∙ flips-differ received c N) at few;
+        mends = λ i. sweep-mends (afterSweeps sides i received) (after-block sides (g .whole) i received pass) (turn i);
+      }
+
+pub after-restores : {N : ℕ} {sides : SideName → Side} {D : SideName → ℕ} {F : ℕ} (c received : List ℕ)
+    → Mending N sides D F (λ i. differsAt (afterSweeps sides i received) c) → Block N c → Block N received
+    → let q : ℕ = sweepsNamed (measuresOn N sides D) F in q ≢ 0 → afterSweeps sides q received ≡ c
+after-restores {N} {sides} {D} {F} c received s whole block some =
+    let q : ℕ = sweepsNamed (measuresOn N sides D) F in
+    let after : Block N (afterSweeps sides q received) = record {
+      bytes = after-bytes sides q received (block .bytes);
+      checked = after-block sides (s .joined .whole) q received (block .checked);
+    } in
+    block-ext N _ c after whole (λ e l. differs-none _ c e (converges s some e l))

@@ -3,18 +3,17 @@
 --   slack m to b             the paper's A for a step to a side: D·nr - 2·dl·b with that side's D (0 where that is below 0)
 --   stepCovered m to b       A is above 0 and its square above 4·nr·R
 --   nextBound m to b         the next b: 4·nr·R·b divided by the square of A, rounded down
---   oneMore q                one sweep more, where the rest is covered
---   chainSweeps m to t b     the place of the first zero in the chain that begins with b and steps to a side next, counted from 1;
---                            0 where a step on the way is not covered. t bounds the chain's length; b + 1 is always enough.
---   sweepsNamed m F          the sweeps named for F flips, 0 where F is not covered: the first b is 2F/D with the left D, rounded down, and the first step goes right
+--   bound m F i              the paper's b, from the first one (i 0) on: after sweep i + 1 at most so many vertices of its side are left with a wrong bit
+--   chainEnd m F             the first i, at most the first b, at which the chain of b stops: b is 0, or the step from it is not covered
+--   sweepsNamed m F          the sweeps named for F flips, the place of the first b that is 0, counted from 1; 0 where F is not covered
 --   beyond m                 the first F, from 0 up, that is not covered; N + 1 never is
 use Prim.Native.Nat.{ℕ, zero, suc, _+_, _-_, _*_, _/_}
 use mathlib.Core.Bool.{Bool, cond, _&&_}
-use lib.Dec.{ltb, leb}
+use lib.Dec.{ltb, leb, eqb}
 use Rattle.bits.specs.Search.{firstFailing}
-use Rattle.wiring.specs.Plan.{left, right}
+use Rattle.wiring.specs.Plan.{left}
 use Rattle.wiring.specs.declared.side.SideName.{SideName}
-use Rattle.decoder.specs.Sweep.{other}
+use Rattle.decoder.specs.Sweep.{turn}
 
 pub record Measures : Type 0 where
   pub edges : ℕ
@@ -34,19 +33,18 @@ unfoldable pub nextBound : Measures → SideName → ℕ → ℕ
 unfolding slack
 nextBound m to b = 4 * m .n * m .spread * b / (slack m to b * slack m to b)
 
-unfoldable pub oneMore : ℕ → ℕ
-oneMore zero = 0
-oneMore (suc q) = suc (suc q)
+unfoldable pub bound : Measures → ℕ → ℕ → ℕ
+unfolding nextBound turn
+bound m F zero = 2 * F / m .distance left
+bound m F (suc i) = nextBound m (turn (suc i)) (bound m F i)
 
-unfoldable pub chainSweeps : Measures → SideName → ℕ → ℕ → ℕ
-unfolding stepCovered nextBound oneMore other
-chainSweeps m to zero b = 0
-chainSweeps m to (suc t) zero = 1
-chainSweeps m to (suc t) (suc b) = cond (stepCovered m to (suc b)) (oneMore (chainSweeps m (other to) t (nextBound m to (suc b)))) 0
+unfoldable pub chainEnd : Measures → ℕ → ℕ
+unfolding firstFailing stepCovered turn bound
+chainEnd m F = firstFailing (bound m F 0 + 1) (λ i. ltb 0 (bound m F i) && stepCovered m (turn (i + 1)) (bound m F i))
 
 unfoldable pub sweepsNamed : Measures → ℕ → ℕ
-unfolding chainSweeps
-sweepsNamed m F = let b : ℕ = 2 * F / m .distance left in cond (leb F (m .edges)) (chainSweeps m right (suc b) b) 0
+unfolding bound chainEnd
+sweepsNamed m F = let end : ℕ = chainEnd m F in cond (leb F (m .edges) && eqb (bound m F end) 0) (end + 1) 0
 
 unfoldable pub beyond : Measures → ℕ
 unfolding firstFailing sweepsNamed

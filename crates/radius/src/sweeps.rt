@@ -4,7 +4,7 @@ use wiring::SideName;
 ghost use mathlib.Core.Path.{_≡_};
 ghost use Prim.Native.Nat.{suc, _*_, _/_, _≤_};
 ghost use Rattle.wiring.specs.Plan.{right};
-ghost use Rattle.radius.specs.Margin.{chainSweeps};
+ghost use Rattle.radius.specs.Chain.{chainSweeps};
 ghost use Rattle.radius.specs.Ranges.{distanceTo, measuresBy, planRange, InRange, beyondInRange, namedInRange};
 
 // The most vertices that a plan has on each side.

@@ -2,7 +2,7 @@
 --   unsatisfiedAt side block       how many vertices of a side read no inner codeword (unsatisfied specs Count)
 --   missedOf code w                1 where the code's test of a word fails (unsatisfied specs Answer)
 --   acrossFrom side wiring places i  the entry of the other side at which the bit stands that entry i of a side has (specs Telling)
---   Across plan side places        what leads there (specs Telling)
+--   Across plan side places        what leads there (decoder specs Visiting)
 --   bothCodes, codeOf              a side as the code holds it (wiring specs Access, Checking)
 -- Laws are named by their subject, then by the fact: `code-` and `sheet-` are about the parts of a side, `across-` about the entry of the other
 -- side, `told-` about the count of a side in which one bit is turned, `count-` about the counts of both sides.
@@ -35,7 +35,8 @@ use Rattle.unsatisfied.proofs.VertexTests.{word-defined}
 use Rattle.decoder.specs.Sweep.{other}
 use Rattle.decoder.specs.Visiting.{PlacesNoted}
 use Rattle.decoder.proofs.RightWords.{plan-whole, plan-fits, places-lt, places-bit}
-use Rattle.single_sweep.specs.Telling.{sheetFor, Across, acrossFrom}
+use Rattle.decoder.specs.Visiting.{Across}
+use Rattle.single_sweep.specs.Telling.{acrossFrom}
 
 -- ---- the names of the sides differ
 
@@ -52,11 +53,6 @@ pub code-named : (plan : Plan) {l r : SideCode} → l ≡ codeOf plan left → r
     → bothCodes l r name ≡ codeOf plan name
 code-named plan l r SideName.Left = l
 code-named plan l r SideName.Right = r
-
-pub sheet-named : (plan : Plan) (name : SideName) → sheetFor name (plan .leftSheet) (plan .rightSheet) ≡ sheetOf plan name
-unfolding sheetFor
-sheet-named plan SideName.Left = refl
-sheet-named plan SideName.Right = refl
 
 -- the true count, from either side
 pub count-split : (sides : SideName → Side) (name : SideName) (block : List ℕ)

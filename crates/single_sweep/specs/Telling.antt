@@ -1,25 +1,15 @@
 -- How the code counts what a sweep changes: none of this is needed to believe a contract of a service.
---   sheetFor side left right     the sheet of a side
---   Across plan side places      what leads from a bit of this side to the vertex of the other side that reads it: from the left side the places of
---                                the edges; from the right side nothing is needed, since the bit's number tells its left vertex
 --   acrossFrom side wiring places i  the entry of the other side at which the bit stands that entry i of this side has
 --   Visited plan side before v change block  the first v vertices of a side are visited: the block that is left, and the change of the true count
 use Prim.Native.Nat.{ℕ, _+_}
 use mathlib.Core.List.{List}
 use mathlib.Core.Path.{_≡_}
 use Rattle.bits.specs.Window.{at}
-use Rattle.wiring.specs.Plan.{Plan, edgeOf, left, sideOf}
+use Rattle.wiring.specs.Plan.{Plan, edgeOf, sideOf}
 use Rattle.wiring.specs.declared.side.SideName.{SideName}
 use Rattle.unsatisfied.specs.Count.{unsatisfiedCount}
 use Rattle.decoder.specs.Sweep.{visited}
-use Rattle.decoder.specs.Visiting.{nearestOf, PlacesNoted}
-
-unfoldable pub sheetFor : SideName → List ℕ → List ℕ → List ℕ
-sheetFor SideName.Left l r = l
-sheetFor SideName.Right l r = r
-
-pub record Across (plan : Plan) (side : SideName) (places : List ℕ) : Type 0 where
-  pub noted : side ≡ left → PlacesNoted plan places
+use Rattle.decoder.specs.Visiting.{nearestOf}
 
 unfoldable pub acrossFrom : SideName → List ℕ → List ℕ → ℕ → ℕ
 unfolding at edgeOf

@@ -1,7 +1,6 @@
 // The vertices of a side visited in turn. A vertex that takes another word is counted before and after, and so is, for each bit that changes,
 // the vertex of the other side that reads it: no other vertex reads another word than before.
 use crate::telling::put_told;
-use inner_code::Step;
 use wiring::SideCode;
 use wiring::SideName;
 ghost use mathlib.Core.List.{[]};
@@ -9,14 +8,14 @@ ghost use mathlib.Core.Path.{_≡_};
 ghost use mathlib.Core.Bool.{cond};
 ghost use lib.Dec.{eqb};
 ghost use Rattle.inner_code.specs.Reply.{done};
-ghost use Rattle.tables.specs.Finding.{Finds, Found};
+ghost use Rattle.tables.specs.Finding.{Finds};
 ghost use Rattle.wiring.specs.Plan.{planOf, sideOf, sheetOf};
 ghost use Rattle.wiring.specs.Checking.{codeOf};
 ghost use Rattle.wiring.specs.declared.side.SideName.{SideName};
 ghost use Rattle.unsatisfied.specs.Count.{countChange};
 ghost use Rattle.decoder.specs.Sweep.{sweep};
 ghost use Rattle.single_sweep.specs.Answer.{onceCheck};
-ghost use Rattle.single_sweep.specs.Telling.{sheetFor, Across};
+ghost use Rattle.decoder.specs.Visiting.{Across};
 
 // Sweeps a side with its finder, and tells the change of the count.
 pub(crate) fn sweep_told(
@@ -50,7 +49,7 @@ pub(crate) fn sweep_told(
         if tables::is_codeword(finder, word) {
             v += 1;
         } else {
-            let step = nearest_on(left, right, side, finder, word);
+            let step = decoder::nearest_on(left, right, side, finder, word);
             let told = put_told(
                 left,
                 right,
@@ -70,16 +69,6 @@ pub(crate) fn sweep_told(
         }
     }
     change
-}
-
-// The step to the nearest word of a side's sheet.
-fn nearest_on(left: &[u8], right: &[u8], side: SideName, finder: &mut [u16], word: u16) -> Step
-    ensures { λ r. ⌜ Found (sheetFor side (now (left .entry)) (now (right .entry))) (now (finder .entry)) word r (now (finder .exit)) ⌝ }
-{
-    match side {
-        SideName::Left => tables::find_nearest(left, finder, word),
-        SideName::Right => tables::find_nearest(right, finder, word),
-    }
 }
 
 // 1 for a vertex that read no codeword and takes one. A tie, which changes no bit, stays unsatisfied: 0.

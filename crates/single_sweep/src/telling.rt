@@ -16,7 +16,8 @@ ghost use Rattle.wiring.specs.declared.side.SideName.{SideName};
 ghost use Rattle.unsatisfied.specs.Count.{unsatisfiedAt};
 ghost use Rattle.decoder.specs.Sweep.{other};
 ghost use Rattle.decoder.specs.Visiting.{patternPut, PlacesNoted};
-ghost use Rattle.single_sweep.specs.Telling.{Across, acrossFrom};
+ghost use Rattle.decoder.specs.Visiting.{Across};
+ghost use Rattle.single_sweep.specs.Telling.{acrossFrom};
 
 // Puts a pattern on the bits of vertex v of a side, its highest digit at the first, and tells by how much the number of unsatisfied vertices of
 // the other side is above what it was, 65,536 added.

@@ -117,12 +117,13 @@ spans : (c : tie.After-enum-told3) → spansCheck (edgeCount (planIn (call c))) 
 spans c = listed (c .before .before) (done []) (ap checkReply (c .enum-told3 .given .1))
 
 -- a call that is stopped answers with `refuse`
-stopped : (plan : Plan) (received lost output : List ℕ) (H : ℕ) {number place : ℕ} {reply : Reply} {sums : List ℕ}
-    → decodeCheck plan received lost output H ≡ refused number place → reply ≡ refused number place → sums ≡ replicate 64 0
-    → Answered plan received lost output H reply sums output
-stopped plan received lost output H stops answers tells =
+stopped : (plan : Plan) (received lost output : List ℕ) (H : ℕ) {number place visits : ℕ} {reply : Reply} {sums : List ℕ}
+    → decodeCheck plan received lost output H ≡ refused number place
+    → (reply ≡ refused number place) × ((sums ≡ replicate 64 0) × (visits ≡ 0))
+    → Answered plan received lost output H reply sums visits output
+stopped plan received lost output H stops (answers, (tells, none)) =
     let r = decode-stopped plan received lost output H stops in
-    (answers ∙ sym (r .answer), (tells ∙ sym (r .tells), sym (r .leaves)))
+    (answers ∙ sym (r .answer), (tells ∙ sym (r .tells), (none ∙ sym (r .visited), sym (r .leaves))))
 
 refuse-requires-4 : tie.Need-refuse-requires-4
 refuse-requires-4 c κs = search needs
@@ -138,7 +139,7 @@ returns c =
     stopped _ _ _ _ _
     (check-short _ (now (args .received)) (now (args .lost)) (now (args .output)) (args .limit) (plan (ready (past passed)) .plan-done) pass
     (spans passed) (omega (arith, block-sized _ _ pass)))
-    (c .refuse4 .ensures .0) (c .refuse4 .ensures .1)
+    (c .refuse4 .ensures)
 
 returns-2 : tie.Need-returns-2
 returns-2 c =
@@ -148,7 +149,7 @@ returns-2 c =
     stopped _ _ _ _ _
     (check-limit _ (now (args .received)) (now (args .lost)) (now (args .output)) (args .limit) (plan (ready (past passed)) .plan-done) pass
     (spans passed) (omega (arith, block-sized _ _ pass)) (omega arith))
-    (c .refuse5 .ensures .0) (c .refuse5 .ensures .1)
+    (c .refuse5 .ensures)
 
 decode-checked-requires : tie.Need-decode-checked-requires
 decode-checked-requires c κs =
@@ -167,7 +168,7 @@ returns-3 c =
     let values = c .before .before in
     stopped _ _ _ _ _
     (check-plan _ _ _ _ _ (plan-refused _ _ (values .before .before .check-plan .ensures) _ (values .checked .given .1)))
-    (c .refuse .ensures .0) (c .refuse .ensures .1)
+    (c .refuse .ensures)
 
 returns-4 : tie.Need-returns-4
 returns-4 c =
@@ -175,7 +176,7 @@ returns-4 c =
     let block = faulty .before .before in
     stopped _ _ _ _ _
     (check-block _ _ _ _ _ (plan (block .before) .plan-done) (checked block (refused _ _) (ap checkReply (faulty .r .given .1))))
-    (c .refuse2 .ensures .0) (c .refuse2 .ensures .1)
+    (c .refuse2 .ensures)
 
 returns-5 : tie.Need-returns-5
 returns-5 c =
@@ -184,7 +185,7 @@ returns-5 c =
     let passed = behind (list .before) in
     stopped _ _ _ _ _
     (check-spans _ _ _ _ _ (plan (ready passed) .plan-done) (block passed) (listed list (refused _ _) (ap checkReply (faulty .r2 .given .1))))
-    (c .refuse3 .ensures .0) (c .refuse3 .ensures .1)
+    (c .refuse3 .ensures)
 
 same-length : tie.Need-same-length
 same-length c = search needs

@@ -20,7 +20,7 @@ sub-result : tie.Need-sub-result
 sub-result c = top (c .args .x) (c .pre) (omega arith) .0
 
 returns : tie.Need-returns
-returns c = let t = top (c .args .x) (c .pre) (omega arith) in (t .1, t .2)
+returns c = let t = top (c .args .x) (c .pre) (omega arith) in (t .1, (t .2, omega arith))
 
 pub highest-spec : {M : Type 1} → statement M
 highest-spec = tie.close (tie.spec cast-result sub-result returns)

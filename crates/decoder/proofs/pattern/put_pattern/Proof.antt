@@ -26,7 +26,7 @@ highest-requires c κs = search needs
 
 -- the highest one is within the word
 within : (c : tie.After-highest Inv-loop μ-loop) → c .highest .result < c .before .before .before .before .before .args .d
-within c = rest-high (c .before .before .loop .inv) _ (c .highest .ensures .0) (c .highest .ensures .1)
+within c = rest-high (c .before .before .loop .inv) _ (c .highest .ensures .0) (c .highest .ensures .1 .0)
 
 sub-bit-of : tie.Need-sub-bit-of Inv-loop μ-loop
 sub-bit-of c = omega (arith, within (c .before))
@@ -61,7 +61,7 @@ loop-less c =
 loop-again : tie.Need-loop-again Inv-loop μ-loop
 loop-again c =
     let top = high c in
-    rest-more (top .before .before .loop .inv) _ (top .highest .ensures .0) (top .highest .ensures .1) (c .before .before .before .before .bit-of .ensures)
+    rest-more (top .before .before .loop .inv) _ (top .highest .ensures .0) (top .highest .ensures .1 .0) (c .before .before .before .before .bit-of .ensures)
     (c .power .ensures) (c .before .before .before .turn-bit .ensures)
 
 same-length : tie.Need-same-length Inv-loop μ-loop

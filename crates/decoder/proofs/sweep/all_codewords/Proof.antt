@@ -1,22 +1,24 @@
--- `decoder::all_codewords` meets its contract: visiting the first v vertices changes nothing and finds no tie.
-use mathlib.Core.Bool.{true≢false}
-use mathlib.Core.Path.{refl, sym}
-use Prim.Native.Nat.{_-_, _≤_}
+-- `decoder::all_codewords` meets its contract: the words so far are codewords, or one is found that is none.
+use mathlib.Core.Bool.{true, true≢false}
+use mathlib.Core.Path.{_≡_, refl, sym, _∙_}
+use Prim.Native.Nat.{ℕ, _-_, _≤_, _<_}
 use native.Mathlib.Omega.{arith}
+use borrow.Author.Count.{below-more}
 use borrow.Author.Needs.{needs}
-use borrow.Author.Tests.{not-false}
+use borrow.Author.Tests.{not-true, not-false}
+use denote.Ref.{now}
 use Rattle.inner_code.specs.Sheet.{degree}
 use Rattle.tables.proofs.Finding.{member-means}
+use Rattle.wiring.specs.Block.{satisfied}
 use Rattle.wiring.specs.Plan.{sideBy, left}
 use Rattle.wiring.specs.declared.side.SideName.{SideName}
 use Rattle.wiring.proofs.Permutation.{fitted-vertex}
-use Rattle.decoder.proofs.Visiting.{Visits, visits-none, visits-kept, visits-sweep}
-use Rattle.decoder.proofs.Visiting.{word-read, word-stays, word-untied, ready-sheet, ready-whole}
+use Rattle.decoder.proofs.Visiting.{word-read, word-tells, ready-sheet}
 use Rattle.decoder.proofs.sweep.all_codewords.Statement.{statement}
 use Rattle.decoder.proofs.sweep.all_codewords.Tie as tie
 
 abbrev Inv-loop : tie.InvT-loop
-Inv-loop sheet n wiring finder block d v₀ v = (v ≤ n) × Visits (sideBy sheet n wiring SideName.Left) block v 0 0 block
+Inv-loop sheet n wiring finder block d v₀ v = (v ≤ n) × ((u : ℕ) → u < v → satisfied (sideBy sheet n wiring SideName.Left) block u ≡ true)
 
 abbrev μ-loop : tie.MeasureT-loop
 μ-loop sheet n wiring finder block d v₀ v = n - v
@@ -31,7 +33,7 @@ cast-d : tie.Need-cast-d Inv-loop μ-loop
 cast-d c = omega (arith, c .shared-slice-known5 .given 0)
 
 loop-holds : tie.Need-loop-holds Inv-loop μ-loop
-loop-holds c = (search needs, visits-none)
+loop-holds c = (search needs, λ u l. absurd (omega arith))
 
 left-word-requires : tie.Need-left-word-requires Inv-loop μ-loop
 unfolding degree
@@ -42,8 +44,23 @@ left-word-requires c κs =
 is-codeword-requires : tie.Need-is-codeword-requires Inv-loop μ-loop
 is-codeword-requires c κs = search needs
 
+-- the word of a vertex is tested by the side's inner code
+tells : (c : tie.After-is-codeword Inv-loop μ-loop)
+    → let head = c .before .before .before in
+    let first = start (head .before) in
+    c .is-codeword .result ≡ satisfied (sideBy (now (first .args .sheet)) (first .args .n) (now (first .args .wiring)) left) (now (first .args .block)) (head .loop .v)
+unfolding satisfied degree
+tells c =
+    let head = c .before .before .before in
+    let ready = start (head .before) .pre in
+    word-tells ready left (now (start (head .before) .args .block)) {v = head .loop .v} (omega arith) (word-read ready _ (head .loop .v) refl (c .before .left-word .ensures))
+    (member-means _ _ (c .is-codeword .ensures))
+
 returns : tie.Need-returns Inv-loop μ-loop
-returns c e = absurd (true≢false (sym e))
+returns c = (
+  λ e. absurd (true≢false (sym e)),
+  λ _. (c .before .before .before .before .loop .v, omega arith, sym (tells (c .before)) ∙ not-true _ (c .if1 .taken)),
+)
 
 add-v : tie.Need-add-v Inv-loop μ-loop
 add-v c = search needs
@@ -52,21 +69,12 @@ loop-less : tie.Need-loop-less Inv-loop μ-loop
 loop-less c = search needs
 
 loop-again : tie.Need-loop-again Inv-loop μ-loop
-unfolding degree
 loop-again c =
-    let head = c .before .before .before .before in
-    let first = start (head .before) in
-    let ready = first .pre in
-    let read = word-read ready _ (head .loop .v) refl (c .before .before .left-word .ensures) in
-    let member = member-means _ _ (c .before .is-codeword .ensures) in (
-      omega arith,
-      visits-kept (ready-whole ready left) (omega arith) (head .loop .inv .1)
-          (word-stays ready left _ (omega arith) read member (not-false _ (c .if1 .left)))
-          (word-untied ready left _ (omega arith) read member (not-false _ (c .if1 .left))),
-    )
+    let turn = c .before .before .before .before .loop in
+    (omega arith, below-more _ (turn .v) (turn .inv .1) (sym (tells (c .before)) ∙ not-false _ (c .if1 .left)))
 
 returns-2 : tie.Need-returns-2 Inv-loop μ-loop
-returns-2 c e = visits-sweep (c .before .loop .inv .1) (omega arith)
+returns-2 c = (λ _ v l. c .before .loop .inv .1 v (omega arith), λ e. absurd (true≢false e))
 
 pub all-codewords-spec : {M : Type 1} → statement M
 all-codewords-spec =

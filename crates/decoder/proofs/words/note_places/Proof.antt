@@ -1,6 +1,6 @@
 -- `decoder::note_places` meets its contract: after i turns the places of the first i entries' edges are noted, and no later entry has one of them.
 use mathlib.Core.List.{[]}
-use mathlib.Core.Path.{_≡_, refl, sym, _∙_}
+use mathlib.Core.Path.{_≡_, refl, _∙_}
 use Prim.Native.Nat.{ℕ, _-_, _/_, _≤_, _<_}
 use native.Mathlib.Omega.{arith}
 use borrow.Author.Needs.{needs}
@@ -16,7 +16,7 @@ use Rattle.decoder.proofs.words.note_places.Tie as tie
 
 abbrev Inv-loop : tie.InvT-loop
 Inv-loop left right nl nr wiring places₀ edges i₀ places i =
-    (i ≤ edges) × (length places ≡ 32768) × ((j : ℕ) → j < i → at places (edgeOf wiring j) ≡ j)
+    (i ≤ edges) × (length places ≡ length places₀) × ((j : ℕ) → j < i → at places (edgeOf wiring j) ≡ j)
 
 abbrev μ-loop : tie.MeasureT-loop
 μ-loop left right nl nr wiring places₀ edges i₀ places i = edges - i
@@ -35,7 +35,7 @@ entries : (c : tie.Start Inv-loop μ-loop) → length (now (c .args .wiring)) / 
 entries c = omega (arith, plan-fits (planIn c) (accepted c) left .sized)
 
 loop-holds : tie.Need-loop-holds Inv-loop μ-loop
-loop-holds c = (search needs, c .before .before .before .before .pre .1, λ j l. absurd (omega arith))
+loop-holds c = (search needs, refl, λ j l. absurd (omega arith))
 
 cast-places : tie.Need-cast-places Inv-loop μ-loop
 cast-places c =
@@ -60,7 +60,7 @@ mul-places c =
 slice-write-places : tie.Need-slice-write-places Inv-loop μ-loop
 slice-write-places c =
     let first = start (c .before .before) in
-    omega (arith, edge-lt c, plan-few (planIn first) (accepted first), c .before .before .loop .inv .1)
+    omega (arith, edge-lt c, first .pre .1, c .before .before .loop .inv .1)
 
 add-i : tie.Need-add-i Inv-loop μ-loop
 add-i c = search needs
@@ -78,19 +78,19 @@ loop-again c =
       omega arith,
       length-set (turn .places) (c .edge-at .result) (turn .i) ∙ turn .inv .1,
       places-more _ (turn .places) (turn .i) _ (c .edge-at .ensures)
-          (omega (arith, whole .bit-lt (turn .i) below, plan-few (planIn first) (accepted first), turn .inv .1))
+          (omega (arith, whole .bit-lt (turn .i) below, first .pre .1, turn .inv .1))
           (λ j l e. let same = whole .bit-once j (turn .i) (omega arith) below e in omega arith)
           (turn .inv .2) refl,
     )
 
 same-length : tie.Need-same-length Inv-loop μ-loop
-same-length c = c .before .loop .inv .1 ∙ sym (start (c .before) .pre .1)
+same-length c = c .before .loop .inv .1
 
 returns : tie.Need-returns Inv-loop μ-loop
 returns c =
     let first = start (c .before) in
     let end : c .before .loop .i ≡ edgeCount (planIn first) = omega (arith, entries first) in
-    record { sized = c .before .loop .inv .1; each = rw end at (c .before .loop .inv .2) }
+    record { sized = omega (arith, first .pre .1, c .before .loop .inv .1); each = rw end at (c .before .loop .inv .2) }
 
 pub note-places-spec : {M : Type 1} → statement M
 note-places-spec =

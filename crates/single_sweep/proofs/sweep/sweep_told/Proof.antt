@@ -23,9 +23,11 @@ use Rattle.decoder.specs.Sweep.{other}
 use Rattle.decoder.specs.Visiting.{SideReady}
 use Rattle.decoder.proofs.RightWords.{plan-fits}
 use Rattle.decoder.proofs.Visiting.{word-stays, word-found, word-counted, word-put, found-lt, pattern-lt, ready-side}
-use Rattle.single_sweep.specs.Telling.{sheetFor, Visited}
+use Rattle.decoder.specs.News.{sheetFor}
+use Rattle.decoder.proofs.Rounds.{sheet-for}
+use Rattle.single_sweep.specs.Telling.{Visited}
 use Rattle.single_sweep.proofs.Answers.{check-accepted, check-room}
-use Rattle.single_sweep.proofs.TurnedBits.{code-named, sheet-named}
+use Rattle.single_sweep.proofs.TurnedBits.{code-named}
 use Rattle.single_sweep.proofs.Visits.{visited-none, visited-kept, visited-mended, visited-all, visited-length, change-few, word-missed, word-mended, side-few}
 use Rattle.single_sweep.proofs.sweep.sweep_told.Statement.{statement}
 use Rattle.single_sweep.proofs.sweep.sweep_told.Tie as tie
@@ -137,7 +139,7 @@ found c =
     let first = begin (word c) in
     let sheet : List ℕ = sheetFor (first .args .side) (now (first .args .left)) (now (first .args .right)) in
     let told : Found sheet (head (word c) .loop .finder) (word c .read-word .result) (c .nearest-on .result) (stepped c) = c .nearest-on .ensures in
-    rw (sheet-named (planIn first) (first .args .side)) at told
+    rw (sheet-for (planIn first) (first .args .side)) at told
 
 missed : (c : tie.After-nearest-on Inv-loop μ-loop)
     → isCodeword (sideOf (planIn (begin (word c))) (begin (word c) .args .side) .row) (sideOf (planIn (begin (word c))) (begin (word c) .args .side) .k)

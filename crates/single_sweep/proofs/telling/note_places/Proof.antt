@@ -99,7 +99,7 @@ returns : tie.Need-returns Inv-loop μ-loop
 returns c =
     let first = start (c .before) in
     let end : c .before .loop .i ≡ edgeCount (planIn first) = omega (arith, entries first) in
-    record { sized = c .before .loop .inv .1; each = rw end at (c .before .loop .inv .2) }
+    record { sized = omega (arith, plan-few (planIn first) (accepted first), c .before .loop .inv .1); each = rw end at (c .before .loop .inv .2) }
 
 pub note-places-spec : {M : Type 1} → statement M
 note-places-spec =

@@ -107,7 +107,7 @@ add-place-across c = rw (degree-is (named c)) (omega (arith, entry-few c .1))
 place-across-requires : tie.Need-place-across-requires Inv-loop μ-loop
 place-across-requires c κs =
     rw (degree-is (named c))
-    (entry-few c .1, λ is-left. omega (arith, entry-few c .1, begin c .pre .1 .1 .1 .1 .1 .0 .noted is-left .sized))
+    (entry-few c .1, λ is-left. omega (arith, entry-few c .0, begin c .pre .1 .1 .1 .1 .1 .0 .noted is-left .sized))
 
 -- the entry of the other side that has the bit
 placed : (c : tie.After-place-across Inv-loop μ-loop)

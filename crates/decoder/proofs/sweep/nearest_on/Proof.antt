@@ -1,0 +1,49 @@
+-- `decoder::nearest_on` meets its contract: each arm finds by the sheet of its side.
+use borrow.Author.Needs.{needs}
+use Rattle.tables.proofs.Finding.{found-means}
+use Rattle.decoder.specs.News.{sheetFor}
+use Rattle.decoder.proofs.sweep.nearest_on.Statement.{statement}
+use Rattle.decoder.proofs.sweep.nearest_on.Tie as tie
+
+enum-told : tie.Need-enum-told
+enum-told c = search needs
+
+find-nearest-requires : tie.Need-find-nearest-requires
+find-nearest-requires c κs = search needs
+
+enum-told-2 : tie.Need-enum-told-2
+enum-told-2 c = search needs
+
+find-nearest-requires-2 : tie.Need-find-nearest-requires-2
+find-nearest-requires-2 c κs = search needs
+
+same-length : tie.Need-same-length
+same-length c = search needs
+
+returns : tie.Need-returns
+unfolding sheetFor
+returns c =
+    let found = c .before .before .find-nearest .ensures in
+    rw (c .before .before .before .before .enum-told .given .1) (found-means _ _ _ (found .0) (found .1))
+
+same-length-2 : tie.Need-same-length-2
+same-length-2 c = search needs
+
+returns-2 : tie.Need-returns-2
+unfolding sheetFor
+returns-2 c =
+    let found = c .before .before .find-nearest2 .ensures in
+    rw (c .before .before .before .before .enum-told2 .given .1) (found-means _ _ _ (found .0) (found .1))
+
+pub nearest-on-spec : {M : Type 1} → statement M
+nearest-on-spec =
+    tie.close
+    (tie.spec
+    enum-told
+    find-nearest-requires
+    enum-told-2
+    find-nearest-requires-2
+    same-length
+    returns
+    same-length-2
+    returns-2)
