@@ -1,7 +1,7 @@
 -- From an enum's case to what a C host is told.
 --   telling        what is told of a case is what is told of the defined reply, where the service's answer is that case; `tell` is told, toldWord
 --                  or toldPlace
---   telling-sums   the same of the decoder, whose sums are told beside
+--   telling-sums   the same of the decoder, whose sums and visits are told beside
 use Prim.Native.Nat.{ℕ}
 use mathlib.Core.List.{List}
 use mathlib.Core.Path.{_≡_, sym, ap, ap₂, _∙_}
@@ -16,5 +16,7 @@ module _ {E : Type 0} (of : E → Reply) {answer case : E} {reply : Reply} (is :
   pub telling : {A : Type 0} (tell : Reply → A) {a : A} → a ≡ tell (of case) → a ≡ tell reply
   telling tell here = here ∙ ap tell reply-is
 
-  pub telling-sums : {sums defined : List ℕ} {a : DecodeAnswer} → sums ≡ defined → a ≡ toldDecode (of case) sums → a ≡ toldDecode reply defined
-  telling-sums same here = here ∙ ap₂ toldDecode reply-is same
+  pub telling-sums : {sums defined : List ℕ} {visits made : ℕ} {a : DecodeAnswer} → sums ≡ defined → visits ≡ made
+      → a ≡ toldDecode (of case) sums visits → a ≡ toldDecode reply defined made
+  telling-sums {sums} {visits = visits} same counted here =
+      here ∙ ap (λ (r : Reply). toldDecode r sums visits) reply-is ∙ ap₂ (toldDecode reply) same counted

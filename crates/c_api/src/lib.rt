@@ -20,7 +20,7 @@ ghost use Rattle.inner_code.specs.Answer.{nearestAnswer};
 ghost use Rattle.tables.specs.Answer.{buildAnswer, buildOutput, lookUpAnswer};
 ghost use Rattle.wiring.specs.Plan.{planOf};
 ghost use Rattle.wiring.specs.Answer.{locateAnswer, sideNumber};
-ghost use Rattle.decoder.specs.Answer.{decodeAnswer, decodeSums, decodeOutput};
+ghost use Rattle.decoder.specs.Answer.{decodeAnswer, decodeSums, decodeVisits, decodeOutput};
 ghost use Rattle.report.specs.Answer.{reportAnswer, reportList};
 ghost use Rattle.radius.specs.Answer.{spreadAnswer, marginAnswer};
 ghost use Rattle.messages.specs.Answer.{encodeAnswer, encodeOutput, readAnswer, readOutput};
@@ -46,13 +46,15 @@ pub struct WordAnswer {
     pub changed: u64,
 }
 
-// What the decoder answers: as above, and how many bits each of the first sweeps changed, 0 for a sweep that was not made.
+// What the decoder answers: as above, and how many bits each of the first sweeps changed, 0 for a sweep that was not made, and how many vertices the
+// sweeps visited.
 #[repr(C)]
 pub struct DecodeAnswer {
     pub number: u32,
     pub place: u32,
     pub value: u64,
     pub sums: [u16; SUMS],
+    pub visits: u64,
 }
 
 // What a call on a state answers: as above, the value being the number of unsatisfied vertices that the state has after the call, and beside it
@@ -146,8 +148,8 @@ pub extern "C" fn lembikat_locate(
 }
 
 // Decodes a received block, of which `lost` lists the lost spans, into the front of `output`; the value is the number of sweeps. Refusals 1 to
-// 15 and 23 to 26; with 15 the front of `output` holds the received block, and no other refusal writes a byte. The sums are told with 15 too;
-// with any other refusal they are 0.
+// 15 and 23 to 26; with 15 the front of `output` holds the received block, and no other refusal writes a byte. The sums and
+// the visits are told with 15 too; with any other refusal they are 0.
 #[no_mangle]
 pub extern "C" fn lembikat_decode(
     left: &[u8],
@@ -161,7 +163,8 @@ pub extern "C" fn lembikat_decode(
     limit: usize,
 ) -> DecodeAnswer
     ensures { λ r. ⌜ r ≡ toldDecode (decodeAnswer (planOf (now (left .entry)) (now (right .entry)) nl nr (now (wiring .entry))) (now (received .entry)) (now (lost .entry)) (now (output .entry)) limit)
-        (decodeSums (planOf (now (left .entry)) (now (right .entry)) nl nr (now (wiring .entry))) (now (received .entry)) (now (lost .entry)) (now (output .entry)) limit) ⌝ }
+        (decodeSums (planOf (now (left .entry)) (now (right .entry)) nl nr (now (wiring .entry))) (now (received .entry)) (now (lost .entry)) (now (output .entry)) limit)
+        (decodeVisits (planOf (now (left .entry)) (now (right .entry)) nl nr (now (wiring .entry))) (now (received .entry)) (now (lost .entry)) (now (output .entry)) limit) ⌝ }
     ensures { λ _. ⌜ now (output .exit) ≡ decodeOutput (planOf (now (left .entry)) (now (right .entry)) nl nr (now (wiring .entry))) (now (received .entry)) (now (lost .entry)) (now (output .entry)) limit ⌝ }
 {
     let decoding = decoder::decode(left, right, nl, nr, wiring, received, lost, output, limit);
@@ -173,12 +176,14 @@ pub extern "C" fn lembikat_decode(
             place: 0,
             value: sweeps as u64,
             sums,
+            visits: decoding.visits,
         },
         Decoded::Refused(refusal) => DecodeAnswer {
             number: refusal.number,
             place: refusal.place,
             value: 0,
             sums,
+            visits: decoding.visits,
         },
     }
 }

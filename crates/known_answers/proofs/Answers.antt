@@ -26,13 +26,13 @@ use Rattle.wiring.specs.Block.{blockBytes, bitsCheck, vertexWord, scattered, sa
 use Rattle.wiring.specs.Square.{entryBytes, squareWiring}
 use Rattle.spans.specs.Spans.{pairCount, startOf, lengthOf, endOf, endBefore, spanCheck, pairsCheck, spansCheck, isLost, flipsOutside, filledBelow, filled}
 use Rattle.decoder.specs.Sweep.{visited, sweep, other, turn, afterSweeps}
-use Rattle.decoder.specs.Decode.{settlesAt, sweepSum, sweepSums, trial, keepsOnes, decoding}
-use Rattle.decoder.specs.Answer.{decodeCheck, decodeAnswer, decodeSums, decodeOutput}
+use Rattle.decoder.specs.Decode.{settlesAt, sweepSum, sweepSums, heard, visitsIn, visitsMade, trial, keepsOnes, decoding}
+use Rattle.decoder.specs.Answer.{decodeCheck, decodeAnswer, decodeSums, numberIfDone, decodeVisits, decodeOutput}
 use Rattle.unsatisfied.specs.Count.{unsatisfiedAt, unsatisfiedCount, countChange}
 use Rattle.panel.specs.State.{stateBytes, countIn, sweepsIn, blockIn, stateOf, loadedState, movedCount, sweptState, setTo, setState}
 use Rattle.panel.specs.Answer.{stateCheck, told, loadCheck, loadAnswer, loadOutput, sweepCheck, sweepAnswer, sweepOutput, setCheck, setAnswer, setOutput}
 use Rattle.radius.specs.Spread.{meeting, unevenness, spread}
-use Rattle.radius.specs.Margin.{slack, stepCovered, nextBound, oneMore, chainSweeps, sweepsNamed}
+use Rattle.radius.specs.Margin.{slack, stepCovered, nextBound, bound, chainEnd, sweepsNamed}
 use Rattle.radius.specs.Answer.{marginAnswer}
 use Rattle.messages.specs.Position.{bitsPut, blockOf, codewordNumber, isPosition, positionsBefore}
 use Rattle.messages.specs.Message.{carries, encodedNumber, encodedBlock}
@@ -70,9 +70,10 @@ unfolding
     flag ones onesIn distance refuseIf andThen ifDone degree rowCount rowOf
     rowCheck rowsCheck sheetCheck houseSheet firstFailing edgeOf sideBit entryCheck entriesCheck countFaulty wiringCheck planCheck
     edgesBetween blockBytes bitsCheck vertexWord scattered satisfied firstUnsatisfied isCodewordBlock visited sweep other turn
-    afterSweeps settlesAt sweepSum sweepSums trial pairCount startOf lengthOf endOf endBefore spanCheck pairsCheck spansCheck isLost flipsOutside
-    filledBelow filled keepsOnes decoding decodeCheck decodeAnswer decodeSums written values flips decodeOutput meeting unevenness largest spread slack
-    stepCovered nextBound oneMore chainSweeps sweepsNamed marginAnswer bitsPut blockOf codewordNumber isPosition positionsBefore carries
+    afterSweeps settlesAt sweepSum sweepSums heard visitsIn visitsMade trial pairCount startOf lengthOf endOf endBefore spanCheck pairsCheck spansCheck
+    isLost flipsOutside filledBelow filled keepsOnes decoding decodeCheck decodeAnswer decodeSums numberIfDone decodeVisits written values flips
+    decodeOutput meeting unevenness largest spread slack
+    stepCovered nextBound bound chainEnd sweepsNamed marginAnswer bitsPut blockOf codewordNumber isPosition positionsBefore carries
     encodedNumber encodedBlock pairs houseTable smallestOf isSmallest classOf tieMark tableBytes buildAnswer buildOutput patternIn lookUpAnswer
     unsatisfiedAt unsatisfiedCount countChange stateBytes countIn sweepsIn blockIn stateOf loadedState movedCount sweptState setTo setState stateCheck told
     loadCheck loadAnswer loadOutput sweepCheck sweepAnswer sweepOutput setCheck setAnswer setOutput

@@ -25,7 +25,7 @@ use Rattle.tables.specs.Answer.{buildAnswer, buildOutput, lookUpAnswer}
 use Rattle.wiring.specs.Plan.{Plan, planOf}
 use Rattle.wiring.specs.Square.{squareWiring, squarePlan}
 use Rattle.wiring.specs.declared.side.SideName.{SideName}
-use Rattle.decoder.specs.Answer.{decodeAnswer, decodeSums, decodeOutput}
+use Rattle.decoder.specs.Answer.{decodeAnswer, decodeSums, decodeVisits, decodeOutput}
 use Rattle.panel.specs.State.{stateOf}
 use Rattle.panel.specs.Answer.{loadAnswer, loadOutput, sweepAnswer, sweepOutput, setAnswer, setOutput}
 use Rattle.radius.specs.Margin.{sweepsNamed}
@@ -41,9 +41,9 @@ pub data Row : Type 0 where
   margin : ℕ → ℕ → ℕ → ℕ → ℕ → ℕ → Row
   -- the same of sides that differ: nl, dl, nr, left D, right D, R, F and the sweeps
   unequal : ℕ → ℕ → ℕ → ℕ → ℕ → ℕ → ℕ → ℕ → Row
-  -- a plan of one byte: a received byte, its lost spans and a limit, the decoder's answer, the byte in its output and the sum of its first
-  -- sweep; the others are 0
-  decoded : Plan → ℕ → List ℕ → ℕ → Reply → ℕ → ℕ → Row
+  -- a plan of one byte: a received byte, its lost spans and a limit, the decoder's answer, the byte in its output, the sum of its first sweep,
+  -- the others being 0, and the visits
+  decoded : Plan → ℕ → List ℕ → ℕ → Reply → ℕ → ℕ → ℕ → Row
   -- a plan of one byte: a block and lent bytes, what loading answers, and the bytes afterwards
   loaded : Plan → ℕ → List ℕ → Reply → List ℕ → Row
   -- a plan of one byte: a state, what a sweep call on it answers, and the state afterwards
@@ -111,16 +111,17 @@ quadPlan = lonePlan 4 3 (0 ∷ 0 ∷ 0 ∷ 1 ∷ 0 ∷ 2 ∷ 0 ∷ 3 ∷ [])
 
 unfoldable pub holds : Row → Bool
 unfolding
-    nearestAnswer sameReply sameList squareWiring marginAnswer sweepsNamed decodeAnswer decodeSums decodeOutput encodedBlock lookUpAnswer buildAnswer
-    buildOutput loadAnswer loadOutput sweepAnswer sweepOutput setAnswer setOutput
+    nearestAnswer sameReply sameList squareWiring marginAnswer sweepsNamed decodeAnswer decodeSums decodeVisits decodeOutput encodedBlock
+    lookUpAnswer buildAnswer buildOutput loadAnswer loadOutput sweepAnswer sweepOutput setAnswer setOutput
 holds (house word nearest changed) = sameReply (nearestAnswer houseSheet word) (done (nearest ∷ changed ∷ []))
 holds (square flips reply) = sameReply (marginAnswer squarePlan flips) reply
 holds (margin n d D R flips sweeps) = eqb (named n d n D D R flips) sweeps
 holds (unequal nl dl nr Dl Dr R flips sweeps) = eqb (named nl dl nr Dl Dr R flips) sweeps
-holds (decoded plan received lost limit reply left sum) =
+holds (decoded plan received lost limit reply left sum visits) =
     sameReply (decodeAnswer plan (received ∷ []) lost (0 ∷ []) limit) reply
     && (sameList (decodeOutput plan (received ∷ []) lost (0 ∷ []) limit) (left ∷ [])
-    && sameList (decodeSums plan (received ∷ []) lost (0 ∷ []) limit) (sum ∷ replicate 63 0))
+    && (sameList (decodeSums plan (received ∷ []) lost (0 ∷ []) limit) (sum ∷ replicate 63 0)
+    && eqb (decodeVisits plan (received ∷ []) lost (0 ∷ []) limit) visits))
 holds (loaded plan block lent reply left) =
     sameReply (loadAnswer plan (block ∷ []) lent) reply && sameList (loadOutput plan (block ∷ []) lent) left
 holds (stepped plan state reply left) = sameReply (sweepAnswer plan state) reply && sameList (sweepOutput plan state) left
@@ -153,21 +154,22 @@ examples =
     ∷ margin 31 16 16 480 64 0
     ∷ unequal 30 8 16 7 15 128 20 3
     ∷ unequal 30 8 16 7 15 128 21 0
-    ∷ decoded pairPlan 0x80 [] 0 (refused 15 0) 0x80 0
-    ∷ decoded pairPlan 0x80 [] 1 (refused 15 0) 0x80 0
-    ∷ decoded pairPlan 0x80 [] 2 (refused 15 0) 0x80 0
-    ∷ decoded triplePlan 0xc0 [] 0 (refused 15 0) 0xc0 0
-    ∷ decoded triplePlan 0xc0 [] 1 (done (1 ∷ [])) 0xe0 1
-    ∷ decoded triplePlan 0x80 (pairs (1 ∷ 1 ∷ [])) 1 (done (1 ∷ [])) 0x00 1
-    ∷ decoded triplePlan 0xa0 (pairs (1 ∷ 1 ∷ [])) 1 (done (1 ∷ [])) 0xe0 1
-    ∷ decoded triplePlan 0x80 (pairs (1 ∷ 1 ∷ 2 ∷ 1 ∷ [])) 1 (done (0 ∷ [])) 0xe0 0
-    ∷ decoded pairPlan 0x80 (pairs (1 ∷ 1 ∷ [])) 0 (done (0 ∷ [])) 0xc0 0
-    ∷ decoded quadPlan 0x90 (pairs (0 ∷ 1 ∷ [])) 2 (refused 15 0) 0x90 0
-    ∷ decoded triplePlan 0xc0 (0 ∷ 0 ∷ 0 ∷ []) 0 (refused 24 0) 0 0
-    ∷ decoded triplePlan 0xc0 (pairs (1 ∷ 1 ∷ 0 ∷ 0 ∷ [])) 0 (refused 25 0) 0 0
-    ∷ decoded triplePlan 0xc0 (pairs (2 ∷ 2 ∷ [])) 0 (refused 25 0) 0 0
-    ∷ decoded triplePlan 0xc0 (pairs (0xffff ∷ 2 ∷ [])) 0 (refused 25 0) 0 0
-    ∷ decoded triplePlan 0xc0 (pairs (0 ∷ 2 ∷ 1 ∷ 1 ∷ 0 ∷ 0 ∷ [])) 0 (refused 26 0) 0 0
+    ∷ decoded pairPlan 0x80 [] 0 (refused 15 0) 0x80 0 0
+    ∷ decoded pairPlan 0x80 [] 1 (refused 15 0) 0x80 0 1
+    ∷ decoded pairPlan 0x80 [] 2 (refused 15 0) 0x80 0 2
+    ∷ decoded pairPlan 0x80 [] 3 (refused 15 0) 0x80 0 2
+    ∷ decoded triplePlan 0xc0 [] 0 (refused 15 0) 0xc0 0 0
+    ∷ decoded triplePlan 0xc0 [] 1 (done (1 ∷ [])) 0xe0 1 1
+    ∷ decoded triplePlan 0x80 (pairs (1 ∷ 1 ∷ [])) 1 (done (1 ∷ [])) 0x00 1 1
+    ∷ decoded triplePlan 0xa0 (pairs (1 ∷ 1 ∷ [])) 1 (done (1 ∷ [])) 0xe0 1 1
+    ∷ decoded triplePlan 0x80 (pairs (1 ∷ 1 ∷ 2 ∷ 1 ∷ [])) 1 (done (0 ∷ [])) 0xe0 0 0
+    ∷ decoded pairPlan 0x80 (pairs (1 ∷ 1 ∷ [])) 0 (done (0 ∷ [])) 0xc0 0 0
+    ∷ decoded quadPlan 0x90 (pairs (0 ∷ 1 ∷ [])) 2 (refused 15 0) 0x90 0 2
+    ∷ decoded triplePlan 0xc0 (0 ∷ 0 ∷ 0 ∷ []) 0 (refused 24 0) 0 0 0
+    ∷ decoded triplePlan 0xc0 (pairs (1 ∷ 1 ∷ 0 ∷ 0 ∷ [])) 0 (refused 25 0) 0 0 0
+    ∷ decoded triplePlan 0xc0 (pairs (2 ∷ 2 ∷ [])) 0 (refused 25 0) 0 0 0
+    ∷ decoded triplePlan 0xc0 (pairs (0xffff ∷ 2 ∷ [])) 0 (refused 25 0) 0 0 0
+    ∷ decoded triplePlan 0xc0 (pairs (0 ∷ 2 ∷ 1 ∷ 1 ∷ 0 ∷ 0 ∷ [])) 0 (refused 26 0) 0 0 0
     ∷ loaded triplePlan 0xc0 (replicate 5 0 ++ (7 ∷ [])) (done (2 ∷ 0 ∷ [])) (stateOf 2 0 (0xc0 ∷ 7 ∷ []))
     ∷ loaded triplePlan 0xc0 (replicate 4 7) (refused 13 0) (replicate 4 7)
     ∷ stepped triplePlan (stateOf 2 0 (0xc0 ∷ [])) (done (0 ∷ 1 ∷ [])) (stateOf 0 1 (0xe0 ∷ []))

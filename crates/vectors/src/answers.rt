@@ -293,6 +293,7 @@ fn decode(
     let decoding = decoder::decode(left, right, nl, nr, wiring, received, lost, output, limit);
     let outcome = decoding.outcome;
     let sums = decoding.sums;
+    let visits = decoding.visits;
     match outcome {
         Decoded::Settled(sweeps) => {
             output::text(b"ok ");
@@ -306,6 +307,8 @@ fn decode(
     output::bytes(output);
     output::text(b" ");
     output::sums(&sums);
+    output::text(b" ");
+    output::number(visits);
 }
 
 fn encode(
