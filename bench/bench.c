@@ -1,7 +1,7 @@
 /* The library beside plain C, on the same inputs in one run: medians of repeated runs, and their ratio (above 1: the library
-   is faster). With the argument `check` every pair of answers is compared and nothing is timed. Compiled with EXPERT and linked
-   with an expert's decoder (`make bench EXPERT=its file`), it shows that decoder too, and how many times its time the library
-   takes. */
+   is faster); of a decoder call also the vertices visited. With the argument `check` every pair of answers is compared and
+   nothing is timed. Compiled with EXPERT and linked with an expert's decoder (`make bench EXPERT=its file`), it shows that
+   decoder too, and how many times its time the library takes. */
 #define _POSIX_C_SOURCE 200809L /* for clock_gettime */
 
 #include "lembikat.h"
@@ -13,23 +13,15 @@
 #include <time.h>
 
 #ifdef EXPERT
-/* The expert's decoder, in which a tie keeps its bits as it does here. It also counts visits, which are not compared. */
-typedef struct {
-    uint32_t number, place;
-    uint64_t value;
-    uint16_t sums[LEMBIKAT_SUMS];
-    uint64_t visits;
-} expert_answer;
-
-expert_answer expert_decode8(const uint8_t *left_sheet, size_t left_sheet_bytes, const uint8_t *right_sheet,
-                             size_t right_sheet_bytes, size_t nl, size_t nr, const uint8_t *wiring, size_t wiring_bytes,
-                             const uint8_t *received, size_t received_bytes, const uint8_t *lost, size_t lost_bytes,
-                             uint8_t *output, size_t output_bytes, size_t limit);
+/* The expert's decoder. Its answer is laid out as the library's is. */
+lembikat_decode_answer expert_decode8(const uint8_t *left_sheet, size_t left_sheet_bytes, const uint8_t *right_sheet,
+                                      size_t right_sheet_bytes, size_t nl, size_t nr, const uint8_t *wiring,
+                                      size_t wiring_bytes, const uint8_t *received, size_t received_bytes, const uint8_t *lost,
+                                      size_t lost_bytes, uint8_t *output, size_t output_bytes, size_t limit);
 #endif
 
 #define MAX_EDGES 32768
 #define RUNS 25
-#define LIMIT 20
 
 /* An inner code, by the rows of its sheet. */
 typedef struct {
@@ -168,7 +160,9 @@ static int by_value(const void *a, const void *b)
     return x < y ? -1 : x > y;
 }
 
-/* The received block, and the spans lost of it: none but in the rows that say so. */
+/* The received block, the spans lost of it, none but in the rows that say so, and the most sweeps, 20 but in such rows. */
+#define USUAL_LIMIT 20
+static size_t limit = USUAL_LIMIT;
 static uint8_t lost[LEMBIKAT_SPAN_BYTES];
 static size_t lost_bytes;
 static uint8_t received[MAX_EDGES / 8], mine[MAX_EDGES / 8], theirs[MAX_EDGES / 8];
@@ -176,9 +170,10 @@ static uint8_t message[64];
 static size_t message_bytes;
 static uint64_t word;
 
-/* What the calls tell beside the value: the decoder its sums, the nearest word and the look-up the bits changed as the first of
-   them. */
+/* What the calls tell beside the value: the decoder its sums and visits, the nearest word and the look-up the bits changed as
+   the first of the sums. */
 static uint16_t my_sums[LEMBIKAT_SUMS], their_sums[LEMBIKAT_SUMS];
+static uint64_t my_visits, their_visits;
 
 #define PLAN                                                                                                                   \
     p->left.sheet, p->left.sheet_bytes, p->right.sheet, p->right.sheet_bytes, p->left.n, p->right.n, p->wiring, 2 * edges(p)
@@ -198,24 +193,26 @@ static size_t block_bytes(const plan *p)
 
 static uint64_t library_decodes(const plan *p)
 {
-    lembikat_decode_answer a = lembikat_decode(PLAN, received, block_bytes(p), lost, lost_bytes, mine, block_bytes(p), LIMIT);
+    lembikat_decode_answer a = lembikat_decode(PLAN, received, block_bytes(p), lost, lost_bytes, mine, block_bytes(p), limit);
     memcpy(my_sums, a.sums, sizeof my_sums);
+    my_visits = a.visits;
     return a.number * 65536u + a.value;
 }
 
 static uint64_t plain_decodes(const plan *p)
 {
     size_t sweeps = 0;
-    int number =
-        plain_decode(PLAN, received, block_bytes(p), lost, lost_bytes, theirs, block_bytes(p), LIMIT, &sweeps, their_sums);
+    int number = plain_decode(PLAN, received, block_bytes(p), lost, lost_bytes, theirs, block_bytes(p), limit, &sweeps,
+                              their_sums, &their_visits);
     return (uint64_t)number * 65536u + sweeps;
 }
 
 static uint64_t expert_decodes(const plan *p)
 {
 #ifdef EXPERT
-    expert_answer a = expert_decode8(PLAN, received, block_bytes(p), lost, lost_bytes, theirs, block_bytes(p), LIMIT);
+    lembikat_decode_answer a = expert_decode8(PLAN, received, block_bytes(p), lost, lost_bytes, theirs, block_bytes(p), limit);
     memcpy(their_sums, a.sums, sizeof their_sums);
+    their_visits = a.visits;
     return a.number * 65536u + a.value;
 #else
     (void)p;
@@ -414,8 +411,9 @@ static const int with_expert = 0;
 static int differ(const plan *p, uint64_t says, uint64_t other)
 {
     return says != other || my_value != their_value || memcmp(mine, theirs, block_bytes(p)) != 0 ||
-           memcmp(my_sums, their_sums, sizeof my_sums) != 0 || memcmp(my_list, their_list, sizeof my_list) != 0 ||
-           memcmp(my_table, their_table, sizeof my_table) != 0 || memcmp(my_state, their_state, sizeof my_state) != 0;
+           memcmp(my_sums, their_sums, sizeof my_sums) != 0 || my_visits != their_visits ||
+           memcmp(my_list, their_list, sizeof my_list) != 0 || memcmp(my_table, their_table, sizeof my_table) != 0 ||
+           memcmp(my_state, their_state, sizeof my_state) != 0;
 }
 
 /* One line of the table. Answers whether the two differ. */
@@ -426,7 +424,7 @@ static int row(const plan *p, const char *input, work library, work plain)
     int expert = with_expert && library == library_decodes;
     memset(my_sums, 0, sizeof my_sums);
     memset(their_sums, 0, sizeof their_sums);
-    my_value = their_value = 0;
+    my_value = their_value = my_visits = their_visits = 0;
     uint64_t says = library(p);
     if (differ(p, says, plain(p)) || (expert && differ(p, says, expert_decodes(p)))) {
         printf("%s, %s: the library and plain C differ\n", p->name, input);
@@ -444,7 +442,9 @@ static int row(const plan *p, const char *input, work library, work plain)
     qsort(a, RUNS, sizeof *a, by_value);
     qsort(b, RUNS, sizeof *b, by_value);
     qsort(c, RUNS, sizeof *c, by_value);
-    char ends[24];
+    char ends[24], visited[24] = "";
+    if (library == library_decodes)
+        snprintf(visited, sizeof visited, "%llu", (unsigned long long)my_visits);
     if (says >= 65536)
         snprintf(ends, sizeof ends, "refused %u", (unsigned)(says / 65536));
     else if (library == library_encodes)
@@ -464,7 +464,7 @@ static int row(const plan *p, const char *input, work library, work plain)
     else
         snprintf(ends, sizeof ends, "%u sweep%s", (unsigned)says, says == 1 ? "" : "s");
     double mine_us = 1e6 * a[RUNS / 2], plain_us = 1e6 * b[RUNS / 2], expert_us = 1e6 * c[RUNS / 2];
-    printf("%-22s %-19s %-11s %12.2f %12.2f %8.2f", p->name, input, ends, plain_us, mine_us, plain_us / mine_us);
+    printf("%-22s %-22s %-11s %8s %12.2f %12.2f %8.2f", p->name, input, ends, visited, plain_us, mine_us, plain_us / mine_us);
     if (expert)
         printf(" %12.2f %8.2f", expert_us, mine_us / expert_us);
     printf("\n");
@@ -535,6 +535,97 @@ static int lost_rows(const plan *p, unsigned flips)
     }
     lost_bytes = 0;
     return failed;
+}
+
+/* What becomes of the received block in the long run, as plain C tells it with a limit of 64: it settles after more than ten
+   sweeps; it stands still, so that no vertex is visited any more; or it swings, some bits being turned to and fro for ever. */
+static uint64_t plain_with_limit(const plan *p, size_t most)
+{
+    limit = most;
+    uint64_t says = plain_decodes(p);
+    limit = USUAL_LIMIT;
+    return says;
+}
+
+static int settles_late(const plan *p)
+{
+    uint64_t says = plain_with_limit(p, 64);
+    return says > 10 && says <= 64;
+}
+
+static int still_visits(const plan *p)
+{
+    plain_with_limit(p, 63);
+    uint64_t visits = their_visits;
+    plain_with_limit(p, 64);
+    return their_visits != visits;
+}
+
+static int stands_still(const plan *p)
+{
+    return plain_with_limit(p, 64) >= 65536 && !still_visits(p);
+}
+
+static int swings(const plan *p)
+{
+    return plain_with_limit(p, 64) >= 65536 && still_visits(p);
+}
+
+/* A row of the decoder with its own limit, which stands behind what becomes of the block. */
+static int limited_row(const plan *p, const char *what, size_t most)
+{
+    char input[32];
+    snprintf(input, sizeof input, "%s, %zu", what, most);
+    limit = most;
+    int failed = row(p, input, library_decodes, plain_decodes);
+    limit = USUAL_LIMIT;
+    return failed;
+}
+
+/* The codeword sent, damaged by so many flips, until it is what is wanted. */
+static void damage_until(const plan *p, unsigned flips, int (*wanted)(const plan *))
+{
+    do
+        damage(p, flips);
+    while (!wanted(p));
+}
+
+/* Many sweeps with no vertex left to visit, and with few. */
+static int long_rows(const plan *p, unsigned some, unsigned many)
+{
+    damage_until(p, some, stands_still);
+    int failed = limited_row(p, "stands still", LEMBIKAT_MAX_LIMIT);
+    damage_until(p, many, swings);
+    failed |= limited_row(p, "swings", 64);
+    return failed | limited_row(p, "swings", LEMBIKAT_MAX_LIMIT);
+}
+
+static int late_row(const plan *p, unsigned flips)
+{
+    damage_until(p, flips, settles_late);
+    return limited_row(p, "settles late", LEMBIKAT_MAX_LIMIT);
+}
+
+/* A chain. Each vertex reads four bits that must be alike and a fifth that may be anything. Two of the four are ones, so that
+   it ties; one bit comes from the vertex before it, on the other side, and one goes to the vertex after it. The first of them
+   all has a 1 there, reads three ones and hands a 1 on: each sweep mends one vertex, and the block settles after 2n sweeps. */
+static int chain_row(plan *p, const char *name, size_t n)
+{
+    static const code c = {5, 2, {0x1e, 0x01}};
+    p->name = name;
+    set_side(&p->left, &c, n);
+    set_side(&p->right, &c, n);
+    memset(received, 0, block_bytes(p));
+    for (size_t v = 0; v < n; v++) {
+        const size_t from = 5 * v, last = v + 1 == n;
+        const size_t entries[5] = {from + 1, last ? 5 * n - 1 : from + 5, from + 2, from + 3, last ? 0 : from + 4};
+        for (size_t j = 0; j < 5; j++)
+            put_pair(p->wiring + 2 * (5 * v + j), (unsigned)entries[j]);
+        flip(received, from + 2);
+        flip(received, from + 3);
+    }
+    flip(received, 0);
+    return limited_row(p, "a vertex a sweep", LEMBIKAT_MAX_LIMIT);
 }
 
 /* The calls whose work is mostly the check of the plan: the locator on the codeword sent, the report of so many flips, the
@@ -621,8 +712,8 @@ int main(int count, char **words)
     int failed = 0;
     timing = !(count > 1 && strcmp(words[1], "check") == 0);
     if (timing)
-        printf("%-22s %-19s %-11s %12s %12s %8s%s\n", "plan", "input", "ends", "plain C, us", "library, us", "ratio",
-               with_expert ? "   expert, us  of that" : "");
+        printf("%-22s %-22s %-11s %8s %12s %12s %8s%s\n", "plan", "input", "ends", "visits", "plain C, us", "library, us",
+               "ratio", with_expert ? "   expert, us  of that" : "");
     set_squares(&p, "house, n 64", &house, 64);
     failed |= decoder_rows(&p, 2, 12);
     failed |= other_rows(&p, 12);
@@ -666,5 +757,15 @@ int main(int count, char **words)
     failed |= state_rows(&p, 2000);
     set_squares(&p, "d 16 k 11, n 2048", &k_11, 2048);
     failed |= state_rows(&p, 2000);
+
+    /* The decoder where it makes many sweeps. */
+    set_squares(&p, "house, n 64", &house, 64);
+    failed |= long_rows(&p, 44, 80);
+    set_squares(&p, "house, n 2048", &house, 2048);
+    failed |= long_rows(&p, 900, 1500);
+    set_design(&p, "d 16 k 5, n 31");
+    failed |= late_row(&p, 145);
+    failed |= chain_row(&p, "chain, n 64", 64);
+    failed |= chain_row(&p, "chain, n 2048", 2048);
     return failed;
 }

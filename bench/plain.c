@@ -238,6 +238,45 @@ static unsigned sweep(const code *c, int right, size_t n, const uint8_t *wiring,
     return changed;
 }
 
+/* The vertices of each side that heard news, and the right vertex of each edge. */
+typedef struct {
+    uint8_t heard[2][2048];
+    uint16_t right_end[32768];
+} news;
+
+static void note_right_ends(const plan *p, const uint8_t *wiring, news *n)
+{
+    for (size_t v = 0, i = 0; v < p->n[1]; v++)
+        for (int j = 0; j < p->codes[1].d; j++, i++)
+            n->right_end[edge_of(wiring, i)] = (uint16_t)v;
+}
+
+/* The decoder's sweep after so many others: the first two visit their whole side, each later one the vertices that heard news.
+ * Adds up the visits, and marks the vertices of the other side that have a bit which was changed. What sweep 1 changes is no
+ * news, since sweep 2 visits all; so the right ends need only be there from the third sweep on. */
+static unsigned sweep_by_news(const plan *p, size_t count, const uint8_t *wiring, uint8_t *block, news *n, uint64_t *visits)
+{
+    const int right = count % 2;
+    const code *c = &p->codes[right];
+    unsigned changed = 0;
+    for (size_t v = 0; v < p->n[right]; v++) {
+        if (count >= 2 && !n->heard[right][v])
+            continue;
+        n->heard[right][v] = 0;
+        ++*visits;
+        unsigned word = read_word(c, right, wiring, block, v), put = nearest(c, word, &changed);
+        write_word(c, right, wiring, block, v, put);
+        if (put == word || count == 0)
+            continue;
+        for (int j = 0; j < c->d; j++)
+            if (((word ^ put) >> (c->d - 1 - j)) & 1u) {
+                size_t edge = place_of(right, wiring, v * (size_t)c->d + (size_t)j);
+                n->heard[!right][right ? edge / (size_t)p->codes[0].d : n->right_end[edge]] = 1;
+            }
+    }
+    return changed;
+}
+
 int plain_nearest_word(const uint8_t *sheet, size_t sheet_bytes, uint64_t word, uint64_t *nearest_word, uint64_t *changed)
 {
     code c;
@@ -253,17 +292,21 @@ int plain_nearest_word(const uint8_t *sheet, size_t sheet_bytes, uint64_t word, 
 }
 
 /* Sweeps a block until it settles. Answers the sweeps, or one more than the limit where it does not. */
-static size_t settle(const plan *p, const uint8_t *wiring, size_t limit, uint8_t *block, uint16_t sums[64])
+static size_t settle(const plan *p, const uint8_t *wiring, size_t limit, uint8_t *block, uint16_t sums[64], uint64_t *visits)
 {
+    news n;
+    memset(n.heard, 0, sizeof n.heard);
     memset(sums, 0, 64 * sizeof *sums);
+    *visits = 0;
     for (size_t count = 0;; count++) {
         /* both sides, also the one just swept, which may hold ties */
         if (is_codeword(p, wiring, block))
             return count;
         if (count == limit)
             return limit + 1;
-        int right = count % 2;
-        unsigned changed = sweep(&p->codes[right], right, p->n[right], wiring, block);
+        if (count == 2)
+            note_right_ends(p, wiring, &n);
+        unsigned changed = sweep_by_news(p, count, wiring, block, &n, visits);
         if (count < 64)
             sums[count] = (uint16_t)changed;
     }
@@ -272,10 +315,11 @@ static size_t settle(const plan *p, const uint8_t *wiring, size_t limit, uint8_t
 int plain_decode(const uint8_t *left_sheet, size_t left_sheet_bytes, const uint8_t *right_sheet, size_t right_sheet_bytes,
                  size_t nl, size_t nr, const uint8_t *wiring, size_t wiring_bytes, const uint8_t *received,
                  size_t received_bytes, const uint8_t *lost, size_t lost_bytes, uint8_t *output, size_t output_bytes,
-                 size_t limit, size_t *sweeps, uint16_t sums[64])
+                 size_t limit, size_t *sweeps, uint16_t sums[64], uint64_t *visits)
 {
     plan p;
     memset(sums, 0, 64 * sizeof *sums);
+    *visits = 0;
     int fault = check_plan(left_sheet, left_sheet_bytes, right_sheet, right_sheet_bytes, nl, nr, wiring, wiring_bytes, &p);
     if (fault)
         return fault;
@@ -290,18 +334,20 @@ int plain_decode(const uint8_t *left_sheet, size_t left_sheet_bytes, const uint8
         return 14;
     memcpy(output, received, received_bytes);
     fill_spans(lost, lost_bytes, 0, output);
-    *sweeps = settle(&p, wiring, limit, output, sums);
+    *sweeps = settle(&p, wiring, limit, output, sums, visits);
     if (lost_bytes) {
         uint8_t other[4096];
         uint16_t other_sums[64];
+        uint64_t other_visits;
         memcpy(other, received, received_bytes);
         fill_spans(lost, lost_bytes, 1, other);
-        size_t other_sweeps = settle(&p, wiring, limit, other, other_sums);
+        size_t other_sweeps = settle(&p, wiring, limit, other, other_sums, &other_visits);
         if (other_sweeps <= limit && (*sweeps > limit || flips_outside(&p, lost, lost_bytes, received, other) <
                                                              flips_outside(&p, lost, lost_bytes, received, output))) {
             *sweeps = other_sweeps;
             memcpy(output, other, received_bytes);
             memcpy(sums, other_sums, sizeof other_sums);
+            *visits = other_visits;
         }
     }
     if (*sweeps <= limit)

@@ -19,11 +19,12 @@ int plain_look_up(const uint8_t *sheet, size_t sheet_bytes, uint64_t word, const
                   uint64_t *nearest_word, uint64_t *changed);
 
 /* The straightforward port of the paper: nearest word by search over the codewords, both sides tested before each sweep, with
- * lost spans both trials made to their end. The sums are what the visits of each of the first 64 sweeps changed, added up. */
+ * lost spans both trials made to their end. From sweep 3 on the vertices are visited that a changed bit has marked. The sums
+ * are what the visits of each of the first 64 sweeps changed, added up. */
 int plain_decode(const uint8_t *left_sheet, size_t left_sheet_bytes, const uint8_t *right_sheet, size_t right_sheet_bytes,
                  size_t nl, size_t nr, const uint8_t *wiring, size_t wiring_bytes, const uint8_t *received,
                  size_t received_bytes, const uint8_t *lost, size_t lost_bytes, uint8_t *output, size_t output_bytes,
-                 size_t limit, size_t *sweeps, uint16_t sums[64]);
+                 size_t limit, size_t *sweeps, uint16_t sums[64], uint64_t *visits);
 
 /* The calls on a state, by counting all unsatisfied vertices of the block anew at the end of each call: what the count was does
  * not matter, but for 0. On a state whose count is true this is what the library does. */

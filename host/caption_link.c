@@ -1,9 +1,9 @@
 /* caption_link: carries a line of caption text over a simulated link, block by block.
  *
  * It shows the calls in the order in which a host needs them: learn what a plan carries and covers, encode, decode, of one
- * block with a lost span, report, show how hard the decoder worked, read; then what a refusal looks like. Nothing is kept
- * between calls, so there is nothing to open or to close. carriers.h has the plan, 16 carriers by 8 time slots, and what the
- * refusals are in words.
+ * block with a lost span, report, show how hard the decoder worked, by sums and visits, read; then what a refusal looks like.
+ * Nothing is kept between calls, so there is nothing to open or to close. carriers.h has the plan, 16 carriers by 8 time slots,
+ * and what the refusals are in words.
  */
 #include "carriers.h"
 #include "lembikat.h"
@@ -42,7 +42,9 @@ static size_t message_bits(void)
 
 /* The meter: a line a sweep, with a mark for each bit that the sweep changed. Dots fill the bar up to the flips that are
  * covered, so that it can be seen how much of the margin the link takes. Two flips on one carrier are a tie: the carrier waits,
- * and the time slots change these bits in a later sweep. The sweeps made are `limit` where the block is unsettled. */
+ * and the time slots change these bits in a later sweep. The sweeps made are `limit` where the block is unsettled.
+ * Then the visits, which tell what the block cost: each carrier in sweep 1, each time slot in sweep 2, from then on only those
+ * with a bit that has just been changed. Where these are fewer, all that the sweeps have is shown beside them. */
 #define LONGEST_BAR 60
 
 static void show_meter(const lembikat_decode_answer *answer, uint64_t limit, size_t covered)
@@ -55,6 +57,11 @@ static void show_meter(const lembikat_decode_answer *answer, uint64_t limit, siz
             putchar(bit < sum ? '#' : '.');
         printf("%s  %u bit%s\n", sum > LONGEST_BAR ? "+" : "", sum, sum == 1 ? "" : "s");
     }
+    uint64_t all = (made + 1) / 2 * CARRIERS + made / 2 * SLOTS;
+    printf("  visits   %llu at carriers and time slots", (unsigned long long)answer->visits);
+    if (answer->visits < all)
+        printf(", instead of %llu at all of them in every sweep", (unsigned long long)all);
+    printf("\n");
 }
 
 /* The link. It flips so many different bits of the block; the same ones in every run, so that runs can be compared. */
@@ -180,16 +187,18 @@ int main(void)
         return 1;
     }
 
-    /* A block that is noise: where it is unsettled the output holds it as it came, for a host that shows or keeps it anyway. */
+    /* A block that is noise: where it is unsettled the output holds it as it came, for a host that shows or keeps it anyway. It
+     * is given more sweeps than the margin names: they cost little, since few carriers and time slots have news in them. */
+    const uint64_t noise_sweeps = 3 * sweeps;
     for (size_t i = 0; i < sizeof received; i++)
         received[i] = (uint8_t)(next_noise() >> 16);
     memset(settled, 0, sizeof settled);
     lembikat_decode_answer answer =
-        lembikat_plan_decode(&plan, received, sizeof received, NULL, 0, settled, sizeof settled, sweeps);
+        lembikat_plan_decode(&plan, received, sizeof received, NULL, 0, settled, sizeof settled, noise_sweeps);
     printf("noise: refused %u: %s\n", answer.number, in_words(answer.number));
     if (answer.number != LEMBIKAT_UNSETTLED || memcmp(settled, received, sizeof settled) != 0)
         return 1;
-    show_meter(&answer, sweeps, flips);
+    show_meter(&answer, noise_sweeps, flips);
     printf("  the output holds the received block\n");
     lembikat_answer located = lembikat_plan_locate(&plan, received, sizeof received);
     printf("  first vertex that reads no codeword: %s %llu\n", located.place == LEMBIKAT_LEFT ? "carrier" : "time slot",

@@ -1,8 +1,9 @@
 /* The services as documents 01 and 02 state them, by the plainest means: codewords are listed, the nearest word and the test
  * try all of them, the patterns with the fewest ones are counted, the classes of a table are found by going through all words,
- * a block is held with one byte a bit and so are the lost bits, what a sweep changed is counted on the blocks before and after
- * it, the unsatisfied vertices of a state's block are all counted anew before and after each change, the spread fills a table
- * of all pairs of vertices. */
+ * a block is held with one byte a bit and so are the lost bits, every sweep goes over its whole side, what it changed is
+ * counted on the blocks before and after it, the vertices that it visits on the blocks before and after the sweep before, the
+ * unsatisfied vertices of a state's block are all counted anew before and after each change, the spread fills a table of all
+ * pairs of vertices. */
 #include "reference.h"
 
 #include <stdio.h>
@@ -305,9 +306,19 @@ static unsigned differences(const uint8_t *bit, const uint8_t *other, size_t bit
     return count;
 }
 
+/* How many vertices of a side have a bit in which two blocks differ: they read another word. */
+static size_t vertices_apart(const graph *g, int side, const uint8_t *bit, const uint8_t *other)
+{
+    size_t count = 0;
+    for (size_t vertex = 0; vertex < g->n[side]; vertex++)
+        count += word_of(g, side, vertex, bit) != word_of(g, side, vertex, other);
+    return count;
+}
+
 /* The whole block, both sides of it, is tested at every count from 0 to the limit: the side just swept may hold ties, so that
- * its vertices need not read codewords. It is kept before each sweep, so that it can be compared with the block after it. */
-static lembikat_answer settle(const graph *g, size_t limit, uint8_t *bit, uint16_t *sums)
+ * its vertices need not read codewords. It is kept before each sweep, so that it can be compared with the block after it: for
+ * the sum of this sweep, and for the visits of the next one, if it is made. The first two sweeps visit their whole side. */
+static lembikat_answer settle(const graph *g, size_t limit, uint8_t *bit, uint16_t *sums, uint64_t *visits)
 {
     static uint8_t before[MAX_EDGES];
     for (size_t count = 0;; count++) {
@@ -315,8 +326,10 @@ static lembikat_answer settle(const graph *g, size_t limit, uint8_t *bit, uint16
             return done(0, count);
         if (count == limit)
             return refused(15, 0);
+        int side = count % 2 == 0 ? LEFT : RIGHT;
+        *visits += count < 2 ? g->n[side] : vertices_apart(g, side, before, bit);
         memcpy(before, bit, g->edges);
-        sweep(g, count % 2 == 0 ? LEFT : RIGHT, bit);
+        sweep(g, side, bit);
         if (count < SWEEPS_TOLD)
             sums[count] = (uint16_t)differences(before, bit, g->edges);
     }
@@ -326,6 +339,7 @@ static lembikat_answer settle(const graph *g, size_t limit, uint8_t *bit, uint16
 typedef struct {
     lembikat_answer answer;
     uint16_t sums[SWEEPS_TOLD];
+    uint64_t visits;
     uint8_t bit[MAX_EDGES]; /* after the last sweep */
     unsigned changed;       /* bits outside the spans, against the received block */
 } trial;
@@ -333,16 +347,17 @@ typedef struct {
 static void try_with(const graph *g, uint8_t value, const uint8_t *received, const uint8_t *is_lost, size_t limit, trial *t)
 {
     memset(t->sums, 0, sizeof t->sums);
+    t->visits = 0;
     for (size_t i = 0; i < g->edges; i++)
         t->bit[i] = is_lost[i] ? value : received[i];
-    t->answer = settle(g, limit, t->bit, t->sums);
+    t->answer = settle(g, limit, t->bit, t->sums, &t->visits);
     t->changed = 0;
     for (size_t i = 0; i < g->edges; i++)
         t->changed += !is_lost[i] && t->bit[i] != received[i];
 }
 
-/* The trial whose answer and sums are told: the settled one that changes fewer bits outside the spans, that with zeros if they
- * change equally many, and if neither settles. */
+/* The trial whose answer, sums and visits are told: the settled one that changes fewer bits outside the spans, that with zeros
+ * if they change equally many, and if neither settles. */
 static const trial *kept(const trial *by_zeros, const trial *by_ones)
 {
     if (by_ones->answer.number != 0)
@@ -587,7 +602,7 @@ lembikat_decode_answer reference_decode(const lembikat_plan *plan, const uint8_t
     static uint8_t is_lost[MAX_EDGES];
     static trial by_zeros, by_ones;
     graph *g = &the_graph;
-    lembikat_decode_answer told = {.sums = {0}};
+    lembikat_decode_answer told = {.sums = {0}, .visits = 0};
     lembikat_answer answer = check_plan(plan, g);
     if (answer.number == 0)
         answer = check_block(g, received, received_bytes);
@@ -607,6 +622,7 @@ lembikat_decode_answer reference_decode(const lembikat_plan *plan, const uint8_t
         }
         answer = told_of->answer;
         memcpy(told.sums, told_of->sums, sizeof told.sums);
+        told.visits = told_of->visits;
         if (answer.number == 0)
             pack(told_of->bit, g->edges, output);
         else

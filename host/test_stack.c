@@ -24,7 +24,7 @@ static void load_state(void), set_bit(void), sweep_left(void), sweep_right(void)
 static void sweep_left_of_two_codes(void), sweep_right_of_two_codes(void), sweep_house_right(void), sweep_house_left(void);
 
 /* The bytes that each call may take, as the header says, and the number that it must answer here. The decoder's blocks are such
- * that do not settle, so that it runs its sweeps and writes the received block back. */
+ * that do not settle, so that it runs its sweeps, of both sides by news too, and writes the received block back. */
 #define DECODE_BYTES (100 * 1024)
 #define SWEEP_BYTES (112 * 1024)
 #define BUILD_BYTES (34 * 1024)
@@ -64,7 +64,7 @@ static const struct {
 
 #define STACK_BYTES (1024 * 1024)
 #define D 16
-#define SWEEPS 3
+#define SWEEPS 5
 
 /* The inner codes: two of 11 rows, the first of distance 4, the second with other codewords; one of one row, which has the
  * largest table; the house code. */

@@ -2,10 +2,12 @@
  *
  * Part one runs every record of a stream of calls and compares the line that it gives with the expected one. Part two makes
  * calls that chance does not meet, among them every fault of every service alone and with every other one, the tables of all d
- * and k, every span that may be lost of a small block, and states of every small block with counts and sweep numbers that are
- * made up, and then 32,500 calls from a fixed seed, about half of them with faults and more than half of the plans with unequal
+ * and k, every span that may be lost of a small block, every block of some small plans at small limits, blocks that settle only
+ * after thousands of sweeps, stand still or swing, and states of every small block with counts and sweep numbers that are made
+ * up, and then 32,500 calls from a fixed seed, about half of them with faults and more than half of the plans with unequal
  * sides, and compares every answer and every lent byte with reference.c. Codewords with bits lost and flipped within the margin
- * must come back. States that are swept call by call must come to what the decoder answers. The last line is
+ * must come back, and with bits flipped alone they must not take more visits than the header's bound. States that are swept
+ * call by call must come to what the decoder answers, by the sweeps, sums and visits that it tells. The last line is
  * `test_vectors: N passed, M failed`; the exit status is 1 where one failed.
  *
  * The sanitizers do not see into the library. So every call is made twice: once by the call that takes the plan's parts, with
@@ -29,7 +31,7 @@ _Static_assert(sizeof(size_t) == 8, "numbers of the stream have 64 bits and are 
 /* The library lays its answers out field by field: where a compiler put a gap the two would not speak of the same bytes. */
 _Static_assert(sizeof(lembikat_answer) == 16, "the answer has a gap");
 _Static_assert(sizeof(lembikat_word_answer) == 24, "the answer of the nearest word and the look-up has a gap");
-_Static_assert(sizeof(lembikat_decode_answer) == 144, "the decoder's answer has a gap");
+_Static_assert(sizeof(lembikat_decode_answer) == 152, "the decoder's answer has a gap");
 _Static_assert(sizeof(lembikat_state_answer) == 24, "the answer of the calls on a state has a gap");
 
 #define RANDOM_CALLS 32500
@@ -77,6 +79,7 @@ typedef struct {
     uint64_t changed;             /* the nearest word's and the look-up's; 0 of the other services */
     uint64_t sweeps;              /* of the calls on a state; 0 of the other services */
     uint16_t sums[LEMBIKAT_SUMS]; /* the decoder's; 0 of the other services */
+    uint64_t visits;              /* the decoder's; 0 of the other services */
     uint8_t lent[ROOM];
     const char *trouble; /* what was touched that must not be, or NULL */
 } outcome;
@@ -236,6 +239,7 @@ static void invoke(const services *s, const call *c, uint8_t *const at[FIELDS], 
     size_t first_size = c->field[FIRST].size, second_size = c->field[SECOND].size, lent_size = c->field[LENT].size;
     o->changed = 0;
     o->sweeps = 0;
+    o->visits = 0;
     memset(o->sums, 0, sizeof o->sums);
     switch (c->service) {
     case 1:
@@ -254,6 +258,7 @@ static void invoke(const services *s, const call *c, uint8_t *const at[FIELDS], 
         lembikat_decode_answer decoded = s->decode(&plan, first, first_size, second, second_size, lent, lent_size, c->number);
         o->answer = (lembikat_answer){decoded.number, decoded.place, decoded.value};
         memcpy(o->sums, decoded.sums, sizeof o->sums);
+        o->visits = decoded.visits;
         break;
     }
     case 5:
@@ -296,8 +301,16 @@ static int same_bytes(const uint8_t *a, const uint8_t *b, size_t size)
     return size == 0 || memcmp(a, b, size) == 0;
 }
 
+static int all_zero(const uint16_t *sums)
+{
+    for (size_t i = 0; i < LEMBIKAT_SUMS; i++)
+        if (sums[i] != 0)
+            return 0;
+    return 1;
+}
+
 /* Looks at what the call was lent, after it: the buffers that are only read must be as they were, and a state must hold the
- * count and the sweep number that were answered. */
+ * count and the sweep number that were answered. With any refusal but 15 a decoder call tells neither sums nor visits. */
 static void look_after(const call *c, uint8_t *const at[FIELDS], outcome *o)
 {
     o->trouble = NULL;
@@ -309,6 +322,8 @@ static void look_after(const call *c, uint8_t *const at[FIELDS], outcome *o)
     if (ON(c->service) & ON_STATES && o->answer.number == LEMBIKAT_DONE &&
         (o->answer.value != get_pair(o->lent, 0) || o->sweeps != get_pair(o->lent, 1)))
         o->trouble = "the answer is not what stands in the state";
+    if (o->answer.number != LEMBIKAT_DONE && o->answer.number != LEMBIKAT_UNSETTLED && (o->visits != 0 || !all_zero(o->sums)))
+        o->trouble = "sums or visits are told with a refusal";
 }
 
 #define CANARIES 16
@@ -383,7 +398,7 @@ static int same_outcome(const call *c, const outcome *a, const outcome *b)
 {
     return a->answer.number == b->answer.number && a->answer.place == b->answer.place && a->answer.value == b->answer.value &&
            a->changed == b->changed && a->sweeps == b->sweeps && memcmp(a->sums, b->sums, sizeof a->sums) == 0 &&
-           same_bytes(a->lent, b->lent, c->field[LENT].size);
+           a->visits == b->visits && same_bytes(a->lent, b->lent, c->field[LENT].size);
 }
 
 /* Makes the call of the library in both ways, and of the reference. */
@@ -432,7 +447,8 @@ static void show(const char *who, const call *c, const outcome *o)
     for (size_t i = 0; i < c->field[LENT].size && i < 64; i++)
         printf("%s%02x", i == 0 ? " " : "", o->lent[i]);
     put_sums(sums, o->sums);
-    printf(" changed %llu sweeps %llu sums %s\n", (unsigned long long)o->changed, (unsigned long long)o->sweeps, sums);
+    printf(" changed %llu sweeps %llu sums %s visits %llu\n", (unsigned long long)o->changed, (unsigned long long)o->sweeps,
+           sums, (unsigned long long)o->visits);
 }
 
 /* ---- part one: the stored stream ---- */
@@ -514,7 +530,7 @@ static call next_record(void)
     return c;
 }
 
-/* The line that a call gives: the answer, then the whole lent buffer where there is one, then the sums of the decoder. */
+/* The line that a call gives: the answer, then the whole lent buffer where there is one, then the decoder's sums and visits. */
 static const char *line_of(const call *c, const outcome *o)
 {
     static char line[2 * ROOM + SUMS_ROOM + 100];
@@ -539,8 +555,9 @@ static const char *line_of(const call *c, const outcome *o)
             end += sprintf(end, "%02x", o->lent[i]);
     }
     if (c->service == 4) {
-        *end++ = ' ';
-        put_sums(end, o->sums);
+        char sums[SUMS_ROOM];
+        put_sums(sums, o->sums);
+        sprintf(end, " %s %llu", sums, (unsigned long long)o->visits);
     }
     return line;
 }
@@ -778,6 +795,21 @@ static void must_tell(const char *kind, const call *c, uint64_t value, uint64_t 
                (unsigned long long)c->number, (unsigned long long)by_library.changed, (unsigned long long)changed);
 }
 
+/* The same of the decoder's visits. */
+static void must_visit(const char *kind, const call *c, uint64_t visits)
+{
+    if (failed(by_library.visits != visits)) {
+        printf("FAILED: %s: %llu vertices must be visited\n", kind, (unsigned long long)visits);
+        show("library  ", c, &by_library);
+    }
+}
+
+/* The visits of so many sweeps, where these are no more than two or none after the first changes a bit: each side once. */
+static uint64_t each_side_once(size_t made)
+{
+    return (made >= 1 ? plan.left.n : 0) + (made >= 2 ? plan.right.n : 0);
+}
+
 /* ---- calls that chance does not meet ---- */
 
 static const side pair_code = {.d = 2, .k = 1, .row = {3}};
@@ -923,11 +955,16 @@ static call decoder_call(uint64_t limit)
  * first of them all, the head, whose other end is a fifth bit. Where two of four are ones there is a tie, and the vertex waits:
  * only when the bit from the vertex before has become 1 does it read three ones, and then it hands the 1 on. The sides take
  * turns along the chain, so that each sweep changes one bit, in one vertex, and all vertices behind it, on both sides, still
- * wait. The block settles only after 2n sweeps, or 2n + 1 where the head is at a right vertex: sweep 1 then changes nothing. */
-static void lay_chain(size_t n, int right_first)
+ * wait. The block settles only after 2n sweeps, or 2n + 1 where the head is at a right vertex: sweep 1 then changes nothing.
+ * Beside the chain there may be vertices that never settle: one a side, which share their bits, of the four two ones, a tie; or
+ * two a side, each right one with three of the four bits of one left vertex and one of the other, which are three ones and one:
+ * each sweep turns two of these bits, and the next one turns them back. */
+enum { ALONE, BESIDE_A_TIE, BESIDE_A_SWING, CHAINS }; /* each also the number of vertices a side that are beside it */
+
+static void lay_chain_beside(size_t n, int right_first, int beside)
 {
     const side code = {.d = 5, .k = 2, .row = {0x1e, 0x01}};
-    set_plan(code, code, n);
+    set_plan(code, code, n + (size_t)beside);
     /* Left vertex u has its bit from the vertex before, that to the vertex after, its two ones, its fifth. Right vertex v has
      * the ones and, as a rule, the fifth of left vertex v. */
     memset(first, 0, plan.block);
@@ -948,23 +985,50 @@ static void lay_chain(size_t n, int right_first)
         flip(first, 5 * v + 3);
     }
     flip(first, right_first ? 5 * n - 1 : 0);
+    for (size_t i = 5 * n; i < plan.edges; i++)
+        put_pair(wiring, i, i);
+    if (beside == BESIDE_A_TIE) {
+        flip(first, 5 * n);
+        flip(first, 5 * n + 1);
+    } else if (beside == BESIDE_A_SWING) {
+        swap_entries(5 * n + 3, 5 * n + 5);
+        for (size_t i = 0; i < 3; i++)
+            flip(first, 5 * n + i);
+        flip(first, 5 * n + 5);
+    }
 }
 
-/* The decoder on such a chain. */
-static void chain_call(size_t n, int right_first, size_t limit)
+static void lay_chain(size_t n, int right_first)
+{
+    lay_chain_beside(n, right_first, ALONE);
+}
+
+/* The decoder on such a chain. From sweep 3 on it visits the one vertex of the chain that the sweep before has handed the 1 to,
+ * also after the last one, and those that swing. Where the reference would take long the library is called alone: all that it
+ * must tell is known. */
+static void chain_call(size_t n, int right_first, int beside, size_t limit)
 {
     static size_t calls;
-    size_t count = right_first ? 2 * n + 1 : 2 * n, made = count <= limit ? count : limit;
-    lay_chain(n, right_first);
+    const size_t last = right_first ? 2 * n + 1 : 2 * n, swinging = beside == BESIDE_A_SWING ? 2 : 0;
+    const int settles = beside == ALONE && last <= limit;
+    const size_t made = settles ? last : limit;
+    lay_chain_beside(n, right_first, beside);
     call c = decoder_call(limit);
-    compare("chain", calls++, &c);
+    if (beside != ALONE && n > 100)
+        run_on_heap(&by_parts, &c, &by_library);
+    else
+        compare("chain", calls++, &c);
 
-    int right = by_library.answer.number == (count <= limit ? LEMBIKAT_DONE : LEMBIKAT_UNSETTLED) &&
-                by_library.answer.value == (count <= limit ? count : 0);
+    uint64_t visits = each_side_once(made);
+    int right = by_library.answer.number == (settles ? LEMBIKAT_DONE : LEMBIKAT_UNSETTLED) &&
+                by_library.answer.value == (settles ? last : 0);
     for (size_t i = 0; i < LEMBIKAT_SUMS; i++)
-        right &= by_library.sums[i] == (i >= made ? 0 : i == 0 && right_first ? 0 : 1);
-    if (failed(!right)) {
-        printf("FAILED: chain of n %zu with limit %zu, which settles after %zu sweeps\n", n, limit, count);
+        right &= by_library.sums[i] == (i >= made ? 0 : (i >= (size_t)right_first && i < last) + swinging);
+    for (size_t sweep = 3; sweep <= made; sweep++)
+        visits += (sweep - 1 <= last) + swinging;
+    if (failed(!right || by_library.visits != visits || by_library.trouble != NULL)) {
+        printf("FAILED: chain of n %zu with limit %zu, whose last change is in sweep %zu, visits %llu %s\n", n, limit, last,
+               (unsigned long long)visits, by_library.trouble == NULL ? "" : by_library.trouble);
         show("library  ", &c, &by_library);
     }
 }
@@ -973,14 +1037,23 @@ static void chain_call(size_t n, int right_first, size_t limit)
 static void chain_calls(void)
 {
     static const size_t sizes[] = {1, 2, 3, 30, 31, 32, 33},
-                        limits[] = {0, 1, 2, 3, 4, 60, 61, 62, 63, 64, 65, 66, 67, 68, LEMBIKAT_MAX_LIMIT};
-    for (size_t i = 0; i < sizeof sizes / sizeof sizes[0]; i++)
-        for (size_t j = 0; j < sizeof limits / sizeof limits[0]; j++) {
-            chain_call(sizes[i], 0, limits[j]);
-            chain_call(sizes[i], 1, limits[j]);
+                        limits[] = {0,  1,  2,  3,  4,  5,  6,  7,  8,  60,  61,  62,  63,
+                                    64, 65, 66, 67, 68, 69, 70, 71, 72, 128, 129, 999, LEMBIKAT_MAX_LIMIT};
+    for (int beside = ALONE; beside < CHAINS; beside++)
+        for (size_t i = 0; i < sizeof sizes / sizeof sizes[0]; i++)
+            for (size_t j = 0; j < sizeof limits / sizeof limits[0]; j++) {
+                if (beside != ALONE && sizes[i] > 3 && limits[j] > 999)
+                    continue; /* the same sweeps over and over, which takes the reference long */
+                chain_call(sizes[i], 0, beside, limits[j]);
+                chain_call(sizes[i], 1, beside, limits[j]);
+            }
+    chain_call(LEMBIKAT_MAX_VERTICES, 0, ALONE, LEMBIKAT_MAX_LIMIT - 1);
+    chain_call(LEMBIKAT_MAX_VERTICES, 0, ALONE, LEMBIKAT_MAX_LIMIT);
+    for (size_t limit = LEMBIKAT_MAX_LIMIT - 3; limit <= LEMBIKAT_MAX_LIMIT; limit++)
+        for (int beside = BESIDE_A_TIE; beside < CHAINS; beside++) {
+            chain_call(LEMBIKAT_MAX_VERTICES - (size_t)beside, 0, beside, limit);
+            chain_call(LEMBIKAT_MAX_VERTICES - (size_t)beside, 1, beside, limit);
         }
-    chain_call(LEMBIKAT_MAX_VERTICES, 0, LEMBIKAT_MAX_LIMIT - 1);
-    chain_call(LEMBIKAT_MAX_VERTICES, 0, LEMBIKAT_MAX_LIMIT);
 }
 
 /* The largest sum: at each of 2,048 vertices the word is sixteen ones, the codewords are zero and a lone 1, and 15 bits are
@@ -998,6 +1071,7 @@ static void largest_sum(int sweep, side left, side right)
         printf("FAILED: sweep %d changes 15 bits at every vertex\n", sweep);
         show("library  ", &c, &by_library);
     }
+    must_visit("largest sum", &c, each_side_once((size_t)sweep));
 }
 
 static void largest_sums(void)
@@ -1032,6 +1106,7 @@ static void lone_vertex_call(int right, unsigned d, size_t n, unsigned other_d, 
         must_answer("lone vertex", &c, LEMBIKAT_UNSETTLED, 0, 0);
     else
         must_answer("lone vertex", &c, LEMBIKAT_DONE, 0, right ? 2 : 1);
+    must_visit("lone vertex", &c, each_side_once(d == 2 || right ? 2 : 1));
 }
 
 static void lone_vertex_calls(void)
@@ -1063,6 +1138,7 @@ static void sheet_calls(void)
         c = decoder_call(2);
         compare("sheets", (size_t)swapped, &c);
         must_answer("sheets", &c, LEMBIKAT_DONE, 0, swapped ? 2 : 1);
+        must_visit("sheets", &c, each_side_once(swapped ? 2 : 1));
     }
 }
 
@@ -1314,7 +1390,7 @@ static void table_calls(void)
 
 /* A decoder call on the plan and on what stands in the first block. It must settle after so many sweeps, if the limit is not
  * below them, or never where that is 0. The sums of sweeps 1 and 2 are given, as far as the limit lets them be made; no later
- * sweep changes a bit. */
+ * sweep changes a bit, nor does sweep 2 where the block never settles. */
 static void tie_call(uint64_t limit, uint64_t sweeps, unsigned sum_1, unsigned sum_2)
 {
     static size_t calls;
@@ -1329,6 +1405,7 @@ static void tie_call(uint64_t limit, uint64_t sweeps, unsigned sum_1, unsigned s
                (unsigned long long)limit);
         show("library  ", &c, &by_library);
     }
+    must_visit("tie", &c, each_side_once(settles ? sweeps : limit));
 }
 
 /* Ties: the word stays, and as long as some vertex reads it the block is no codeword, whichever side was swept last. */
@@ -1684,6 +1761,9 @@ static size_t make_trial(const call *c, const uint8_t *is_lost, unsigned value, 
 /* How the trials of a call end, and which of them is kept. */
 enum { NEITHER_SETTLES, ZEROS_ALONE, ONES_ALONE, ZEROS_CHANGE_FEWER, ONES_CHANGE_FEWER, EQUALLY_MANY, TRIAL_ENDS };
 
+/* In how many calls that ended so the trials visit different numbers of vertices. */
+static size_t visits_apart[TRIAL_ENDS];
+
 /* Holds a decoder call with a list, which was just compared, to two calls without one. Answers how these ended. */
 static int must_keep_a_trial(const char *kind, const call *c)
 {
@@ -1697,6 +1777,7 @@ static int must_keep_a_trial(const char *kind, const call *c)
         end = ZEROS_ALONE;
     else if (zeros_changed != ones_changed)
         end = zeros_changed < ones_changed ? ZEROS_CHANGE_FEWER : ONES_CHANGE_FEWER;
+    visits_apart[end] += zeros.visits != ones.visits;
     const outcome *kept = end == ONES_ALONE || end == ONES_CHANGE_FEWER ? &ones : &zeros;
     if (end == NEITHER_SETTLES) /* the output is the block as it was received, not as it was tried */
         memcpy(zeros.lent, c->field[FIRST].data, plan.block);
@@ -1820,6 +1901,7 @@ static void trial_call(unsigned d, size_t lost, unsigned block, unsigned settled
     call c = lost_call(3);
     compare("trial", block, &c);
     must_answer("trial", &c, LEMBIKAT_DONE, 0, sum == 0 ? 0 : 1);
+    must_visit("trial", &c, sum == 0 ? 0 : 1);
     if (failed(must_keep_a_trial("trial", &c) != end || by_library.lent[0] != settled || by_library.sums[0] != sum ||
                by_library.sums[1] != 0)) {
         printf("FAILED: trial of %u bits, %zu lost, block %02x\n", d, lost, block);
@@ -2201,13 +2283,43 @@ static size_t bits_apart(const uint8_t *block, const uint8_t *other)
     return count;
 }
 
+/* The entry of the plan's wiring at which each bit stands. */
+static size_t entry_of[MAX_EDGES];
+
+static void note_entries(void)
+{
+    for (size_t i = 0; i < plan.edges; i++)
+        entry_of[get_pair(wiring, i)] = i;
+}
+
+/* How many vertices of a side have a bit in which two blocks of the plan differ. Each such bit marks its vertex; bytes that are
+ * the same are passed over, since most are. */
+static size_t vertices_with_news(int right, const uint8_t *block, const uint8_t *other)
+{
+    static uint8_t marked[LEMBIKAT_MAX_VERTICES];
+    size_t count = 0;
+    memset(marked, 0, right ? plan.right.n : plan.left.n);
+    for (size_t bit = 0; bit < plan.edges; bit++) {
+        if (block[bit / 8] == other[bit / 8]) {
+            bit |= 7;
+        } else if (get_bit(block, bit) != get_bit(other, bit)) {
+            size_t vertex = right ? entry_of[bit] / plan.right.d : bit / plan.left.d;
+            count += !marked[vertex];
+            marked[vertex] = 1;
+        }
+    }
+    return count;
+}
+
 /* How walks end: at a codeword from the start, settled after some sweeps, or spent after 4,096. */
 enum { SETTLED_AT_ONCE, SETTLED_LATER, SPENT, WALK_ENDS };
 
 /* Walks to the end from a state whose sweep number is 0 and whose count is true, and holds the walk to the full decoding of its
  * block: it settles there after as many calls, of which each changes as many bits as the decoder's sum tells, and stays; or it
- * never settles, and after 4,096 calls the next one is refused. On the way the count is true, and 0 only at the end. The first
- * steps, some others and the last one are made beside the reference. Answers how the walk ended. */
+ * never settles, and after 4,096 calls the next one is refused. On the way the count is true, and 0 only at the end. Each call
+ * sweeps a whole side; the vertices that the decoder visits are those of the first two sweeps and, by the blocks before and
+ * after each call but the last, those with news for the next one. The first steps, some others and the last one are made beside
+ * the reference. Answers how the walk ended. */
 static int walk(const char *kind, size_t i)
 {
     static outcome full;
@@ -2218,6 +2330,8 @@ static int walk(const char *kind, size_t i)
     const size_t last = settles ? full.answer.value : LEMBIKAT_MAX_LIMIT;
     const char *wrong = settles || full.answer.number == LEMBIKAT_UNSETTLED ? NULL : "the decoder refuses the block";
     size_t made = 0;
+    uint64_t visits = each_side_once(last);
+    note_entries();
     c = sweep_call(state_bytes());
     c.field[LENT].data = walked;
     while (wrong == NULL) {
@@ -2239,11 +2353,15 @@ static int walk(const char *kind, size_t i)
             wrong = "a sweep is refused";
         else if (made < LEMBIKAT_SUMS && bits_apart(walked + HEAD, by_library.lent + HEAD) != full.sums[made])
             wrong = "a sweep changes more or fewer bits than the decoder's";
-        memcpy(walked, by_library.lent, state_bytes());
         made++;
+        if (made >= 2 && made < last)
+            visits += vertices_with_news(made % 2, walked + HEAD, by_library.lent + HEAD);
+        memcpy(walked, by_library.lent, state_bytes());
     }
     if (wrong == NULL && settles && !same_bytes(walked + HEAD, full.lent, plan.block))
         wrong = "it settles at another block than the decoder";
+    if (wrong == NULL && visits != full.visits)
+        wrong = "the decoder does not visit the vertices with news";
     if (failed(wrong != NULL)) {
         printf("FAILED: %s walk %zu on nl %zu d %u k %u, nr %zu d %u k %u, after %zu calls: %s\n", kind, i, plan.left.n,
                plan.left.d, plan.left.k, plan.right.n, plan.right.d, plan.right.k, made, wrong == NULL ? "" : wrong);
@@ -2328,6 +2446,212 @@ static void state_calls(void)
     largest_count_calls();
     made_up_calls();
     walk_calls();
+}
+
+/* ---- visits ---- */
+
+/* The plans of which every block is decoded: the small ones, and some of up to 12 bits. */
+#define DECODED_PLANS (SMALL_PLANS + 4)
+
+static void set_decoded_plan(size_t i)
+{
+    switch (i) {
+    case SMALL_PLANS: /* three edges between two vertices, or two: where a block swings each sweep turns two bits a vertex */
+        set_plan(alike_code(5), alike_code(5), 2);
+        lay_in_order();
+        swap_entries(3, 5);
+        swap_entries(4, 6);
+        break;
+    case SMALL_PLANS + 1: /* fewer vertices on the right, each with two bits of each left one */
+        set_plan(alike_code(4), alike_code(6), 3);
+        lay_evenly();
+        break;
+    case SMALL_PLANS + 2: /* more vertices on the right; they share three bits with a left one, or two, or one */
+        set_plan(alike_code(6), alike_code(3), 2);
+        lay_in_order();
+        swap_entries(2, 6);
+        break;
+    case SMALL_PLANS + 3: /* vertices in a row: blocks settle, or come to stand still or to swing, after some sweeps */
+        set_plan(alike_code(4), alike_code(4), 3);
+        lay_in_order();
+        swap_entries(3, 4);
+        swap_entries(7, 8);
+        break;
+    default:
+        set_small_plan(i);
+    }
+}
+
+/* Puts a block of up to 16 bits, as a number, into the first buffer. */
+static void put_small_block(size_t block)
+{
+    put_pair(first, 0, block << (16 - plan.edges));
+}
+
+/* The sweeps that the last call compared has made. */
+static size_t sweeps_made(const call *c)
+{
+    return by_library.answer.number == LEMBIKAT_UNSETTLED ? c->number : by_library.answer.value;
+}
+
+/* Every block of these plans at every small limit. With each sweep that the limit allows more, the visits grow by vertices that
+ * have among them as many bits as the sweep before changed: by none if it changed none, else by one or more, and by no more
+ * than these bits. Some blocks that have not settled are decoded with large limits too. */
+static void every_block_calls(void)
+{
+    static const uint64_t late[] = {7, 8, 63, 64, 65, 66, LEMBIKAT_MAX_LIMIT - 1, LEMBIKAT_MAX_LIMIT};
+    size_t calls = 0, part_of_side = 0, more_bits = 0, no_news = 0;
+    for (size_t i = 0; i < DECODED_PLANS; i++) {
+        set_decoded_plan(i);
+        for (size_t block = 0; block < (size_t)1 << plan.edges; block++) {
+            uint64_t before = 0;
+            put_small_block(block);
+            for (uint64_t limit = 0; limit <= 6; limit++) {
+                call c = decoder_call(limit);
+                compare("every block", calls++, &c);
+                uint64_t visits = by_library.visits, more = visits - before, side = limit % 2 ? plan.left.n : plan.right.n;
+                if (sweeps_made(&c) < limit) {
+                    must_visit("every block, settled before", &c, before);
+                } else if (limit <= 2) {
+                    must_visit("every block", &c, each_side_once(limit));
+                } else {
+                    uint64_t changed = by_library.sums[limit - 2];
+                    if (failed(visits < before || more > changed || more > side || (more == 0) != (changed == 0))) {
+                        printf("FAILED: every block: sweep %llu visits %llu vertices, the one before changed %llu bits\n",
+                               (unsigned long long)limit, (unsigned long long)more, (unsigned long long)changed);
+                        show("library  ", &c, &by_library);
+                    }
+                    part_of_side += more != 0 && more < side;
+                    more_bits += more < changed;
+                    no_news += more == 0;
+                }
+                before = visits;
+            }
+            if (by_library.answer.number == LEMBIKAT_UNSETTLED && one_in(plan.edges < 8 ? 8 : 200))
+                for (size_t j = 0; j < sizeof late / sizeof late[0]; j++) {
+                    call c = decoder_call(late[j]);
+                    compare("every block, late", calls++, &c);
+                }
+        }
+    }
+    if (failed(part_of_side == 0 || more_bits == 0 || no_news == 0))
+        printf("FAILED: no block of a small plan has a sweep that visits some of its vertices, or fewer than bits, or none\n");
+}
+
+/* The most visits: two vertices a side of three bits that swing, so often that there are 2,048 of them. Every sweep turns a bit
+ * at each vertex of its side, and the next one visits them all. The longest are made by the library alone. */
+static void most_visits_calls(void)
+{
+    static const uint64_t limits[] = {0, 1, 2, 3, 4, 5, 64, 65, LEMBIKAT_MAX_LIMIT - 1, LEMBIKAT_MAX_LIMIT};
+    set_plan(alike_code(3), alike_code(3), LEMBIKAT_MAX_VERTICES);
+    lay_in_order();
+    memset(first, 0, plan.block);
+    for (size_t i = 0; i < plan.edges; i += 6) {
+        swap_entries(i + 2, i + 3);
+        flip(first, i);
+        flip(first, i + 1);
+        flip(first, i + 3);
+    }
+    for (size_t i = 0; i < sizeof limits / sizeof limits[0]; i++) {
+        call c = decoder_call(limits[i]);
+        if (limits[i] <= 5)
+            compare("most visits", i, &c);
+        else
+            run_on_heap(&by_parts, &c, &by_library);
+        must_answer("most visits", &c, LEMBIKAT_UNSETTLED, 0, 0);
+        must_visit("most visits", &c, LEMBIKAT_MAX_VERTICES * limits[i]);
+    }
+}
+
+/* A call of the decoder on the small plan that visits vertices where no fault is put into it. */
+static call visiting_call(void)
+{
+    call c = small_call(4, 1);
+    put_small_block(0x9c5);
+    c.number = 6;
+    return c;
+}
+
+/* Every refusal of the decoder but 15 put into it: none is visited. */
+static void refused_visits_calls(void)
+{
+    size_t calls = 0;
+    call c = visiting_call();
+    compare("refused visits", calls++, &c);
+    if (failed(by_library.visits == 0))
+        printf("FAILED: the call without a fault visits no vertex\n");
+    for (const fault *f = faults; f < faults + FAULTS; f++) {
+        if (!(f->services & ON(4)) || f->number == LEMBIKAT_UNSETTLED)
+            continue;
+        c = visiting_call();
+        put_fault(&c, f);
+        compare("refused visits", calls++, &c);
+        must_answer("refused visits", &c, f->number, f->place, 0);
+        must_visit("refused visits", &c, 0);
+    }
+}
+
+/* Chains whose head is lost. The trial with ones settles as the chain does; in the one with zeros every vertex waits, and each
+ * side is visited once. If all bits are turned it is the other way round. So the trials visit different numbers of vertices,
+ * whichever of them settles, and where the limit is too small for that as well: then those of the trial with zeros are told. */
+static void lost_head_call(size_t n, int right_first, int turned, size_t limit)
+{
+    static size_t calls;
+    const size_t last = right_first ? 2 * n + 1 : 2 * n;
+    const int settles = last <= limit, runs = settles || turned; /* the trial that is told runs along the chain */
+    lay_chain(n, right_first);
+    for (size_t i = 0; i < plan.edges && turned; i++)
+        flip(first, i);
+    lose(right_first ? plan.edges - 1 : 0, 1);
+    if (one_in(2))
+        flip(first, right_first ? plan.edges - 1 : 0);
+    call c = lost_call(limit);
+    compare("lost head", calls++, &c);
+    must_answer("lost head", &c, settles ? LEMBIKAT_DONE : LEMBIKAT_UNSETTLED, 0, settles ? last : 0);
+    uint64_t visits = each_side_once(limit);
+    for (size_t sweep = 3; sweep <= smaller(limit, last); sweep++)
+        visits += runs;
+    must_visit("lost head", &c, visits);
+    int end = must_keep_a_trial("lost head", &c);
+    if (failed(end != (!settles ? NEITHER_SETTLES : turned ? ZEROS_ALONE : ONES_ALONE)))
+        printf("FAILED: lost head: the trials end in way %d\n", end);
+}
+
+static void lost_head_calls(void)
+{
+    static const size_t sizes[] = {1, 2, 3, 9, 33}, limits[] = {0, 1, 2, 3, 4, 5, 6, 7, 8, 17, 18, 19, 65, 66, 67, 200};
+    for (size_t i = 0; i < sizeof sizes / sizeof sizes[0]; i++)
+        for (size_t j = 0; j < sizeof limits / sizeof limits[0]; j++)
+            for (int way = 0; way < 4; way++)
+                lost_head_call(sizes[i], way % 2, way / 2, limits[j]);
+}
+
+/* Any block of twelve bits with any span lost, at small limits: in each way in which the trials can end there are some whose
+ * visits differ. */
+static void lost_visits_calls(void)
+{
+    memset(visits_apart, 0, sizeof visits_apart);
+    for (size_t i = 0; i < 6000; i++) {
+        set_decoded_plan(SMALL_PLANS + 1 + i % 3);
+        put_small_block(draw((size_t)1 << plan.edges));
+        size_t offset = draw(plan.edges);
+        lose(offset, 1 + draw(plan.edges - offset));
+        call c = lost_call(draw(8));
+        compare("lost visits", i, &c);
+        must_keep_a_trial("lost visits", &c);
+    }
+    for (int end = 0; end < TRIAL_ENDS; end++)
+        if (failed(visits_apart[end] == 0))
+            printf("FAILED: no trials that end in way %d have different visits\n", end);
+}
+
+static void visits_calls(void)
+{
+    every_block_calls();
+    most_visits_calls();
+    refused_visits_calls();
+    lost_head_calls();
+    lost_visits_calls();
 }
 
 /* ---- random calls ---- */
@@ -3054,6 +3378,156 @@ static void homecoming_calls(void)
         came, all_lost, mixed, longer);
 }
 
+static unsigned count_ones(unsigned word)
+{
+    unsigned count = 0;
+    for (; word != 0; word &= word - 1)
+        count++;
+    return count;
+}
+
+/* D, the fewest ones in a nonzero codeword. */
+static unsigned distance_of(const side *s)
+{
+    static unsigned codeword[2048];
+    size_t codewords = all_codewords(s, codeword);
+    unsigned fewest = s->d;
+    for (size_t i = 1; i < codewords; i++)
+        fewest = (unsigned)smaller(fewest, count_ones(codeword[i]));
+    return fewest;
+}
+
+/* The most vertices that may be visited where so many flips, which the plan covers, name so many sweeps: the header's bound. b
+ * is that of two sweeps before, the next one that of the sweep before. */
+static uint64_t visits_bound(uint64_t flips, uint64_t sweeps)
+{
+    lembikat_plan p = reference_plan();
+    const uint64_t four_nr_r = 4 * plan.right.n * reference_spread(&p).value;
+    uint64_t b = 2 * flips / distance_of(&plan.left), bound = plan.left.n + plan.right.n;
+    for (uint64_t sweep = 3; sweep <= sweeps; sweep++) {
+        const side *before = sweep % 2 ? &plan.right : &plan.left;
+        uint64_t a = distance_of(before) * plan.right.n - 2 * plan.left.d * b, next = four_nr_r * b / (a * a);
+        bound += b + before->d * next;
+        b = next;
+    }
+    return bound;
+}
+
+/* Flips so many bits of the first block, each once. Gathered: more than half of the left distance at one left vertex after
+ * another, first at those that one right vertex meets, so that these go wrong and it may go wrong with them. */
+static void flip_bits(size_t flips, int gathered)
+{
+    static uint8_t is_flipped[MAX_EDGES];
+    const size_t dl = plan.left.d, a_vertex = distance_of(&plan.left) / 2 + 1, met_by = draw(plan.right.n) * plan.right.d;
+    memset(is_flipped, 0, plan.edges);
+    for (size_t i = 0; flips > 0; i++) {
+        size_t u = i < plan.right.d ? get_pair(wiring, met_by + i) / dl : draw(plan.left.n), from = draw(dl);
+        for (size_t j = 0; j < (gathered ? a_vertex : 1) && flips > 0; j++) {
+            size_t bit = gathered ? u * dl + (from + j) % dl : draw(plan.edges);
+            if (is_flipped[bit])
+                continue;
+            is_flipped[bit] = 1;
+            flip(first, bit);
+            flips--;
+        }
+    }
+}
+
+/* Codewords with as many flips as the plan covers, or fewer, and none lost: no more vertices are visited than the bound says,
+ * whatever the limit is, also where the flips are gathered at few vertices. */
+#define BOUNDED_PLANS 300
+
+static void bounded_calls(void)
+{
+    size_t calls = 0, three_named = 0, three_made = 0, at_bound = 0;
+    for (size_t i = 0; i < BOUNDED_PLANS;) {
+        plan_bits_known = 0;
+        draw_codes(1);
+        draw_wiring(0, 1);
+        size_t covered = first_uncovered() - 1;
+        if (covered == 0)
+            continue;
+        i++;
+        lembikat_plan p = reference_plan();
+        for (int tries = 0; tries < 6; tries++) {
+            size_t flips = one_in(3) ? 1 + draw(covered) : covered;
+            uint64_t sweeps = reference_margin(&p, flips).value, bound = visits_bound(flips, sweeps);
+            draw_codeword(first);
+            flip_bits(flips, tries % 3 != 0);
+            call c = decoder_call(one_in(4) ? draw(sweeps) : sweeps + draw(3));
+            compare("bound", calls++, &c);
+            if (failed(by_library.visits > bound)) {
+                printf("FAILED: bound: %zu flips, %llu sweeps named, more visits than %llu\n", flips,
+                       (unsigned long long)sweeps, (unsigned long long)bound);
+                show("library  ", &c, &by_library);
+            }
+            three_named += sweeps >= 3;
+            three_made += sweeps_made(&c) >= 3;
+            at_bound += by_library.visits == bound;
+        }
+    }
+    printf("visits: %zu codewords within the margin; for %zu it names three sweeps or more, %zu took so many; %zu took as many "
+           "visits as the bound allows\n",
+           calls, three_named, three_made, at_bound);
+    if (failed(three_named == 0 || three_made == 0 || at_bound == 0))
+        printf("FAILED: no codeword is of one of these kinds\n");
+}
+
+/* The edges in any order. */
+static void shuffle_wiring(void)
+{
+    lay_in_order();
+    for (size_t i = plan.edges; i > 1; i--)
+        swap_entries(i - 1, draw(i));
+}
+
+/* Noise where all bits of a vertex must be alike, on small plans with few vertices that share edges in any way: there blocks
+ * take the most sweeps until they settle or come to what they do for ever. */
+#define NOISY_PLANS 400
+
+static void noise_calls(void)
+{
+    size_t calls = 0, latest = 0, settled = 0, stalled = 0, swinging = 0;
+    for (size_t i = 0; i < NOISY_PLANS; i++) {
+        unsigned dl = 3 + (unsigned)draw(4), dr = 3 + (unsigned)draw(4);
+        size_t step = dr / common_divisor(dl, dr);
+        set_plan(alike_code(dl), alike_code(dr), step * (1 + draw(larger(60 / (step * dl), 1))));
+        shuffle_wiring();
+        for (int tries = 0; tries < 6; tries++) {
+            draw_noise(first);
+            call c = decoder_call(one_in(20) ? LEMBIKAT_MAX_LIMIT - draw(2) : draw(30));
+            compare("noise", calls++, &c);
+            if (by_library.answer.number == LEMBIKAT_DONE) {
+                settled++;
+                latest = larger(latest, by_library.answer.value);
+            } else if (c.number >= 20 && c.number <= LEMBIKAT_SUMS) {
+                stalled += by_library.sums[c.number - 1] == 0;
+                swinging += by_library.sums[c.number - 1] != 0;
+            }
+        }
+    }
+    printf(
+        "noise: %zu blocks; %zu settled, the latest after %zu sweeps; of others that had 20 sweeps or more %zu stand still and "
+        "%zu swing\n",
+        calls, settled, latest, stalled, swinging);
+    if (failed(latest < 6 || stalled == 0 || swinging == 0))
+        printf("FAILED: no noise is of one of these kinds\n");
+
+    /* Large plans, with both sides of the house code and with one of a larger code. */
+    const side house = {.d = 8, .k = 4, .row = {0xff, 0x0f, 0x33, 0x55}};
+    const side larger_code = {.d = 16, .k = 5, .row = {0x5555, 0x3333, 0x0f0f, 0x00ff, 0xffff}};
+    for (size_t i = 0; i < 6; i++) {
+        set_plan(i % 3 == 2 ? larger_code : house, i % 3 == 1 ? larger_code : house,
+                 i % 3 == 2 ? LEMBIKAT_MAX_VERTICES / 2 : LEMBIKAT_MAX_VERTICES);
+        shuffle_wiring();
+        memset(first, 0, plan.block);
+        for (size_t flips = i < 3 ? 1500 : 3000; flips > 0; flips--)
+            flip(first, draw(plan.edges));
+        call c = decoder_call(i < 3 ? 40 : 9);
+        compare("large noise", i, &c);
+    }
+}
+
 /* Walks on any plans: of codewords damaged within the margin, of codewords damaged further and of noise. Then some bits are
  * set, at the end of the walk or after the first sweeps of another one, and it goes on to the end. */
 #define RANDOM_WALKS 300
@@ -3354,6 +3828,9 @@ int main(int argc, char **argv)
     homecoming_calls();
     random_walks();
     random_calls();
+    visits_calls();
+    bounded_calls();
+    noise_calls();
     printf("test_vectors: %zu passed, %zu failed\n", cases - failures, failures);
     return failures != 0;
 }

@@ -110,11 +110,12 @@ extern "C" {
 #endif
 
 /* The version, as text (pkg-config tells the same) and as numbers; the last two are below 1,000 each. LEMBIKAT_VERSION_NUMBER
- * rises with every version, the first number where a caller must change its code. A host asks for a version or a later one so:
- *   #if LEMBIKAT_VERSION_AT_LEAST(4, 1, 0) */
-#define LEMBIKAT_VERSION "4.1"
-#define LEMBIKAT_VERSION_MAJOR 4
-#define LEMBIKAT_VERSION_MINOR 1
+ * rises with every version, the first number where a caller must change its code, or must be compiled anew since an answer has
+ * another size. A host asks for a version or a later one so:
+ *   #if LEMBIKAT_VERSION_AT_LEAST(5, 0, 0) */
+#define LEMBIKAT_VERSION "5.0"
+#define LEMBIKAT_VERSION_MAJOR 5
+#define LEMBIKAT_VERSION_MINOR 0
 #define LEMBIKAT_VERSION_PATCH 0
 #define LEMBIKAT_VERSION_AS_NUMBER(major, minor, patch) (1000000L * (major) + 1000L * (minor) + (patch))
 #define LEMBIKAT_VERSION_NUMBER                                                                                                \
@@ -221,13 +222,26 @@ typedef struct {
  *            Sweeps that were not made have 0. A block that settled had `value` sweeps; with LEMBIKAT_UNSETTLED `limit` sweeps
  *            were made, and their sums are told too. With any other refusal all sums are 0. Sweeps after the 64th are not told.
  *            With lost spans they are those of one trial: the one kept, and with LEMBIKAT_UNSETTLED the one with zeros.
+ *   visits   how many vertices the decoder visited, in all sweeps together: the nl vertices of the left side in sweep 1, the nr
+ *            of the right side in sweep 2, and in each later sweep those vertices of its side that have a bit which the sweep
+ *            before changed. A vertex is visited at most once in a sweep, however many of its bits were changed; it counts
+ *            whether or not the visit changes anything. To visit the others too would change no bit: block, sweeps and sums are
+ *            those of visiting the whole side in every sweep.
+ *            Only sweeps that were made count: `value` of them where the block settled, `limit` with LEMBIKAT_UNSETTLED, those
+ *            after the 64th too. So it is 0 where no sweep was made, nl after one sweep, nl + nr after two, and at most
+ *            4,096 * 2,048. With any other refusal it is 0. With lost spans it is that of the trial whose sums are told.
  * What one sweep changed a later one may change back; lembikat_report tells how the settled block differs from the received.
+ * The sums are no part of the guarantee, nor are the visits but for a bound. Let lembikat_margin cover F flips and name q
+ * sweeps; call the b that it begins with b_1, the next one b_2, and so on. A codeword of which at most F bits are flipped and
+ * none is lost takes, whatever the limit, at most nl + nr visits plus, for each sweep i from 3 to q, b_(i-2) + d * b_(i-1),
+ * with the d of the side that sweep i - 1 sweeps: dl where i is even, dr where it is odd.
  */
 typedef struct {
     uint32_t number;
     uint32_t place;
     uint64_t value;
     uint16_t sums[LEMBIKAT_SUMS];
+    uint64_t visits;
 } lembikat_decode_answer;
 
 /* What lembikat_load_state, lembikat_sweep_state and lembikat_set_bit answer: number and place as above, and, so that a host
@@ -293,6 +307,8 @@ lembikat_answer lembikat_locate(const uint8_t *left_sheet, size_t left_sheet_byt
  * fewest ones a vertex's word stays as it is for that sweep: it is no codeword, 0 of its bits are changed, and it waits for its
  * neighbours. The block settles at the first count from 0 to `limit` after which it is a codeword, on both sides. A block that
  * differs from a codeword in no more bits than lembikat_margin covers settles at that codeword within the sweeps that it names.
+ * From sweep 3 on only the vertices that heard news are visited, those with a bit which the sweep before changed: the others
+ * would put the word that they have.
  * Where bits are lost the block is tried twice, each time with the whole limit: with all lost bits 0, and with all lost bits 1.
  * What they were received as does not matter. A trial that settles has changed so many bits outside the spans: those in which
  * the settled block differs from the received one there. If both trials settle, the one that changed fewer is kept, and the one
@@ -301,7 +317,8 @@ lembikat_answer lembikat_locate(const uint8_t *left_sheet, size_t left_sheet_byt
  * 2 * F and the limit is not below the sweeps that it names for F. The sweeps counted may be more than those: where both trials
  * settle at the sent codeword, the one with zeros is kept, and it may be the other one that has no more than F wrong bits.
  *   output: the settled block at the front; with LEMBIKAT_UNSETTLED the received block, lost bits as they were received; else
- *   untouched.  value: the sweeps.  sums: the bits that each of the first 64 sweeps changed, with LEMBIKAT_UNSETTLED too.
+ *   untouched.  value: the sweeps.  sums, visits: the bits that each of the first 64 sweeps changed and the vertices that all
+ *   sweeps visited, with LEMBIKAT_UNSETTLED too.
  *   Refusals: the plan's, 11, 12, 24, then 25 and 26 for each span in turn, 13, 14, 15.  Stack: at most 100 KiB. */
 lembikat_decode_answer lembikat_decode(const uint8_t *left_sheet, size_t left_sheet_bytes, const uint8_t *right_sheet,
                                        size_t right_sheet_bytes, size_t nl, size_t nr, const uint8_t *wiring,

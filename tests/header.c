@@ -165,8 +165,10 @@ int main(void)
     if (sizeof answer.number != sizeof(uint32_t))
         return 1;
     /* The fields of an answer follow one another without a gap, as the library fills them. */
-    if (sizeof answer != 16 || sizeof word != 24 || sizeof word.changed != 8 || sizeof decoded != 144 ||
-        sizeof decoded.sums != 128 || sizeof shown != 24 || sizeof shown.sweeps != 8)
+    if (sizeof answer != 16 || sizeof word != 24 || sizeof word.changed != 8 || sizeof decoded != 152 ||
+        sizeof decoded.sums != 128 || sizeof decoded.visits != 8 || sizeof shown != 24 || sizeof shown.sweeps != 8)
+        return 1;
+    if (offsetof(lembikat_decode_answer, sums) != 16 || offsetof(lembikat_decode_answer, visits) != 144)
         return 1;
     printf("version %s, numbers %d %d %d\n", LEMBIKAT_VERSION, MAJOR, MINOR, PATCH);
     for (; answer.number <= LEMBIKAT_SWEEPS_SPENT; answer.number++)
