@@ -1,9 +1,9 @@
 -- A pattern that is put on a vertex, told to the vertices at the other ends of its bits: one step of it, and what the whole comes to.
 --   PutAt plan name v pattern block kept after told   what becomes of the block and of what is kept (specs News)
 --   Rest, Fresh                  what is still to be put, and that the bits still to be turned are as they were (Patterns)
---   WordsRead, NewsTold          the right words are those of the block; the marks tell the vertices that read another word (specs Visiting, News)
+--   WordsRead, KeptUp            the right words are those of the block; the list goes with the block (specs Visiting, News)
 --   Putting plan name v pattern start kept₀ block kept rest   the ones of the pattern above `rest` are put: `block` and `kept` are left
--- Laws are named `putting-` and then by the fact.
+-- Laws of `Putting` are named `putting-` and then by the fact.
 use Prim.Native.Nat.{ℕ, _+_, _-_, _*_, _/_, _%_, _^_, _≤_, _<_}
 use mathlib.Core.List.{List, []}
 use mathlib.Core.Path.{_≡_, refl, sym, ap, _∙_}
@@ -23,7 +23,7 @@ use Rattle.wiring.proofs.Permutation.{entry-lt}
 use Rattle.wiring.proofs.VertexWords.{vertex-bits}
 use Rattle.decoder.specs.Sweep.{other}
 use Rattle.decoder.specs.Visiting.{WordsRead, patternPut}
-use Rattle.decoder.specs.News.{newsOf, marked, NewsTold, PutAt}
+use Rattle.decoder.specs.News.{newsOf, marked, KeptUp, PutAt}
 use Rattle.decoder.proofs.Patterns.{Rest, rest-none, rest-high, rest-more, Fresh, fresh-start, fresh-more}
 use Rattle.decoder.proofs.RightWords.{plan-fits, plan-whole, words-turned}
 use Rattle.decoder.proofs.Marks.{marks-low, news-turned, words-marked, words-else, marked-apart}
@@ -33,10 +33,12 @@ pub record Putting (plan : Plan) (name : SideName) (v pattern : ℕ) (start kept
       (patternPut (sideBit name (plan .wiring)) (degree (sheetOf plan name)) (v * degree (sheetOf plan name)) pattern (degree (sheetOf plan name)) start)
       block rest
   pub fresh : Fresh (sideBit name (plan .wiring)) (degree (sheetOf plan name)) (v * degree (sheetOf plan name)) start block rest
-  pub reads : WordsRead (sideOf plan right) block kept
-  pub tells : (since : List ℕ) → vertexWord (sideOf plan name) since v ≡ vertexWord (sideOf plan name) start v
-      → NewsTold plan (other name) since start kept₀ → NewsTold plan (other name) since block kept
-  pub own : (i : ℕ) → i < 128 → at kept (newsOf name + i) ≡ at kept₀ (newsOf name + i)
+  pub keeps : KeptUp plan name v start kept₀ block kept
+
+-- what is kept of a block that does not change
+pub kept-same : {plan : Plan} {name : SideName} {v : ℕ} {block kept : List ℕ} → WordsRead (sideOf plan right) block kept
+    → KeptUp plan name v block kept block kept
+kept-same reads = record { reads = reads; tells = λ since same news. news; own = λ i l. refl }
 
 module _ (plan : Plan) (accepted : planCheck plan ≡ done []) (name : SideName) (v : ℕ) (below : v < countOf plan name) (pattern : ℕ)
     (start kept₀ : List ℕ) where
@@ -51,14 +53,12 @@ module _ (plan : Plan) (accepted : planCheck plan ≡ done []) (name : SideName)
       record {
         left-over = record { low = low; putting = refl };
         fresh = fresh-start;
-        reads = reads;
-        tells = λ since same news. news;
-        own = λ i l. refl;
+        keeps = kept-same reads;
       }
 
   pub putting-done : {block kept : List ℕ} {rest : ℕ} → Putting plan name v pattern start kept₀ block kept rest → rest ≡ 0
       → PutAt plan name v pattern start kept₀ block kept
-  putting-done p none = record { puts = rest-none (p .left-over) none; reads = p .reads; tells = p .tells; own = p .own }
+  putting-done p none = record { puts = rest-none (p .left-over) none; keeps = p .keeps }
 
   module _ {block kept : List ℕ} {rest : ℕ} (p : Putting plan name v pattern start kept₀ block kept rest) (h : ℕ) (low : 2 ^ h ≤ rest)
       (high : rest < 2 ^ (h + 1)) where
@@ -81,22 +81,24 @@ module _ (plan : Plan) (accepted : planCheck plan ≡ done []) (name : SideName)
         record {
           left-over = rest-more (p .left-over) h low high at-e is turns;
           fresh = fresh-more (p .fresh) once h within low high at-e is turns;
-          reads = words-marked (words-turned (plan-whole plan accepted right) (p .reads) (few right) here here-lt at-here turns turns-word)
-              (few right) (newsOf (other name)) _ (marks-low (other name)) tells;
-          tells = λ since same news.
-              news-turned plan accepted (other name) (few (other name)) words (p .tells since same news) there there-lt at-there turns
-              room (as-since since same) (ap length turns-word ∙ length-set kept _ _ ∙ p .reads .sized)
-              (λ i l. ap (λ (k : List ℕ). at k (newsOf (other name) + i)) turns-word ∙ words-else (other name) kept _ _ vertex-few i l) tells;
-          own = λ i l.
-              ap (λ (k : List ℕ). at k (newsOf name + i)) tells ∙ marked-apart name words _ there-few i l
-              ∙ ap (λ (k : List ℕ). at k (newsOf name + i)) turns-word ∙ words-else name kept _ _ vertex-few i l ∙ p .own i l;
+          keeps = record {
+            reads = words-marked (words-turned (plan-whole plan accepted right) (p .keeps .reads) (few right) here here-lt at-here turns turns-word)
+                (few right) (newsOf (other name)) _ (marks-low (other name)) tells;
+            tells = λ since same news.
+                news-turned plan accepted (other name) (few (other name)) words (p .keeps .tells since same news) there there-lt at-there turns
+                room (as-since since same) (ap length turns-word ∙ length-set kept _ _ ∙ p .keeps .reads .sized)
+                (λ i l. ap (λ (k : List ℕ). at k (newsOf (other name) + i)) turns-word ∙ words-else (other name) kept _ _ vertex-few i l) tells;
+            own = λ i l.
+                ap (λ (k : List ℕ). at k (newsOf name + i)) tells ∙ marked-apart name words _ there-few i l
+                ∙ ap (λ (k : List ℕ). at k (newsOf name + i)) turns-word ∙ words-else name kept _ _ vertex-few i l ∙ p .keeps .own i l;
+          };
         }
       where
         few : (side : SideName) → countOf plan side ≤ 2048
         few side = plan-fits plan accepted side .n-high
 
         room : edgeCount plan ≤ length block * 8
-        room = rw (plan-whole plan accepted right .entries) at (p .reads .room)
+        room = rw (plan-whole plan accepted right .entries) at (p .keeps .reads .room)
 
         vertex-few : here / sideOf plan right .d < 2048
         vertex-few =

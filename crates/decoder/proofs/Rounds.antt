@@ -43,6 +43,7 @@ use Rattle.decoder.specs.News.{newsOf, markAt, NewsTold, Listening, shee
 use Rattle.decoder.proofs.Patterns.{digit-below}
 use Rattle.decoder.proofs.RightWords.{plan-fits, plan-whole}
 use Rattle.decoder.proofs.Marks.{mark-le, mark-ext, mark-off, marks-low, marks-apart, heard-back, news-ext, news-silent}
+use Rattle.decoder.proofs.Putting.{kept-same}
 use Rattle.decoder.proofs.Visiting.{ready-side, word-tells, word-stays, word-counted, word-found, word-put, pattern-lt}
 use Rattle.decoder.proofs.Visiting.{Visits, waits, visits-none, visits-changed, visits-kept, visits-stays, visits-ties, visits-le, visits-sweep, visit-first}
 
@@ -78,8 +79,8 @@ module _ {plan : Plan} {name : SideName} {before : List ℕ} where
       let w = plan-whole plan accepted name in
       record {
         visits = visits-changed w below (r .visits) refl (visit .counted) waited (visit .leaves);
-        reads = visit .reads;
-        news = visit .tells before (sym (visit-first w below (r .visits))) (r .news);
+        reads = visit .keeps .reads;
+        news = visit .keeps .tells before (sym (visit-first w below (r .visits))) (r .news);
       }
 
   -- one more reads a codeword and is passed over
@@ -128,9 +129,7 @@ module _ (plan : Plan) (accepted : planCheck plan ≡ done []) (name : SideName)
       record {
         counted = sym (changed-none-back _ _ _ _ stays);
         leaves = sym (ap (λ (x : ℕ). withWord (sideOf plan name) v x block) stays ∙ withWord-fixed (sideOf plan name) block v);
-        reads = reads;
-        tells = λ since same news. news;
-        own = λ i l. refl;
+        keeps = kept-same reads;
       }
 
   module _ {step : Step} {after : List ℕ} (found : Found (sheetOf plan name) finder word step after) where
@@ -145,9 +144,7 @@ module _ (plan : Plan) (accepted : planCheck plan ≡ done []) (name : SideName)
           counted = word-counted ready name block below word-is found;
           leaves = word-put ready name block below word-is (step .word) (put .puts)
               ∙ ap (λ (x : ℕ). withWord (sideOf plan name) v x block) (word-found ready name block below word-is found);
-          reads = put .reads;
-          tells = put .tells;
-          own = put .own;
+          keeps = put .keeps;
         }
 
 -- ---- both sides tested

@@ -7,15 +7,16 @@
 --   Cleared kept                no vertex is marked
 --   NewsTold plan name since block kept  the marks of a side tell which of its vertices have a bit in which the block differs from what it was
 --   toldRight d place kept      the list with the bit at an entry of the right side turned in its vertex's word, and the vertex marked
---   PutAt plan name v pattern block kept after told  a pattern is put on the bits of vertex v of a side: what becomes of the block and of the list.
---                               The right words stay those of the block; where vertex v reads what it read, the vertices at the other ends of the
---                               bits that turn are those that are marked; the marks of the side itself stay
+--   KeptUp plan name v block kept after told  the block changes at bits of vertex v of a side, and the list goes with it. The right words stay those
+--                               of the block; where vertex v reads what it read, the vertices at the other ends of the bits that turn are those
+--                               that are marked; the marks of the side itself stay
+--   PutAt plan name v pattern block kept after told  a pattern is put on the bits of vertex v of a side, and the list is kept up
 --   Listening plan name since block kept  a side is to be swept, and the sweep before made `block` of `since`: its marks tell the news, and no vertex
 --                               of the side swept before is marked
 --   sheetFor name left right    the sheet of a side
 --   countFor name nl nr         the number of its vertices
 --   VisitedAt plan name v changed block kept after told  vertex v of a side is visited: it takes its nearest word, which changes so many bits, and the
---                               list goes with the block as where a pattern is put
+--                               list is kept up
 --   Hears plan name block kept  a side is to be swept, and every vertex that has no news reads its own nearest word, since it was visited before
 --   NewsSwept plan name before kept news after told  a sweep of the vertices with news as the code makes it: it is the whole sweep, and it tells the
 --                               vertices that had news
@@ -66,13 +67,16 @@ unfoldable pub toldRight : ℕ → ℕ → List ℕ → List ℕ
 unfolding at marked
 toldRight d place kept = marked (set kept (place / d) (bitXor (at kept (place / d)) (2 ^ (d - 1 - place % d)))) 2176 (place / d)
 
-pub record PutAt (plan : Plan) (name : SideName) (v pattern : ℕ) (block kept after told : List ℕ) : Type 0 where
-  pub puts : after
-      ≡ patternPut (sideBit name (plan .wiring)) (degree (sheetOf plan name)) (v * degree (sheetOf plan name)) pattern (degree (sheetOf plan name)) block
+pub record KeptUp (plan : Plan) (name : SideName) (v : ℕ) (block kept after told : List ℕ) : Type 0 where
   pub reads : WordsRead (sideOf plan right) after told
   pub tells : (since : List ℕ) → vertexWord (sideOf plan name) since v ≡ vertexWord (sideOf plan name) block v
       → NewsTold plan (other name) since block kept → NewsTold plan (other name) since after told
   pub own : (i : ℕ) → i < 128 → at told (newsOf name + i) ≡ at kept (newsOf name + i)
+
+pub record PutAt (plan : Plan) (name : SideName) (v pattern : ℕ) (block kept after told : List ℕ) : Type 0 where
+  pub puts : after
+      ≡ patternPut (sideBit name (plan .wiring)) (degree (sheetOf plan name)) (v * degree (sheetOf plan name)) pattern (degree (sheetOf plan name)) block
+  pub keeps : KeptUp plan name v block kept after told
 
 pub record Listening (plan : Plan) (name : SideName) (since block kept : List ℕ) : Type 0 where
   pub reads : WordsRead (sideOf plan right) block kept
@@ -90,10 +94,7 @@ countFor SideName.Right nl nr = nr
 pub record VisitedAt (plan : Plan) (name : SideName) (v changed : ℕ) (block kept after told : List ℕ) : Type 0 where
   pub counted : changed ≡ changedAt (sideOf plan name) (vertexWord (sideOf plan name) block v)
   pub leaves : after ≡ withWord (sideOf plan name) v (nearestOf (sideOf plan name) (vertexWord (sideOf plan name) block v)) block
-  pub reads : WordsRead (sideOf plan right) after told
-  pub tells : (since : List ℕ) → vertexWord (sideOf plan name) since v ≡ vertexWord (sideOf plan name) block v
-      → NewsTold plan (other name) since block kept → NewsTold plan (other name) since after told
-  pub own : (i : ℕ) → i < 128 → at told (newsOf name + i) ≡ at kept (newsOf name + i)
+  pub keeps : KeptUp plan name v block kept after told
 
 pub record Hears (plan : Plan) (name : SideName) (block kept : List ℕ) : Type 0 where
   pub since : List ℕ

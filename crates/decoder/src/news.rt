@@ -23,7 +23,7 @@ pub(crate) fn news_of(side: SideName) -> usize
     }
 }
 
-// Marks vertex v of the side whose marks begin at `from`. Whether it is marked is no branch, since nobody could foretell it.
+// Marks vertex v of the side whose marks begin at `from`. No branch asks whether it is marked already: it would often be guessed wrong.
 pub(crate) fn mark(kept: &mut [u16; KEPT], from: usize, v: usize)
     requires { ⌜ length (now kept) ≡ 2304 ⌝ }
     requires { ⌜ from + 128 ≤ 2304 ⌝ }

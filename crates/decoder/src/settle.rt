@@ -34,7 +34,7 @@ pub(crate) struct Settling {
     pub visits: u64,
 }
 
-// The same where two sweeps end it. Else two sweeps are made, and a third is.
+// What the first two sweeps come to: where `ended` is set the same as above, and else what stands after both, a third one being needed.
 pub(crate) struct Opening {
     pub limit: usize,
     pub ended: bool,

@@ -20,7 +20,8 @@ ghost use mathlib.Core.List.{[]};
 ghost use mathlib.Core.Path.{_≡_};
 ghost use Prim.Native.Nat.{ℕ, _≤_, _<_};
 ghost use lib.ListN.{length};
-ghost use Rattle.tables.specs.Finding.{Finds, Found, codewordBy};
+ghost use Rattle.inner_code.specs.Reduction.{stepTo};
+ghost use Rattle.tables.specs.Finding.{Finds, foundWord, foundFinder, codewordBy};
 ghost use Rattle.inner_code.specs.Reply.{done};
 ghost use Rattle.wiring.specs.Plan.{planOf, sheetOf, countOf, sideBy, sideOf};
 ghost use Rattle.wiring.specs.Block.{vertexWord, satisfied, isCodewordBlock};
@@ -358,7 +359,8 @@ fn word_of(
 
 // The step to the nearest word of a side's sheet.
 pub fn nearest_on(left: &[u8], right: &[u8], side: SideName, finder: &mut [u16], word: u16) -> Step
-    ensures { λ r. ⌜ Found (sheetFor side (now (left .entry)) (now (right .entry))) (now (finder .entry)) word r (now (finder .exit)) ⌝ }
+    ensures { λ r. ⌜ r ≡ stepTo word (foundWord (sheetFor side (now (left .entry)) (now (right .entry))) (now (finder .entry)) word) ⌝ }
+    ensures { λ _. ⌜ now (finder .exit) ≡ foundFinder (sheetFor side (now (left .entry)) (now (right .entry))) (now (finder .entry)) word ⌝ }
 {
     match side {
         SideName::Left => tables::find_nearest(left, finder, word),

@@ -146,7 +146,7 @@ unfolding degree at
 tell-right-requires c κs =
     let top = c .before .before .before .before .before .before in
     let fits = plan-fits (planIn (begin top)) (accepted (begin top)) right in
-    ((omega (arith, fits .d-low), fits .d-high), (head top .loop .inv .reads .sized, omega (arith, place-vertex top, fits .n-high)))
+    ((omega (arith, fits .d-low), fits .d-high), (head top .loop .inv .keeps .reads .sized, omega (arith, place-vertex top, fits .n-high)))
 
 power-requires : tie.Need-power-requires Inv-loop μ-loop
 power-requires c κs =

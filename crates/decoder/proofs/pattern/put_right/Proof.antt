@@ -162,7 +162,7 @@ mark-requires : tie.Need-mark-requires Inv-loop μ-loop
 unfolding degree
 mark-requires c κs =
     let top = c .before .before .before .before .before .before .before .before .before .before in (
-      length-set {A = ℕ} (head top .loop .kept) (begin top .args .v) _ ∙ head top .loop .inv .reads .sized,
+      length-set {A = ℕ} (head top .loop .kept) (begin top .args .v) _ ∙ head top .loop .inv .keeps .reads .sized,
       (
         omega (arith, c .before .news-of .ensures, marks-high left),
         omega (arith, c .vertex-at .ensures, left-few top (c .before .before .before .before .before .before .before .before .before .edge-at .ensures)),

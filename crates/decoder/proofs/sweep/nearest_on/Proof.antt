@@ -1,6 +1,5 @@
 -- `decoder::nearest_on` meets its contract: each arm finds by the sheet of its side.
 use borrow.Author.Needs.{needs}
-use Rattle.tables.proofs.Finding.{found-means}
 use Rattle.decoder.specs.News.{sheetFor}
 use Rattle.decoder.proofs.sweep.nearest_on.Statement.{statement}
 use Rattle.decoder.proofs.sweep.nearest_on.Tie as tie
@@ -22,18 +21,14 @@ same-length c = search needs
 
 returns : tie.Need-returns
 unfolding sheetFor
-returns c =
-    let found = c .before .before .find-nearest .ensures in
-    rw (c .before .before .before .before .enum-told .given .1) (found-means _ _ _ (found .0) (found .1))
+returns c = rw (c .before .before .before .before .enum-told .given .1) (c .before .before .find-nearest .ensures)
 
 same-length-2 : tie.Need-same-length-2
 same-length-2 c = search needs
 
 returns-2 : tie.Need-returns-2
 unfolding sheetFor
-returns-2 c =
-    let found = c .before .before .find-nearest2 .ensures in
-    rw (c .before .before .before .before .enum-told2 .given .1) (found-means _ _ _ (found .0) (found .1))
+returns-2 c = rw (c .before .before .before .before .enum-told2 .given .1) (c .before .before .find-nearest2 .ensures)
 
 pub nearest-on-spec : {M : Type 1} → statement M
 nearest-on-spec =

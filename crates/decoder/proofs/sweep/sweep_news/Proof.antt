@@ -196,7 +196,7 @@ loop2-again c =
           news-scan-more (s .pre .0) h (few (inner top .before)) (turn .inv .0 before marks h so-far) _ (top .highest .ensures .0)
           (top .highest .ensures .1 .0) (top .highest .ensures .1 .1) (visit .0) (c .power .ensures),
       λ f. visit .1,
-      λ j l. visit .0 .own j l ∙ turn .inv .2 j l,
+      λ j l. visit .0 .keeps .own j l ∙ turn .inv .2 j l,
     )
 
 -- numbers of the list, over plain numbers

@@ -155,7 +155,7 @@ loop-again-2 c =
           (visit-waits (readyIn one) right (turn .block) (below one) (word-is one) (member one) (c .before .before .before .before .before .before .before .before .before .before .if2 .left) (visit .0 .counted)
           (c .tie .ensures)),
       visit .1,
-      λ i l. visit .0 .own i l ∙ turn .inv .3 i l,
+      λ i l. visit .0 .keeps .own i l ∙ turn .inv .3 i l,
     )
 
 same-length : tie.Need-same-length Inv-loop μ-loop

@@ -1,7 +1,7 @@
 -- `decoder::visit` meets its contract: a codeword stays, and any other word takes the one that the finder finds.
 use denote.Ref.{now}
 use Rattle.tables.specs.Finding.{Found}
-use Rattle.tables.proofs.Finding.{member-means}
+use Rattle.tables.proofs.Finding.{found-means, member-means}
 use Rattle.wiring.specs.Plan.{Plan, planOf, sheetOf}
 use Rattle.decoder.proofs.Rounds.{sheet-for, visit-codeword, visit-low, visit-put}
 use borrow.Author.Needs.{needs}
@@ -19,7 +19,9 @@ found : (c : tie.After-nearest-on)
     → let s = start c in
     Found (sheetOf (planIn s) (s .args .vertex .side)) (now (s .args .finder)) (c .before .before .before .before .before .word-of .result) (c .nearest-on .result)
     (c .nearest-on .last .1 .1 .1 .0)
-found c = let s = start c in rw (sheet-for (planIn s) (s .args .vertex .side)) at (c .nearest-on .ensures)
+found c =
+    let s = start c in
+    rw (sheet-for (planIn s) (s .args .vertex .side)) at (found-means _ _ _ (c .nearest-on .ensures .0) (c .nearest-on .ensures .1))
 
 word-of-requires : tie.Need-word-of-requires
 word-of-requires c κs = search needs

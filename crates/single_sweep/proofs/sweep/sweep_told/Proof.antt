@@ -12,7 +12,7 @@ use lib.ListN.{length}
 use Rattle.inner_code.specs.Reply.{done}
 use Rattle.inner_code.specs.Code.{isCodeword}
 use Rattle.tables.specs.Finding.{Finds, Found}
-use Rattle.tables.proofs.Finding.{member-means}
+use Rattle.tables.proofs.Finding.{found-means, member-means}
 use Rattle.wiring.specs.Plan.{Plan, planOf, sheetOf, countOf, sideOf, edgeCount}
 use Rattle.wiring.specs.Wiring.{planCheck}
 use Rattle.wiring.specs.Block.{vertexWord}
@@ -138,7 +138,8 @@ found : (c : tie.After-nearest-on Inv-loop μ-loop)
 found c =
     let first = begin (word c) in
     let sheet : List ℕ = sheetFor (first .args .side) (now (first .args .left)) (now (first .args .right)) in
-    let told : Found sheet (head (word c) .loop .finder) (word c .read-word .result) (c .nearest-on .result) (stepped c) = c .nearest-on .ensures in
+    let told : Found sheet (head (word c) .loop .finder) (word c .read-word .result) (c .nearest-on .result) (stepped c) =
+    found-means _ _ _ (c .nearest-on .ensures .0) (c .nearest-on .ensures .1) in
     rw (sheet-for (planIn first) (first .args .side)) at told
 
 missed : (c : tie.After-nearest-on Inv-loop μ-loop)
