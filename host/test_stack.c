@@ -56,7 +56,7 @@ static const struct {
     {"lembikat_set_bit", "largest", 40 * 1024, LEMBIKAT_DONE, set_bit},
     {"lembikat_report", "largest", 38 * 1024, LEMBIKAT_DONE, report},
     {"lembikat_spread", "largest", 138 * 1024, LEMBIKAT_DONE, spread},
-    {"lembikat_margin", "largest", 142 * 1024, LEMBIKAT_DONE, margin},
+    {"lembikat_margin", "largest", 142 * 1024, LEMBIKAT_FLIPS_NOT_COVERED, margin},
     {"lembikat_encode", "largest with messages", 70 * 1024, LEMBIKAT_DONE, encode},
     {"lembikat_read", "largest with messages", 70 * 1024, LEMBIKAT_DONE, read_block},
 };
@@ -217,9 +217,10 @@ static void spread(void)
     number = lembikat_spread(LARGE_PLAN).number;
 }
 
+/* As many flips as half the inner distance: fewer name one sweep, and the spread is not measured for them. */
 static void margin(void)
 {
-    number = lembikat_margin(LARGE_PLAN, 1).number;
+    number = lembikat_margin(LARGE_PLAN, 2).number;
 }
 
 static void encode(void)

@@ -24,8 +24,7 @@ use lib.Pow.{pow-mono, shl-lt}
 use lib.Seq.{ext-getD, getD-append-add, set-getD, set-out, getD-set-same, getD-set-other}
 use Rattle.bits.specs.Window.{at}
 use Rattle.bits.specs.Bit.{digit, bitAt, putDigit, withBit, pairAt}
-use Rattle.bits.proofs.Xor.{digit-lt, digit-zero, digit-ext, digit-pow-same, digit-pow-other, xor-digit}
-use Rattle.bits.proofs.Xor.{xor-cancel, xor-bits-lt}
+use Rattle.bits.proofs.Xor.{digit-lt, digit-zero, digit-ext, digit-pow-same, digit-pow-other, xor-digit, xor-cancel, xor-bits-lt}
 
 -- ---- one digit of a number
 

@@ -9,3 +9,4 @@ pub mod Windows
 pub mod Fronts
 pub mod Flips
 pub mod Values
+pub mod Lists

@@ -10,15 +10,19 @@
 use mathlib.Core.Path.{_≡_, refl, sym, ap, ap₂, _∙_}
 use mathlib.Core.Logic.{_≢_, _⊎_, inl, inr}
 use Prim.Native.Nat.{ℕ, zero, suc, _+_, _-_, _*_, _/_, _%_, _^_, _≤_, _<_}
-use native.Mathlib.Nat.{add-comm, add-zero, eq-zero-or-pos, pow-suc, div-one, div-eq-of-lt, mod-eq-of-lt, one-mul, lt-of-lt-of-le}
+use native.Mathlib.Nat.{add-comm, add-zero, eq-zero-or-pos, pow-suc, div-one, div-eq-of-lt, mod-eq-of-lt, zero-mul, one-mul, lt-of-lt-of-le}
+use native.Mathlib.Decide.{ℕ-discrete}
 use native.Mathlib.Numerals.{one-add}
 use native.Mathlib.Omega.{arith}
 use lib.Arith.{bin-ind}
 use lib.Bits.{bitXor, differ, xor-add-and, xor-comm, xor-self, xor-zero-l, xor-zero-r}
 use lib.Bits.{xor-lt, xor-block, xor-shr, xor-mod, xor-shifted, shifted-half, shifted-even}
 use lib.Count.{ones, ones-step}
+use lib.Dec.{eqb}
 use lib.Pow.{pow-pos, pow-mono, shl-shr, shr-shr}
 use Rattle.bits.specs.Bit.{digit}
+use Rattle.bits.specs.Sum.{flag}
+use Rattle.bits.proofs.Sums.{flag-equal, flag-apart}
 
 -- ---- xor by its halves
 
@@ -120,6 +124,20 @@ digit-pow-other b zero (suc j) h ne = digit-high 1 (b * 1) (suc j) (omega arith)
 digit-pow-other b (suc k) zero h ne = digit-first (b * 2 ^ suc k) ∙ shifted-even b k
 digit-pow-other b (suc k) (suc j) h ne =
     digit-suc (b * 2 ^ suc k) j ∙ ap (λ (x : ℕ). digit x j) (shifted-half b k) ∙ digit-pow-other b k j h (λ e. ne (ap suc e))
+
+-- the digits of a number with one 1
+pub digit-power : (t b : ℕ) → digit (2 ^ t) b ≡ flag (eqb b t)
+digit-power t b =
+    elim (ℕ-discrete b t) [
+      | yes same ↦ rw same (digit-pow t ∙ sym (flag-equal t t refl))
+      | no other ↦
+          ap (λ (x : ℕ). digit x b) (sym (one-mul (2 ^ t))) ∙ digit-pow-other 1 t b (omega arith) other ∙ sym (flag-apart b t other)
+    ]
+
+pub digits-product : (a b : ℕ) → a < 2 → b < 2 → a * b < 2
+digits-product zero b ha hb = omega (arith, zero-mul b)
+digits-product (suc zero) b ha hb = omega (arith, one-mul b)
+digits-product (suc (suc a)) b ha hb = absurd (omega arith)
 
 pub xor-digit : (a b j : ℕ) → digit (bitXor a b) j ≡ bitXor (digit a j) (digit b j)
 unfolding digit

@@ -1,9 +1,10 @@
 // Bits of byte strings and two-byte numbers, with the laws that every other crate cites.
 ghost use mathlib.Core.Bool.{true, false};
 ghost use mathlib.Core.Path.{_≡_};
-ghost use Prim.Native.Nat.{ℕ, _%_, _<_, _≤_, min};
+ghost use Prim.Native.Nat.{ℕ, _+_, _%_, _^_, _<_, _≤_};
+ghost use lib.ListN.{length};
 ghost use Rattle.bits.specs.Window.{at, wordAt, turned};
-ghost use Rattle.bits.specs.Bit.{bitAt, withBit, pairAt};
+ghost use Rattle.bits.specs.Bit.{bitAt, withBit, pairAt, written};
 
 // Bit i of a byte string, 0 past its end. Bit 0 has weight 128 in byte 0, and every bit is moved there: that takes a step less than moving it to
 // weight 1.
@@ -53,29 +54,6 @@ pub fn pair(bytes: &[u8], at: usize) -> u16
     high + (bytes[at + 1] as u16)
 }
 
-// The number that the d bits from bit i on make, bit i of the highest weight. Past the end bits are 0, and a d above 16 counts as 16.
-pub fn word_at(bytes: &[u8], i: usize, d: usize) -> u16
-    ensures { λ r. ⌜ r ≡ wordAt (now (bytes .entry)) i (min d 16) ⌝ }
-{
-    if 16 < d {
-        return cut(bytes, i, 16);
-    }
-    cut(bytes, i, d)
-}
-
-// The d bits from bit i on, out of the three bytes that hold them.
-fn cut(bytes: &[u8], i: usize, d: usize) -> u16
-    requires { ⌜ d ≤ 16 ⌝ }
-    ensures { λ r. ⌜ r ≡ wordAt (now (bytes .entry)) i d ⌝ }
-{
-    let first = i / 8;
-    let high = byte(bytes, first) * 65536;
-    let middle = byte(bytes, first + 1) * 256;
-    let low = byte(bytes, first + 2);
-    let window = high + middle + low;
-    ((window >> (24 - i % 8 - d)) % (1u32 << d)) as u16
-}
-
 // Whether two byte strings are the same.
 pub fn same(a: &[u8], b: &[u8]) -> bool
     ensures { λ r. ⌜ (r ≡ true → now (a .entry) ≡ now (b .entry)) ⌝ }
@@ -94,19 +72,21 @@ pub fn same(a: &[u8], b: &[u8]) -> bool
     true
 }
 
-// Whether every byte of a byte string is 0.
+// Whether every byte of a byte string is 0. Every byte is looked at: with no way out of the loop the compiler takes sixteen of them in a step.
 pub fn is_zero(bytes: &[u8]) -> bool
     ensures { λ r. ⌜ (r ≡ true → (i : ℕ) → at (now (bytes .entry)) i ≡ 0) ⌝ }
     ensures { λ r. ⌜ (r ≡ false → ((i : ℕ) → at (now (bytes .entry)) i ≡ 0) → ⊥) ⌝ }
 {
+    let mut largest = 0u8;
     let mut i = 0;
     while i < bytes.len() {
-        if bytes[i] != 0 {
-            return false;
+        let byte = bytes[i];
+        if largest < byte {
+            largest = byte;
         }
         i += 1;
     }
-    true
+    largest == 0
 }
 
 // Byte i of a byte string, 0 past its end.
@@ -117,4 +97,49 @@ fn byte(bytes: &[u8], i: usize) -> u32
         return 0;
     }
     bytes[i] as u32
+}
+
+// Lent to the crates above: these ask what their callers prove.
+
+// The number that the d bits from bit i on make, bit i of the highest weight, out of the three bytes that hold them. Past the end bits are 0.
+pub fn word_at(bytes: &[u8], i: usize, d: usize) -> u16
+    requires { ⌜ d ≤ 16 ⌝ }
+    ensures { λ r. ⌜ r ≡ wordAt (now (bytes .entry)) i d ⌝ }
+{
+    let first = i / 8;
+    let high = byte(bytes, first) * 65536;
+    let middle = byte(bytes, first + 1) * 256;
+    let low = byte(bytes, first + 2);
+    let window = high + middle + low;
+    ((window >> (24 - i % 8 - d)) % (1u32 << d)) as u16
+}
+
+// The number of the highest digit of a number that is set.
+pub fn highest(x: u16) -> usize
+    requires { ⌜ 0 < x ⌝ }
+    ensures { λ r. ⌜ 2 ^ r ≤ x ⌝ }
+    ensures { λ r. ⌜ x < 2 ^ (r + 1) ⌝ }
+    ensures { λ r. ⌜ r < 16 ⌝ }
+{
+    15 - u16::leading_zeros(x) as usize
+}
+
+// The number with digit i alone set.
+pub fn power(i: usize) -> u16
+    requires { ⌜ i < 16 ⌝ }
+    ensures { λ r. ⌜ r ≡ 2 ^ i ⌝ }
+{
+    1u16 << i
+}
+
+// Copies bytes to the front of a buffer.
+pub fn copy_front(from: &[u8], to: &mut [u8])
+    requires { ⌜ length (now from) ≤ length (now to) ⌝ }
+    ensures { λ _. ⌜ now (to .exit) ≡ written (now (from .entry)) (now (to .entry)) ⌝ }
+{
+    let mut i = 0;
+    while i < from.len() {
+        to[i] = from[i];
+        i += 1;
+    }
 }

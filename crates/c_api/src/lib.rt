@@ -4,11 +4,11 @@ use decoder::Decoded;
 use decoder::SUMS;
 use inner_code::Nearest;
 use inner_code::Refusal;
+use meetings::Spread;
 use messages::Encoded;
 use messages::Taken;
 use panel::Shown;
 use radius::Margin;
-use radius::Spread;
 use report::Reported;
 use tables::Built;
 use wiring::Located;
@@ -18,11 +18,12 @@ ghost use mathlib.Core.Path.{_≡_};
 ghost use Rattle.inner_code.specs.Reply.{done, refused};
 ghost use Rattle.inner_code.specs.Answer.{nearestAnswer};
 ghost use Rattle.tables.specs.Answer.{buildAnswer, buildOutput, lookUpAnswer};
-ghost use Rattle.wiring.specs.Plan.{planOf};
+ghost use Rattle.wiring.specs.Plan.{planAt};
 ghost use Rattle.wiring.specs.Answer.{locateAnswer, sideNumber};
 ghost use Rattle.decoder.specs.Answer.{decodeAnswer, decodeSums, decodeVisits, decodeOutput};
 ghost use Rattle.report.specs.Answer.{reportAnswer, reportList};
-ghost use Rattle.radius.specs.Answer.{spreadAnswer, marginAnswer};
+ghost use Rattle.meetings.specs.Answer.{spreadAnswer};
+ghost use Rattle.radius.specs.Answer.{marginAnswer};
 ghost use Rattle.messages.specs.Answer.{encodeAnswer, encodeOutput, readAnswer, readOutput};
 ghost use Rattle.panel.specs.Answer.{loadAnswer, loadOutput, sweepAnswer, sweepOutput, setAnswer, setOutput, shownReply};
 ghost use Rattle.c_api.specs.Answer.{told, toldWord, toldDecode, toldPlace, toldState};
@@ -138,7 +139,7 @@ pub extern "C" fn lembikat_locate(
     wiring: &[u8],
     block: &[u8],
 ) -> Answer
-    ensures { λ r. ⌜ r ≡ toldPlace (locateAnswer (planOf (now (left .entry)) (now (right .entry)) nl nr (now (wiring .entry))) (now (block .entry))) ⌝ }
+    ensures { λ r. ⌜ r ≡ toldPlace (locateAnswer (planAt left right nl nr wiring) (now (block .entry))) ⌝ }
 {
     match wiring::locate(left, right, nl, nr, wiring, block) {
         Located::Nowhere => done(0),
@@ -162,10 +163,10 @@ pub extern "C" fn lembikat_decode(
     output: &mut [u8],
     limit: usize,
 ) -> DecodeAnswer
-    ensures { λ r. ⌜ r ≡ toldDecode (decodeAnswer (planOf (now (left .entry)) (now (right .entry)) nl nr (now (wiring .entry))) (now (received .entry)) (now (lost .entry)) (now (output .entry)) limit)
-        (decodeSums (planOf (now (left .entry)) (now (right .entry)) nl nr (now (wiring .entry))) (now (received .entry)) (now (lost .entry)) (now (output .entry)) limit)
-        (decodeVisits (planOf (now (left .entry)) (now (right .entry)) nl nr (now (wiring .entry))) (now (received .entry)) (now (lost .entry)) (now (output .entry)) limit) ⌝ }
-    ensures { λ _. ⌜ now (output .exit) ≡ decodeOutput (planOf (now (left .entry)) (now (right .entry)) nl nr (now (wiring .entry))) (now (received .entry)) (now (lost .entry)) (now (output .entry)) limit ⌝ }
+    ensures { λ r. ⌜ r ≡ toldDecode (decodeAnswer (planAt left right nl nr wiring) (now (received .entry)) (now (lost .entry)) (now (output .entry)) limit)
+        (decodeSums (planAt left right nl nr wiring) (now (received .entry)) (now (lost .entry)) (now (output .entry)) limit)
+        (decodeVisits (planAt left right nl nr wiring) (now (received .entry)) (now (lost .entry)) (now (output .entry)) limit) ⌝ }
+    ensures { λ _. ⌜ now (output .exit) ≡ decodeOutput (planAt left right nl nr wiring) (now (received .entry)) (now (lost .entry)) (now (output .entry)) limit ⌝ }
 {
     let decoding = decoder::decode(left, right, nl, nr, wiring, received, lost, output, limit);
     let outcome = decoding.outcome;
@@ -201,8 +202,8 @@ pub extern "C" fn lembikat_report(
     settled: &[u8],
     list: &mut [u8],
 ) -> Answer
-    ensures { λ r. ⌜ r ≡ told (reportAnswer (planOf (now (left .entry)) (now (right .entry)) nl nr (now (wiring .entry))) (now (received .entry)) (now (settled .entry)) (now (list .entry))) ⌝ }
-    ensures { λ _. ⌜ now (list .exit) ≡ reportList (planOf (now (left .entry)) (now (right .entry)) nl nr (now (wiring .entry))) (now (received .entry)) (now (settled .entry)) (now (list .entry)) ⌝ }
+    ensures { λ r. ⌜ r ≡ told (reportAnswer (planAt left right nl nr wiring) (now (received .entry)) (now (settled .entry)) (now (list .entry))) ⌝ }
+    ensures { λ _. ⌜ now (list .exit) ≡ reportList (planAt left right nl nr wiring) (now (received .entry)) (now (settled .entry)) (now (list .entry)) ⌝ }
 {
     match report::report_runs(left, right, nl, nr, wiring, received, settled, list) {
         Reported::Pairs(pairs) => done(pairs as u64),
@@ -219,9 +220,9 @@ pub extern "C" fn lembikat_spread(
     nr: usize,
     wiring: &[u8],
 ) -> Answer
-    ensures { λ r. ⌜ r ≡ told (spreadAnswer (planOf (now (left .entry)) (now (right .entry)) nl nr (now (wiring .entry)))) ⌝ }
+    ensures { λ r. ⌜ r ≡ told (spreadAnswer (planAt left right nl nr wiring)) ⌝ }
 {
-    match radius::plan_spread(left, right, nl, nr, wiring) {
+    match meetings::plan_spread(left, right, nl, nr, wiring) {
         Spread::Value(spread) => done(spread),
         Spread::Refused(r) => refused(r),
     }
@@ -237,7 +238,7 @@ pub extern "C" fn lembikat_margin(
     wiring: &[u8],
     flips: u64,
 ) -> Answer
-    ensures { λ r. ⌜ r ≡ told (marginAnswer (planOf (now (left .entry)) (now (right .entry)) nl nr (now (wiring .entry))) flips) ⌝ }
+    ensures { λ r. ⌜ r ≡ told (marginAnswer (planAt left right nl nr wiring) flips) ⌝ }
 {
     match radius::margin_sweeps(left, right, nl, nr, wiring, flips) {
         Margin::Sweeps(sweeps) => done(sweeps),
@@ -256,8 +257,8 @@ pub extern "C" fn lembikat_encode(
     message: &[u8],
     output: &mut [u8],
 ) -> Answer
-    ensures { λ r. ⌜ r ≡ told (encodeAnswer (planOf (now (left .entry)) (now (right .entry)) nl nr (now (wiring .entry))) (now (message .entry)) (now (output .entry))) ⌝ }
-    ensures { λ _. ⌜ now (output .exit) ≡ encodeOutput (planOf (now (left .entry)) (now (right .entry)) nl nr (now (wiring .entry))) (now (message .entry)) (now (output .entry)) ⌝ }
+    ensures { λ r. ⌜ r ≡ told (encodeAnswer (planAt left right nl nr wiring) (now (message .entry)) (now (output .entry))) ⌝ }
+    ensures { λ _. ⌜ now (output .exit) ≡ encodeOutput (planAt left right nl nr wiring) (now (message .entry)) (now (output .entry)) ⌝ }
 {
     match messages::encode(left, right, nl, nr, wiring, message, output) {
         Encoded::Done => done(0),
@@ -277,8 +278,8 @@ pub extern "C" fn lembikat_read(
     block: &[u8],
     output: &mut [u8],
 ) -> Answer
-    ensures { λ r. ⌜ r ≡ told (readAnswer (planOf (now (left .entry)) (now (right .entry)) nl nr (now (wiring .entry))) (now (block .entry)) (now (output .entry))) ⌝ }
-    ensures { λ _. ⌜ now (output .exit) ≡ readOutput (planOf (now (left .entry)) (now (right .entry)) nl nr (now (wiring .entry))) (now (block .entry)) (now (output .entry)) ⌝ }
+    ensures { λ r. ⌜ r ≡ told (readAnswer (planAt left right nl nr wiring) (now (block .entry)) (now (output .entry))) ⌝ }
+    ensures { λ _. ⌜ now (output .exit) ≡ readOutput (planAt left right nl nr wiring) (now (block .entry)) (now (output .entry)) ⌝ }
 {
     match messages::read_block(left, right, nl, nr, wiring, block, output) {
         Taken::Done => done(0),
@@ -298,8 +299,8 @@ pub extern "C" fn lembikat_load_state(
     block: &[u8],
     state: &mut [u8],
 ) -> StateAnswer
-    ensures { λ r. ⌜ r ≡ toldState (loadAnswer (planOf (now (left .entry)) (now (right .entry)) nl nr (now (wiring .entry))) (now (block .entry)) (now (state .entry))) ⌝ }
-    ensures { λ _. ⌜ now (state .exit) ≡ loadOutput (planOf (now (left .entry)) (now (right .entry)) nl nr (now (wiring .entry))) (now (block .entry)) (now (state .entry)) ⌝ }
+    ensures { λ r. ⌜ r ≡ toldState (loadAnswer (planAt left right nl nr wiring) (now (block .entry)) (now (state .entry))) ⌝ }
+    ensures { λ _. ⌜ now (state .exit) ≡ loadOutput (planAt left right nl nr wiring) (now (block .entry)) (now (state .entry)) ⌝ }
 {
     shown(panel::load_state(left, right, nl, nr, wiring, block, state))
 }
@@ -314,8 +315,8 @@ pub extern "C" fn lembikat_sweep_state(
     wiring: &[u8],
     state: &mut [u8],
 ) -> StateAnswer
-    ensures { λ r. ⌜ r ≡ toldState (sweepAnswer (planOf (now (left .entry)) (now (right .entry)) nl nr (now (wiring .entry))) (now (state .entry))) ⌝ }
-    ensures { λ _. ⌜ now (state .exit) ≡ sweepOutput (planOf (now (left .entry)) (now (right .entry)) nl nr (now (wiring .entry))) (now (state .entry)) ⌝ }
+    ensures { λ r. ⌜ r ≡ toldState (sweepAnswer (planAt left right nl nr wiring) (now (state .entry))) ⌝ }
+    ensures { λ _. ⌜ now (state .exit) ≡ sweepOutput (planAt left right nl nr wiring) (now (state .entry)) ⌝ }
 {
     shown(panel::sweep_state(left, right, nl, nr, wiring, state))
 }
@@ -333,8 +334,8 @@ pub extern "C" fn lembikat_set_bit(
     value: u64,
     state: &mut [u8],
 ) -> StateAnswer
-    ensures { λ r. ⌜ r ≡ toldState (setAnswer (planOf (now (left .entry)) (now (right .entry)) nl nr (now (wiring .entry))) bit value (now (state .entry))) ⌝ }
-    ensures { λ _. ⌜ now (state .exit) ≡ setOutput (planOf (now (left .entry)) (now (right .entry)) nl nr (now (wiring .entry))) bit value (now (state .entry)) ⌝ }
+    ensures { λ r. ⌜ r ≡ toldState (setAnswer (planAt left right nl nr wiring) bit value (now (state .entry))) ⌝ }
+    ensures { λ _. ⌜ now (state .exit) ≡ setOutput (planAt left right nl nr wiring) bit value (now (state .entry)) ⌝ }
 {
     shown(panel::set_bit(left, right, nl, nr, wiring, bit, value, state))
 }

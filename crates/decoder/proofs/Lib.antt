@@ -1,11 +1,4 @@
-pub mod Sweeping
 pub mod Settling
-pub mod Patterns
-pub mod RightWords
-pub mod Marks
-pub mod Putting
-pub mod Visiting
-pub mod Rounds
 pub mod VisitCounts
 pub mod Passes
 pub mod Trials

@@ -1,13 +1,13 @@
 -- Sweeps in turn as the code makes them: each sweep's number of changed bits is its sum, and with the ties that it left tells whether the block
 -- was settled.
---   SideSwept side before tally after      one sweep as the code makes it (specs Visiting)
+--   SideSwept side before tally after      one sweep as the code makes it (sweeps specs Sweeping)
 --   settledAfter plan block i              the block after i sweeps is a codeword (specs Decode)
 --   settlesAt plan block H                 the first count from 0 to H after which it is, H + 1 where none is (specs Decode)
 --   sweepSum, sweepSums                    how many bits a sweep changes, and the sums of those that are made (specs Decode)
 --   Pass plan received i tally after       sweep i + 1 leaves `after`; `tally` has its sum and how many ties it left
 --   Told plan received H i sums visits     the sums and the visits of the first i sweeps, of H at most
 --   Swept plan received H count block sums visits   the block after `count` sweeps, at no count before which it was settled, their sums and their visits
---   Tried, Opened, Midway                  a trial, its first two sweeps, and where it stands later, as the code makes them (specs Visiting, Turns)
+--   Tried, Opened, Midway                  a trial, its first two sweeps, and where it stands later, as the code makes them (specs Turns)
 -- Laws are named by their subject, then by the fact: `turn-` is about the side of a sweep, `settled-` about settled blocks, `pass-` about one
 -- sweep of the code, `told-` about sums and visits, `swept-` about all sweeps so far, `ended-` about a sweep that changes nothing; `open-` gives what
 -- the first two sweeps come to at one way out each: where neither changes anything (-first), where the second does not (-second), at a limit
@@ -30,27 +30,27 @@ use Rattle.bits.specs.Sum.{flag}
 use Rattle.bits.proofs.Searches.{first-all}
 use Rattle.bits.proofs.Sums.{sum-ext}
 use Rattle.inner_code.specs.Reply.{done}
-use Rattle.wiring.specs.Plan.{Plan, Side, edgeCount, left, right, countOf, sideOf}
+use Rattle.wiring.specs.Plan.{Plan, Side, edgeCount, left, right, countOf, sideOf, other}
 use Rattle.wiring.specs.Wiring.{planCheck}
-use Rattle.wiring.specs.Block.{vertexWord, satisfied, firstUnsatisfied, isCodewordBlock, blockCheck}
+use Rattle.wiring.specs.Block.{vertexWord, satisfied, firstUnsatisfied, isCodewordBlock, blockCheck, heard}
 use Rattle.wiring.specs.declared.side.SideName.{SideName}
 use Rattle.wiring.proofs.Permutation.{Joined, fitted-edges}
 use Rattle.wiring.proofs.CodewordBlocks.{codeword-block-each}
 use Rattle.wiring.proofs.Plans.{plan-sound, plan-joined}
-use Rattle.decoder.specs.Sweep.{sweep, other, turn}
-use Rattle.decoder.specs.Decode.{sweptBlock, settledAfter, sweepSum, sweepSums, heard, visitsIn, visitsMade}
-use Rattle.decoder.specs.Visiting.{changedBy, tiedAt, tiesBy, SideSwept, Tried, noted}
-use Rattle.decoder.specs.News.{Listening, Hears, NewsSwept}
-use Rattle.decoder.specs.Turns.{addedVisits, endedTo, Midway, Opened}
+use Rattle.sweeps.specs.Sweep.{sweep, turn}
+use Rattle.decoder.specs.Decode.{sweptBlock, settledAfter, sweepSum, sweepSums, visitsIn, visitsMade}
+use Rattle.sweeps.specs.Sweeping.{changedBy, tiedAt, tiesBy, SideSwept, Hears, NewsSwept}
+use Rattle.decoder.specs.Turns.{Tried, noted, addedVisits, endedTo, Midway, Opened}
+use Rattle.words.specs.Marks.{Listening}
 use Rattle.decoder.specs.declared.settle.Opening.{Opening}
-use Rattle.decoder.specs.declared.sweep.News.{News}
-use Rattle.decoder.specs.declared.sweep.Tally.{Tally}
-use Rattle.decoder.proofs.Sweeping.{Mends, sheet-mends, sweep-fixed, sweep-flips, sweep-satisfied, sweep-stays, sweep-tied}
-use Rattle.decoder.proofs.Sweeping.{length-after, after-one-more, after-stays, after-block, after-ended, other-side}
+use Rattle.sweeps.specs.declared.sweep.News.{News}
+use Rattle.sweeps.specs.declared.sweep.Tally.{Tally}
+use Rattle.sweeps.proofs.Sweeping.{Mends, sheet-mends, sweep-fixed, sweep-flips, sweep-satisfied, sweep-stays, sweep-tied}
+use Rattle.sweeps.proofs.Sweeping.{length-after, after-one-more, after-stays, after-block, after-ended, other-side}
 use Rattle.decoder.proofs.Settling.{settles-at, settles-none}
 use Rattle.decoder.proofs.SweepSums.{length-sums, sum-le, sums-zero, noted-more, noted-still}
-use Rattle.decoder.proofs.Visiting.{changed-zero, ties-none, ties-some}
-use Rattle.decoder.proofs.Rounds.{other-twice}
+use Rattle.sweeps.proofs.Visiting.{changed-zero, ties-none, ties-some}
+use Rattle.wiring.proofs.Sides.{other-twice}
 use Rattle.decoder.proofs.VisitCounts.{visits-zero, visits-heard, visits-none, visits-added, visits-still}
 
 pub turn-zero : left ≡ turn 0

@@ -9,7 +9,7 @@
 --   decodeCheck ..               what stops a decoder call before it decodes (specs Answer)
 --   decodeAnswer, decodeSums, decodeVisits, decodeOutput   what the decoder answers, the sums and the visits that it tells, and its output at exit
 --                                (specs Answer)
---   Decoded .. reply sums visits left   the decoder answers `reply`, tells `sums` and `visits` and leaves the output `left`
+--   DecodingIs .. reply sums visits left   the decoder answers `reply`, tells `sums` and `visits` and leaves the output `left`
 --   Answered .. reply sums visits left  the same as a function that decodes ensures it
 -- Laws are named by their subject, then by the fact: `settles-` is about the count at which a block settles, `keeps-` about the trial that is
 -- kept, `check-` about the tests before a decoding, one outcome each, and `decode-` gives answer, sums, visits and output at one outcome each: a
@@ -30,8 +30,7 @@ use Rattle.bits.specs.Bit.{written}
 use Rattle.bits.specs.Search.{firstFailing}
 use Rattle.bits.proofs.Searches.{first-at, first-all, first-failed, first-passed}
 use Rattle.inner_code.specs.Reply.{Reply, done, refused, refuseIf, andThen}
-use Rattle.inner_code.proofs.Replies.{refuse-taken, refuse-passed, andThen-passed, andThen-refused, andThen-done}
-use Rattle.inner_code.proofs.Replies.{ifDone-done, ifDone-refused}
+use Rattle.inner_code.proofs.Replies.{refuse-taken, refuse-passed, andThen-passed, andThen-refused, andThen-done, ifDone-done, ifDone-refused}
 use Rattle.inner_code.proofs.SheetChecks.{Sound}
 use Rattle.wiring.specs.Plan.{Plan, edgeCount, sheetOf, sideOf}
 use Rattle.wiring.specs.Wiring.{planCheck}
@@ -41,7 +40,7 @@ use Rattle.spans.specs.Spans.{spansCheck, flipsOutside, filled}
 use Rattle.spans.proofs.Filling.{filled-none}
 use Rattle.decoder.specs.Decode.{sweptBlock, settledAfter, settlesAt, sweepSums, visitsMade, Trial, trial, keepsOnes, decoding}
 use Rattle.decoder.specs.Answer.{decodeCheck, decodeAnswer, decodeSums, numberIfDone, decodeVisits, decodeOutput}
-use Rattle.decoder.proofs.Sweeping.{sheet-mends, after-stays}
+use Rattle.sweeps.proofs.Sweeping.{sheet-mends, after-stays}
 
 -- ---- where a block settles
 
@@ -128,24 +127,17 @@ number-refused : (reply : Reply) (number n p : ℕ) → reply ≡ refused n p �
 unfolding numberIfDone
 number-refused reply number n p e = rw e
 
-pub record Decoded (plan : Plan) (received lost output : List ℕ) (H : ℕ) (reply : Reply) (sums : List ℕ) (visits : ℕ) (left : List ℕ)
+pub record DecodingIs (plan : Plan) (received lost output : List ℕ) (H : ℕ) (reply : Reply) (sums : List ℕ) (visits : ℕ) (left : List ℕ)
     : Type 0 where
   pub answer : decodeAnswer plan received lost output H ≡ reply
   pub tells : decodeSums plan received lost output H ≡ sums
   pub visited : decodeVisits plan received lost output H ≡ visits
   pub leaves : decodeOutput plan received lost output H ≡ left
 
--- the same as a function that decodes ensures it: its reply, its sums, its visits and its output at exit
-abbrev pub Answered : Plan → List ℕ → List ℕ → List ℕ → ℕ → Reply → List ℕ → ℕ → List ℕ → Type 0
-Answered plan received lost output H reply sums visits left =
-    (reply ≡ decodeAnswer plan received lost output H)
-    × ((sums ≡ decodeSums plan received lost output H)
-    × ((visits ≡ decodeVisits plan received lost output H) × (left ≡ decodeOutput plan received lost output H)))
-
 module _ (plan : Plan) (received lost output : List ℕ) (H : ℕ) where
   -- a check that refuses leaves the output as it is
   pub decode-stopped : {number place : ℕ} → decodeCheck plan received lost output H ≡ refused number place
-      → Decoded plan received lost output H (refused number place) (replicate 64 0) 0 output
+      → DecodingIs plan received lost output H (refused number place) (replicate 64 0) 0 output
   unfolding decodeAnswer decodeSums decodeVisits decodeOutput
   decode-stopped {number} {place} e =
       record {
@@ -157,7 +149,7 @@ module _ (plan : Plan) (received lost output : List ℕ) (H : ℕ) where
 
   module _ {values : List ℕ} (pass : decodeCheck plan received lost output H ≡ done values) where
     -- the decoding is answered
-    pub decode-passed : Decoded plan received lost output H
+    pub decode-passed : DecodingIs plan received lost output H
         (refuseIf (not (decoding plan received lost H .settled)) 15 0 (done (decoding plan received lost H .count ∷ [])))
         (decoding plan received lost H .sums) (decoding plan received lost H .visits) (written (decoding plan received lost H .block) output)
     unfolding decodeAnswer decodeSums decodeVisits decodeOutput
@@ -170,7 +162,7 @@ module _ (plan : Plan) (received lost output : List ℕ) (H : ℕ) where
         }
 
     decode-kept : (kept : Trial) → keptBy plan received lost H (onesKept plan received lost H) ≡ kept
-        → Decoded plan received lost output H (refuseIf (not (kept .settled)) 15 0 (done (kept .count ∷ []))) (kept .sums) (kept .visits)
+        → DecodingIs plan received lost output H (refuseIf (not (kept .settled)) 15 0 (done (kept .count ∷ []))) (kept .sums) (kept .visits)
         (written (cond (kept .settled) (kept .block) received) output)
     unfolding decoding
     decode-kept kept e =
@@ -185,7 +177,7 @@ module _ (plan : Plan) (received lost output : List ℕ) (H : ℕ) where
     -- the trial that is kept, where it settles
     decode-from : (b : ℕ) → keptBy plan received lost H (onesKept plan received lost H) ≡ trialFrom plan received lost H b
         → settlesAt plan (filled b lost received) H ≤ H
-        → Decoded plan received lost output H (done (settlesAt plan (filled b lost received) H ∷ []))
+        → DecodingIs plan received lost output H (done (settlesAt plan (filled b lost received) H ∷ []))
         (sweepSums plan (filled b lost received) (settlesAt plan (filled b lost received) H))
         (visitsMade plan (filled b lost received) (settlesAt plan (filled b lost received) H)) (written (settledFrom plan received lost H b) output)
     unfolding trial
@@ -201,20 +193,20 @@ module _ (plan : Plan) (received lost output : List ℕ) (H : ℕ) where
 
     pub decode-zeros : settlesAt plan (filled 0 lost received) H ≤ H
         → (settlesAt plan (filled 1 lost received) H ≤ H → changedFrom plan received lost H 0 ≤ changedFrom plan received lost H 1)
-        → Decoded plan received lost output H (done (settlesAt plan (filled 0 lost received) H ∷ []))
+        → DecodingIs plan received lost output H (done (settlesAt plan (filled 0 lost received) H ∷ []))
         (sweepSums plan (filled 0 lost received) (settlesAt plan (filled 0 lost received) H))
         (visitsMade plan (filled 0 lost received) (settlesAt plan (filled 0 lost received) H)) (written (settledFrom plan received lost H 0) output)
     decode-zeros l fewer = decode-from 0 (ap (keptBy plan received lost H) (keeps-zeros plan received lost H l fewer)) l
 
     pub decode-ones : settlesAt plan (filled 1 lost received) H ≤ H
         → (settlesAt plan (filled 0 lost received) H ≤ H → changedFrom plan received lost H 1 < changedFrom plan received lost H 0)
-        → Decoded plan received lost output H (done (settlesAt plan (filled 1 lost received) H ∷ []))
+        → DecodingIs plan received lost output H (done (settlesAt plan (filled 1 lost received) H ∷ []))
         (sweepSums plan (filled 1 lost received) (settlesAt plan (filled 1 lost received) H))
         (visitsMade plan (filled 1 lost received) (settlesAt plan (filled 1 lost received) H)) (written (settledFrom plan received lost H 1) output)
     decode-ones l fewer = decode-from 1 (ap (keptBy plan received lost H) (keeps-ones plan received lost H l fewer)) l
 
     pub decode-neither : H < settlesAt plan (filled 0 lost received) H → H < settlesAt plan (filled 1 lost received) H
-        → Decoded plan received lost output H (refused 15 0) (sweepSums plan (filled 0 lost received) H)
+        → DecodingIs plan received lost output H (refused 15 0) (sweepSums plan (filled 0 lost received) H)
         (visitsMade plan (filled 0 lost received) H) (written received output)
     unfolding trial
     decode-neither past late =
@@ -271,7 +263,7 @@ module _ (plan : Plan) (received lost output : List ℕ) (H : ℕ) where
 module _ (plan : Plan) (received output : List ℕ) (H : ℕ) where
   module _ {values : List ℕ} (pass : decodeCheck plan received [] output H ≡ done values) where
     pub decode-settled : (count : ℕ) → settlesAt plan received H ≡ count → count ≤ H
-        → Decoded plan received [] output H (done (count ∷ [])) (sweepSums plan received count) (visitsMade plan received count)
+        → DecodingIs plan received [] output H (done (count ∷ [])) (sweepSums plan received count) (visitsMade plan received count)
         (written (sweptBlock plan count received) output)
     decode-settled count e l =
         rw (filled-none 0 received, e)
@@ -279,7 +271,7 @@ module _ (plan : Plan) (received output : List ℕ) (H : ℕ) where
         (λ _. rw (filled-none 0 received, filled-none 1 received) (le-refl _)))
 
     pub decode-unsettled : H < settlesAt plan received H
-        → Decoded plan received [] output H (refused 15 0) (sweepSums plan received H) (visitsMade plan received H) (written received output)
+        → DecodingIs plan received [] output H (refused 15 0) (sweepSums plan received H) (visitsMade plan received H) (written received output)
     decode-unsettled past =
         rw (filled-none 0 received)
         at (decode-neither plan received [] output H pass (rw (filled-none 0 received) past) (rw (filled-none 1 received) past))

@@ -2,7 +2,7 @@
 --   sweptBlock plan i block      the block after i sweeps (specs Decode)
 --   sweepSum plan block i        how many bits sweep i + 1 changes (specs Decode)
 --   sweepSums plan block made    the sums of the first 64 sweeps, where so many sweeps are made (specs Decode)
---   noted sums i H changed       the sums with that of sweep i + 1 in them, where it is one of the H sweeps and one that is told (specs Visiting)
+--   noted sums i H changed       the sums with that of sweep i + 1 in them, where it is one of the H sweeps and one that is told (specs Turns)
 --   told plan block made i       the sum of sweep i + 1, where so many sweeps are made
 -- Laws are named by their subject, then by the fact: `told-` and `sum-` are about one sum, `sums-` about the sums where so many sweeps are
 -- made, `noted-` about one more of them that is noted.
@@ -21,7 +21,7 @@ use Rattle.bits.proofs.Flips.{flips-le}
 use Rattle.bits.proofs.Values.{length-values, values-at, values-ext}
 use Rattle.wiring.specs.Plan.{Plan, edgeCount}
 use Rattle.decoder.specs.Decode.{sweptBlock, sweepSum, sweepSums}
-use Rattle.decoder.specs.Visiting.{noted}
+use Rattle.decoder.specs.Turns.{noted}
 
 module _ (sums : List ℕ) (i H changed : ℕ) where
   pub noted-told : i < H → i < 64 → noted sums i H changed ≡ set sums i changed

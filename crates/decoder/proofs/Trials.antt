@@ -5,12 +5,12 @@
 --   decodeCheck ..                what stops a decoder call before it decodes (specs Answer)
 --   decodeAnswer, decodeSums, decodeVisits, decodeOutput    what the decoder answers, the sums and the visits that it tells, and its output at exit
 --                                 (specs Answer)
---   Tried ..                      a trial as the code makes it (specs Visiting)
+--   Tried ..                      a trial as the code makes it (specs Turns)
 --   Opened ..                     its first two sweeps (specs Turns)
---   Answered ..                   what a function that decodes ensures (Settling)
+--   Decodes ..                    what a function that decodes ensures (specs Answer)
 --   settledFrom, changedFrom ..   the block at which a trial settles, and the received bits that it changes outside the spans (Settling)
 --   locatedBy codes wiring block  where the code finds a vertex that is not satisfied (wiring specs Access)
---   Passed ..                     what a call knows that nothing stops before it decodes (specs Visiting)
+--   Passed ..                     what a call knows that nothing stops before it decodes (specs Turns)
 --   ByTrial received H count sums visits out reply told visited after  a call is answered by a trial whose block stands at the front of `out`: its
 --                                 count, or 15 and the received block put back; `after` is what is left
 -- Laws are named by their subject, then by the fact: `passed-` is about a call that has passed its checks, `over-` about one whose output is written
@@ -24,13 +24,12 @@ use mathlib.Core.Bool.{Bool, true, false, cond}
 use mathlib.Core.List.{List, [], _∷_, _++_}
 use mathlib.Core.Path.{_≡_, refl, sym, ap, ap₂, _∙_, subst}
 use native.Mathlib.Omega.{arith}
-use lib.Dec.{ltb}
 use lib.ListN.{length, take, drop, replicate}
 use lib.Seq.{length-take-le}
 use borrow.Author.Tests.{ltb-false, lt-ltb, le-ltb}
 use Rattle.bits.specs.Bit.{written}
 use Rattle.bits.proofs.Fronts.{written-part, written-over, written-again, length-written}
-use Rattle.inner_code.specs.Reply.{Reply, done, refused, refuseIf}
+use Rattle.inner_code.specs.Reply.{Reply, done}
 use Rattle.inner_code.proofs.Replies.{andThen-done, refuse-done, refuse-taken, refuse-passed}
 use Rattle.wiring.specs.Access.{bothCodes, locatedBy}
 use Rattle.wiring.specs.Plan.{Plan, edgeCount, left, right, sideOf}
@@ -48,15 +47,17 @@ use Rattle.spans.proofs.Filling.{filled-none, length-filled}
 use Rattle.spans.proofs.Checking.{spans-done, filled-block}
 use Rattle.spans.proofs.Gaps.{flips-around}
 use Rattle.decoder.specs.Decode.{sweptBlock, settlesAt, sweepSums, visitsMade, Trial, trial, keepsOnes, decoding}
-use Rattle.decoder.specs.Visiting.{Passed, Tried}
-use Rattle.decoder.specs.Turns.{Opened}
+use Rattle.decoder.specs.Turns.{Passed, Tried, Opened, ByTrial}
+use Rattle.decoder.specs.declared.decoding.Decoded.{Decoded}
+use Rattle.decoder.specs.declared.decoding.Decoding.{Decoding}
 use Rattle.decoder.specs.declared.settle.Opening.{Opening}
-use Rattle.decoder.specs.Answer.{decodeCheck, decodeAnswer, decodeSums, decodeVisits, decodeOutput}
-use Rattle.decoder.proofs.Settling.{settles-at, settledFrom, changedFrom, Decoded, Answered}
+use Rattle.decoder.specs.declared.settle.Settling.{Settling}
+use Rattle.decoder.specs.Answer.{decodeCheck, Decodes}
+use Rattle.decoder.proofs.Settling.{settles-at, settledFrom, changedFrom, DecodingIs}
 use Rattle.decoder.proofs.Settling.{decode-passed, decode-zeros, decode-ones, decode-neither, decode-settled}
 use Rattle.decoder.proofs.SweepSums.{sums-zero}
 use Rattle.decoder.proofs.VisitCounts.{visits-zero}
-use Rattle.decoder.proofs.Sweeping.{after-zero, length-after}
+use Rattle.sweeps.proofs.Sweeping.{after-zero, length-after}
 
 -- ---- a call that nothing stops before it decodes
 
@@ -103,19 +104,8 @@ module _ (plan : Plan) (received lost output : List ℕ) (H : ℕ) (none : lost 
   pub check-none : {reply : Reply} → decodeCheck plan received lost output H ≡ reply → decodeCheck plan received [] output H ≡ reply
   check-none e = sym (ap (λ (l : List ℕ). decodeCheck plan received l output H) none) ∙ e
 
-  pub answers-none : {reply : Reply} {sums after : List ℕ} {visits : ℕ}
-      → Answered plan received [] output H reply sums visits after → Answered plan received lost output H reply sums visits after
-  answers-none (answers, (tells, (visited, leaves))) =
-      let any = sym none in (
-        answers ∙ ap (λ (l : List ℕ). decodeAnswer plan received l output H) any,
-        (
-          tells ∙ ap (λ (l : List ℕ). decodeSums plan received l output H) any,
-          (
-            visited ∙ ap (λ (l : List ℕ). decodeVisits plan received l output H) any,
-            leaves ∙ ap (λ (l : List ℕ). decodeOutput plan received l output H) any,
-          ),
-        ),
-      )
+  pub answers-none : {r : Decoding} {after : List ℕ} → Decodes plan received [] output H r after → Decodes plan received lost output H r after
+  answers-none {r} {after} d = subst (λ (l : List ℕ). Decodes plan received l output H r after) (sym none) d
 
 -- ---- a call whose output was written over at the front, by as many bytes as the block has
 
@@ -145,20 +135,17 @@ module _ (plan : Plan) (received lost output : List ℕ) (H : ℕ) (checked : de
     unfolding decodeCheck
     over-check = rw (length-written front output (omega (arith, check-means plan received lost output H checked .fits))) checked
 
-    pub over-answers : {reply : Reply} {sums after : List ℕ} {visits : ℕ}
-        → Answered plan received lost (written front output) H reply sums visits after → Answered plan received lost output H reply sums visits after
-    over-answers (answers, (tells, (visited, leaves))) =
+    pub over-answers : {r : Decoding} {after : List ℕ} → Decodes plan received lost (written front output) H r after
+        → Decodes plan received lost output H r after
+    over-answers d =
         let over = decode-passed plan received lost (written front output) H over-check in
-        let r = decode-passed plan received lost output H checked in (
-          answers ∙ over .answer ∙ sym (r .answer),
-          (
-            tells ∙ over .tells ∙ sym (r .tells),
-            (
-              visited ∙ over .visited ∙ sym (r .visited),
-              leaves ∙ over .leaves ∙ written-again _ front output (sized ∙ sym length-decoding) ∙ sym (r .leaves),
-            ),
-          ),
-        )
+        let here = decode-passed plan received lost output H checked in
+        record {
+          answer = d .answer ∙ over .answer ∙ sym (here .answer);
+          sums = d .sums ∙ over .tells ∙ sym (here .tells);
+          visits = d .visits ∙ over .visited ∙ sym (here .visited);
+          leaves = d .leaves ∙ over .leaves ∙ written-again _ front output (sized ∙ sym length-decoding) ∙ sym (here .leaves);
+        }
 
 -- ---- a block at the front of a buffer is lent on
 
@@ -201,22 +188,29 @@ module _ (block room : List ℕ) {laid : List ℕ} (size : ℕ) (put : laid ≡ 
 
 -- ---- an answer by a trial
 
-abbrev pub ByTrial : List ℕ → ℕ → ℕ → List ℕ → ℕ → List ℕ → Reply → List ℕ → ℕ → List ℕ → Type 0
-ByTrial received H count sums visits out reply told visited after =
-    (reply ≡ refuseIf (ltb H count) 15 0 (done (count ∷ [])))
-    × ((told ≡ sums) × ((visited ≡ visits) × (after ≡ cond (ltb H count) (written received out) out)))
-
-module _ (received : List ℕ) (H count : ℕ) (sums : List ℕ) (visits : ℕ) (out : List ℕ) where
-  pub by-settled : count ≤ H → ByTrial received H count sums visits out (done (count ∷ [])) sums visits out
+module _ (received : List ℕ) (H : ℕ) (trial : Settling) (out : List ℕ) where
+  pub by-settled : trial .count ≤ H
+      → ByTrial received H trial out (record { outcome = Decoded.Settled (trial .count); sums = trial .sums; visits = trial .visits }) out
   by-settled l =
-      let within = le-ltb H count l in
-      (sym (refuse-passed _ 15 0 _ within), (refl, (refl, ap (λ (t : Bool). cond t (written received out) out) (sym within))))
+      let within = le-ltb H (trial .count) l in
+      record {
+        answer = sym (refuse-passed _ 15 0 _ within);
+        sums = refl;
+        visits = refl;
+        leaves = ap (λ (t : Bool). cond t (written received out) out) (sym within);
+      }
 
-  pub by-unsettled : {after : List ℕ} → H < count → after ≡ written received out
-      → ByTrial received H count sums visits out (refused 15 0) sums visits after
+  pub by-unsettled : {after : List ℕ} → H < trial .count → after ≡ written received out
+      → ByTrial received H trial out
+      (record { outcome = Decoded.Refused (record { number = 15; place = 0 }); sums = trial .sums; visits = trial .visits }) after
   by-unsettled l e =
-      let past = lt-ltb H count l in
-      (sym (refuse-taken _ 15 0 _ past), (refl, (refl, e ∙ ap (λ (t : Bool). cond t (written received out) out) (sym past))))
+      let past = lt-ltb H (trial .count) l in
+      record {
+        answer = sym (refuse-taken _ 15 0 _ past);
+        sums = refl;
+        visits = refl;
+        leaves = e ∙ ap (λ (t : Bool). cond t (written received out) out) (sym past);
+      }
 
 -- where no bit is lost, both trials are of the received block
 trials-same : (received lost : List ℕ) → length lost ≡ 0 → filled 1 lost received ≡ filled 0 lost received
@@ -240,63 +234,56 @@ module _ (plan : Plan) (received lost output : List ℕ) (H : ℕ) (checked : de
       (t .leaves l ∙ ap (λ (i : ℕ). sweptBlock plan i (filled b lost received)) (sym (t .counted)))
 
   -- the trial that is kept, where it settles
-  kept-answers : (b : ℕ) {count visits visited : ℕ} {sums swept out told after : List ℕ} {reply : Reply}
-      → Tried plan (filled b lost received) H count sums visits swept → count ≤ H → out ≡ written swept output
-      → ByTrial received H count sums visits out reply told visited after
-      → Decoded plan received lost output H (done (settlesAt plan (filled b lost received) H ∷ []))
+  kept-answers : (b : ℕ) {trial : Settling} {swept out after : List ℕ} {r : Decoding}
+      → Tried plan (filled b lost received) H (trial .count) (trial .sums) (trial .visits) swept → trial .count ≤ H → out ≡ written swept output
+      → ByTrial received H trial out r after
+      → DecodingIs plan received lost output H (done (settlesAt plan (filled b lost received) H ∷ []))
       (sweepSums plan (filled b lost received) (settlesAt plan (filled b lost received) H))
       (visitsMade plan (filled b lost received) (settlesAt plan (filled b lost received) H)) (written (settledFrom plan received lost H b) output)
-      → Answered plan received lost output H reply told visited after
-  kept-answers b {count = count} {out = out} t l e (answers, (tells, (visited, leaves))) r =
-      let within = le-ltb H count l in
+      → Decodes plan received lost output H r after
+  kept-answers b {trial = trial} {out = out} t l e by kept =
+      let within = le-ltb H (trial .count) l in
       let at = sym (t .counted) in
-      let made = min-eq-left l ∙ at in (
-        answers ∙ refuse-passed _ 15 0 _ within ∙ ap (λ (i : ℕ). done (i ∷ [])) at ∙ sym (r .answer),
-        (
-          tells ∙ t .told ∙ ap (sweepSums plan (filled b lost received)) made ∙ sym (r .tells),
-          (
-            visited ∙ t .visited ∙ ap (visitsMade plan (filled b lost received)) made ∙ sym (r .visited),
-            leaves ∙ ap (λ (t : Bool). cond t (written received out) out) within ∙ e
-                ∙ ap (λ (block : List ℕ). written block output) (t .leaves l ∙ ap (λ (i : ℕ). sweptBlock plan i (filled b lost received)) at)
-                ∙ sym (r .leaves),
-          ),
-        ),
-      )
+      let made = min-eq-left l ∙ at in
+      record {
+        answer = by .answer ∙ refuse-passed _ 15 0 _ within ∙ ap (λ (i : ℕ). done (i ∷ [])) at ∙ sym (kept .answer);
+        sums = by .sums ∙ t .told ∙ ap (sweepSums plan (filled b lost received)) made ∙ sym (kept .tells);
+        visits = by .visits ∙ t .visited ∙ ap (visitsMade plan (filled b lost received)) made ∙ sym (kept .visited);
+        leaves = by .leaves ∙ ap (λ (t : Bool). cond t (written received out) out) within ∙ e
+            ∙ ap (λ (block : List ℕ). written block output) (t .leaves l ∙ ap (λ (i : ℕ). sweptBlock plan i (filled b lost received)) at)
+            ∙ sym (kept .leaves);
+      }
 
-  module _ {count visits visited : ℕ} {sums swept out told after : List ℕ} {reply : Reply}
-      (zeros : Tried plan (filled 0 lost received) H count sums visits swept) (stands : out ≡ written swept output)
-      (by : ByTrial received H count sums visits out reply told visited after) where
-    twice-neither : H < count → H < settlesAt plan (filled 1 lost received) H → Answered plan received lost output H reply told visited after
+  module _ {trial : Settling} {swept out after : List ℕ} {r : Decoding}
+      (zeros : Tried plan (filled 0 lost received) H (trial .count) (trial .sums) (trial .visits) swept) (stands : out ≡ written swept output)
+      (by : ByTrial received H trial out r after) where
+    twice-neither : H < trial .count → H < settlesAt plan (filled 1 lost received) H → Decodes plan received lost output H r after
     twice-neither past late =
-        let (answers, (tells, (visited, leaves))) = by in
-        let r = decode-neither plan received lost output H checked (omega (arith, zeros .counted)) late in
-        let made : min count H ≡ H = min-eq-right (omega arith) in
-        let unsettled = lt-ltb H count past in (
-          answers ∙ refuse-taken _ 15 0 _ unsettled ∙ sym (r .answer),
-          (
-            tells ∙ zeros .told ∙ ap (sweepSums plan (filled 0 lost received)) made ∙ sym (r .tells),
-            (
-              visited ∙ zeros .visited ∙ ap (visitsMade plan (filled 0 lost received)) made ∙ sym (r .visited),
-              leaves ∙ ap (λ (t : Bool). cond t (written received out) out) unsettled ∙ ap (written received) stands
-                  ∙ written-again received swept output (zeros .kept ∙ length-filled 0 lost received) ∙ sym (r .leaves),
-            ),
-          ),
-        )
+        let neither = decode-neither plan received lost output H checked (omega (arith, zeros .counted)) late in
+        let made : min (trial .count) H ≡ H = min-eq-right (omega arith) in
+        let unsettled = lt-ltb H (trial .count) past in
+        record {
+          answer = by .answer ∙ refuse-taken _ 15 0 _ unsettled ∙ sym (neither .answer);
+          sums = by .sums ∙ zeros .told ∙ ap (sweepSums plan (filled 0 lost received)) made ∙ sym (neither .tells);
+          visits = by .visits ∙ zeros .visited ∙ ap (visitsMade plan (filled 0 lost received)) made ∙ sym (neither .visited);
+          leaves = by .leaves ∙ ap (λ (t : Bool). cond t (written received out) out) unsettled ∙ ap (written received) stands
+              ∙ written-again received swept output (zeros .kept ∙ length-filled 0 lost received) ∙ sym (neither .leaves);
+        }
 
     -- the trial with zeros is kept, or neither settles
-    pub twice-zeros : (count ≤ H → settlesAt plan (filled 1 lost received) H ≤ H
+    pub twice-zeros : (trial .count ≤ H → settlesAt plan (filled 1 lost received) H ≤ H
         → changedFrom plan received lost H 0 ≤ changedFrom plan received lost H 1)
-        → (H < count → H < settlesAt plan (filled 1 lost received) H)
-        → Answered plan received lost output H reply told visited after
+        → (H < trial .count → H < settlesAt plan (filled 1 lost received) H)
+        → Decodes plan received lost output H r after
     twice-zeros fewer late =
-        elim (decLe count H) [
+        elim (decLe (trial .count) H) [
           | yes l ↦
               kept-answers 0 zeros l stands by (decode-zeros plan received lost output H checked (omega (arith, zeros .counted)) (fewer l))
-          | no l ↦ let past : H < count = omega arith in twice-neither past (late past)
+          | no l ↦ let past : H < trial .count = omega arith in twice-neither past (late past)
         ]
 
     -- where no bit is lost, both trials are the same
-    pub twice-none : length lost ≡ 0 → Answered plan received lost output H reply told visited after
+    pub twice-none : length lost ≡ 0 → Decodes plan received lost output H r after
     twice-none none =
         let same = trials-same received lost none in
         let changed : changedFrom plan received lost H 1 ≡ changedFrom plan received lost H 0 =
@@ -304,11 +291,11 @@ module _ (plan : Plan) (received lost output : List ℕ) (H : ℕ) (checked : de
         twice-zeros (λ _ _. le-of-eq (sym changed))
         (λ past. omega (arith, ap (λ (block : List ℕ). settlesAt plan block H) same, zeros .counted))
 
-  pub twice-ones : {count visits visited : ℕ} {sums swept out told after : List ℕ} {reply : Reply}
-      → Tried plan (filled 1 lost received) H count sums visits swept → out ≡ written swept output
-      → ByTrial received H count sums visits out reply told visited after → count ≤ H
+  pub twice-ones : {trial : Settling} {swept out after : List ℕ} {r : Decoding}
+      → Tried plan (filled 1 lost received) H (trial .count) (trial .sums) (trial .visits) swept → out ≡ written swept output
+      → ByTrial received H trial out r after → trial .count ≤ H
       → (settlesAt plan (filled 0 lost received) H ≤ H → changedFrom plan received lost H 1 < changedFrom plan received lost H 0)
-      → Answered plan received lost output H reply told visited after
+      → Decodes plan received lost output H r after
   twice-ones ones e by l fewer =
       kept-answers 1 ones l e by (decode-ones plan received lost output H checked (omega (arith, ones .counted)) fewer)
 
@@ -332,15 +319,12 @@ module _ (plan : Plan) (received output : List ℕ) (H : ℕ) (checked : decodeC
       (λ j l. absurd (omega arith))
 
   pub copy-codeword : {after : List ℕ} → after ≡ written received output
-      → Answered plan received [] output H (done (0 ∷ [])) (replicate 64 0) 0 after
+      → Decodes plan received [] output H (record { outcome = Decoded.Settled 0; sums = replicate 64 0; visits = 0 }) after
   copy-codeword e =
-      let d = decode-settled plan received output H checked 0 codeword-settled (omega arith) in (
-        sym (d .answer),
-        (
-          sums-zero plan received ∙ sym (d .tells),
-          (
-            sym (visits-zero plan received) ∙ sym (d .visited),
-            e ∙ ap (λ (block : List ℕ). written block output) (sym (after-zero (sideOf plan) received)) ∙ sym (d .leaves),
-          ),
-        ),
-      )
+      let d = decode-settled plan received output H checked 0 codeword-settled (omega arith) in
+      record {
+        answer = sym (d .answer);
+        sums = sums-zero plan received ∙ sym (d .tells);
+        visits = sym (visits-zero plan received) ∙ sym (d .visited);
+        leaves = e ∙ ap (λ (block : List ℕ). written block output) (sym (after-zero (sideOf plan) received)) ∙ sym (d .leaves);
+      }

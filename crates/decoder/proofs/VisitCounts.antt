@@ -13,12 +13,12 @@ use borrow.Author.Tests.{lt-ltb, le-ltb}
 use Rattle.bits.specs.Sum.{sum, flag}
 use Rattle.bits.proofs.Sums.{sum-zero, sum-one-more, sum-append, sum-none, sum-mono, sum-const, count-le, flag-false}
 use Rattle.wiring.specs.Plan.{Plan, countOf, sideOf}
-use Rattle.wiring.specs.Block.{vertexWord}
+use Rattle.wiring.specs.Block.{vertexWord, heard}
 use Rattle.wiring.specs.declared.side.SideName.{SideName}
-use Rattle.decoder.specs.Sweep.{turn}
-use Rattle.decoder.specs.Decode.{sweptBlock, heard, visitsIn, visitsMade}
+use Rattle.sweeps.specs.Sweep.{turn}
+use Rattle.decoder.specs.Decode.{sweptBlock, visitsIn, visitsMade}
 use Rattle.decoder.specs.Turns.{addedVisits}
-use Rattle.decoder.proofs.Marks.{heard-none}
+use Rattle.wiring.proofs.VertexWords.{heard-none}
 
 module _ (plan : Plan) (block : List ℕ) where
   pub visits-zero : visitsMade plan block 0 ≡ 0

@@ -5,7 +5,9 @@
 --   numberIfDone reply number    the number where nothing is refused, and else 0
 --   decodeVisits ..              how many vertices were visited, which it tells beside: the decoding's, and 0 where it is stopped before it decodes
 --   decodeReply r                the paper's number, place and values for each case of the decoder's answer in the code
+--   Decodes plan received lost output H r after  what a function that decodes ensures: its whole answer r, and the output at exit
 use Prim.Native.Nat.{ℕ}
+use mathlib.Core.Path.{_≡_}
 use mathlib.Core.List.{List, [], _∷_}
 use mathlib.Core.Bool.{not}
 use lib.ListN.{length, replicate}
@@ -18,6 +20,7 @@ use Rattle.wiring.specs.Block.{blockBytes, blockCheck}
 use Rattle.spans.specs.Spans.{spansCheck}
 use Rattle.decoder.specs.Decode.{decoding}
 use Rattle.decoder.specs.declared.decoding.Decoded.{Decoded}
+use Rattle.decoder.specs.declared.decoding.Decoding.{Decoding}
 
 unfoldable pub decodeCheck : Plan → List ℕ → List ℕ → List ℕ → ℕ → Reply
 unfolding andThen refuseIf planCheck blockBytes spansCheck
@@ -54,3 +57,9 @@ decodeVisits plan received lost output H = numberIfDone (decodeCheck plan receiv
 abbrev pub decodeReply : Decoded → Reply
 decodeReply (Decoded.Settled count) = done (count ∷ [])
 decodeReply (Decoded.Refused r) = refused (r .number) (r .place)
+
+pub record Decodes (plan : Plan) (received lost output : List ℕ) (H : ℕ) (r : Decoding) (after : List ℕ) : Type 0 where
+  pub answer : decodeReply (r .outcome) ≡ decodeAnswer plan received lost output H
+  pub sums : r .sums ≡ decodeSums plan received lost output H
+  pub visits : r .visits ≡ decodeVisits plan received lost output H
+  pub leaves : after ≡ decodeOutput plan received lost output H

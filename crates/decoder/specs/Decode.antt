@@ -4,7 +4,6 @@
 --   settlesAt plan block H    the first count from 0 to H after which the block is a codeword; H + 1 where none is
 --   sweepSum plan block i     how many bits sweep i + 1 changes
 --   sweepSums plan block made  the sums of the first 64 sweeps, where so many sweeps are made: 0 for a sweep that is not made
---   heard side before after v  vertex v of a side has a bit in which two blocks differ: it reads another word
 --   visitsIn plan block i     how many vertices sweep i + 1 visits: in the first two sweeps the whole side, from the third on the vertices with a bit
 --                             that the sweep before changed
 --   visitsMade plan block made  how many are visited where so many sweeps are made
@@ -17,14 +16,14 @@
 use Prim.Native.Nat.{ℕ, _+_, _-_, min}
 use mathlib.Core.List.{List}
 use mathlib.Core.Bool.{Bool, not, cond, _&&_, _||_}
-use lib.Dec.{eqb, leb, ltb}
+use lib.Dec.{leb, ltb}
 use Rattle.bits.specs.Bit.{values, flips}
 use Rattle.bits.specs.Sum.{sum, flag}
 use Rattle.bits.specs.Search.{firstFailing}
 use Rattle.wiring.specs.Plan.{Plan, Side, sideOf, edgeCount}
-use Rattle.wiring.specs.Block.{vertexWord, isCodewordBlock}
+use Rattle.wiring.specs.Block.{heard, isCodewordBlock}
 use Rattle.spans.specs.Spans.{flipsOutside, filled}
-use Rattle.decoder.specs.Sweep.{turn, afterSweeps}
+use Rattle.sweeps.specs.Sweep.{turn, afterSweeps}
 
 abbrev pub sweptBlock : Plan → ℕ → List ℕ → List ℕ
 sweptBlock plan i block = afterSweeps (sideOf plan) i block
@@ -43,10 +42,6 @@ sweepSum plan block i = flips (edgeCount plan) (sweptBlock plan i block) (sweptB
 unfoldable pub sweepSums : Plan → List ℕ → ℕ → List ℕ
 unfolding values sweepSum
 sweepSums plan block made = values 64 (λ i. cond (ltb i made) (sweepSum plan block i) 0)
-
-unfoldable pub heard : Side → List ℕ → List ℕ → ℕ → Bool
-unfolding vertexWord
-heard side before after v = not (eqb (vertexWord side before v) (vertexWord side after v))
 
 unfoldable pub visitsIn : Plan → List ℕ → ℕ → ℕ
 unfolding sum flag heard turn afterSweeps

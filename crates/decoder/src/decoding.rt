@@ -1,35 +1,34 @@
 // The decoder: refusals 1 to 15 and 23 to 26.
-use crate::news::KEPT;
 use crate::settle::Opening;
 use crate::settle::SUMS;
 use crate::settle::Settling;
 use crate::settle::finish;
 use crate::settle::open;
-use crate::words::places_for;
+use finder::FINDER_WORDS;
 use inner_code::Refusal;
 use inner_code::refusal;
-use tables::FINDER_WORDS;
 use wiring::Checked;
 use wiring::Located;
 use wiring::MAX_EDGES;
 use wiring::SideCode;
-ghost use mathlib.Core.Bool.{true, false, cond};
-ghost use mathlib.Core.List.{List, [], _∷_};
+use words::KEPT;
+ghost use mathlib.Core.Bool.{true, false};
+ghost use mathlib.Core.List.{List, []};
 ghost use mathlib.Core.Path.{_≡_};
 ghost use Prim.Native.Nat.{ℕ, _/_, _%_, _≤_, _<_};
-ghost use lib.Dec.{ltb};
 ghost use lib.ListN.{length, take, replicate};
 ghost use Rattle.bits.specs.Bit.{written};
-ghost use Rattle.inner_code.specs.Reply.{done, refused, refuseIf};
-ghost use Rattle.wiring.specs.Plan.{planOf, edgeCount};
-ghost use Rattle.wiring.specs.Access.{bothCodes, locatedBy};
-ghost use Rattle.wiring.specs.Checking.{codeOf};
+ghost use Rattle.inner_code.specs.Reply.{done, refused};
+ghost use Rattle.wiring.specs.Plan.{Plan, planOf, planAt, edgeCount};
+ghost use Rattle.wiring.specs.Access.{bothCodes, AllReadable, locatedBy};
+ghost use Rattle.wiring.specs.Checking.{Permuted, codeOf};
 ghost use Rattle.wiring.specs.declared.side.SideName.{SideName};
 ghost use Rattle.spans.specs.Spans.{filled};
 ghost use Rattle.spans.specs.Walking.{flipsAround};
-ghost use Rattle.decoder.specs.Visiting.{Ready, PlacesNoted, Tried};
-ghost use Rattle.decoder.specs.Turns.{Opened, OpenedSome};
-ghost use Rattle.decoder.specs.Answer.{decodeCheck, decodeAnswer, decodeSums, decodeVisits, decodeOutput, decodeReply};
+ghost use Rattle.sweeps.specs.Sweeping.{Ready};
+ghost use Rattle.wiring.specs.Places.{PlacesNoted};
+ghost use Rattle.decoder.specs.Turns.{Tried, Opened, OpenedSome, ByTrial};
+ghost use Rattle.decoder.specs.Answer.{decodeCheck, decodeReply, Decodes};
 
 // The most sweeps that a call may allow.
 const MAX_LIMIT: usize = 4096;
@@ -72,10 +71,7 @@ pub fn decode(
     output: &mut [u8],
     limit: usize,
 ) -> Decoding
-    ensures { λ r. ⌜ decodeReply (r .outcome) ≡ decodeAnswer (planOf (now (left .entry)) (now (right .entry)) nl nr (now (wiring .entry))) (now (received .entry)) (now (lost .entry)) (now (output .entry)) limit ⌝ }
-    ensures { λ r. ⌜ r .sums ≡ decodeSums (planOf (now (left .entry)) (now (right .entry)) nl nr (now (wiring .entry))) (now (received .entry)) (now (lost .entry)) (now (output .entry)) limit ⌝ }
-    ensures { λ r. ⌜ r .visits ≡ decodeVisits (planOf (now (left .entry)) (now (right .entry)) nl nr (now (wiring .entry))) (now (received .entry)) (now (lost .entry)) (now (output .entry)) limit ⌝ }
-    ensures { λ _. ⌜ now (output .exit) ≡ decodeOutput (planOf (now (left .entry)) (now (right .entry)) nl nr (now (wiring .entry))) (now (received .entry)) (now (lost .entry)) (now (output .entry)) limit ⌝ }
+    ensures { λ r. ⌜ Decodes (planAt left right nl nr wiring) (now (received .entry)) (now (lost .entry)) (now (output .entry)) limit r (now (output .exit)) ⌝ }
 {
     let plan = wiring::check_plan(left, right, nl, nr, wiring);
     let checked = plan.checked;
@@ -117,9 +113,9 @@ pub fn decode(
     }
 }
 
-// Decodes once nothing stops the call, with the sides that the plan's check has told. One finder serves both sides where they have the same
-// sheet.
-fn decode_checked(
+// Decodes where nothing stops the call, with the sides that the plan's check has told, so that a caller with many blocks checks their plan once.
+// One finder serves both sides where they have the same sheet.
+pub fn decode_checked(
     left: &[u8],
     right: &[u8],
     nl: usize,
@@ -132,17 +128,16 @@ fn decode_checked(
     output: &mut [u8],
     limit: usize,
 ) -> Decoding
-    requires { ⌜ «left_code» ≡ codeOf (planOf (now left) (now right) nl nr (now wiring)) SideName.Left ⌝ }
-    requires { ⌜ «right_code» ≡ codeOf (planOf (now left) (now right) nl nr (now wiring)) SideName.Right ⌝ }
-    requires { ⌜ decodeCheck (planOf (now left) (now right) nl nr (now wiring)) (now received) (now lost) (now output) limit ≡ done [] ⌝ }
-    ensures { λ r. ⌜ decodeReply (r .outcome) ≡ decodeAnswer (planOf (now (left .entry)) (now (right .entry)) nl nr (now (wiring .entry))) (now (received .entry)) (now (lost .entry)) (now (output .entry)) limit ⌝ }
-    ensures { λ r. ⌜ r .sums ≡ decodeSums (planOf (now (left .entry)) (now (right .entry)) nl nr (now (wiring .entry))) (now (received .entry)) (now (lost .entry)) (now (output .entry)) limit ⌝ }
-    ensures { λ r. ⌜ r .visits ≡ decodeVisits (planOf (now (left .entry)) (now (right .entry)) nl nr (now (wiring .entry))) (now (received .entry)) (now (lost .entry)) (now (output .entry)) limit ⌝ }
-    ensures { λ _. ⌜ now (output .exit) ≡ decodeOutput (planOf (now (left .entry)) (now (right .entry)) nl nr (now (wiring .entry))) (now (received .entry)) (now (lost .entry)) (now (output .entry)) limit ⌝ }
+    ghost { Plan }
+    requires { λ plan. ⌜ planOf (now left) (now right) nl nr (now wiring) ≡ plan ⌝ }
+    requires { λ plan. ⌜ «left_code» ≡ codeOf plan SideName.Left ⌝ }
+    requires { λ plan. ⌜ «right_code» ≡ codeOf plan SideName.Right ⌝ }
+    requires { λ plan. ⌜ decodeCheck plan (now received) (now lost) (now output) limit ≡ done [] ⌝ }
+    ensures { λ plan r. ⌜ Decodes plan (now (received .entry)) (now (lost .entry)) (now (output .entry)) limit r (now (output .exit)) ⌝ }
 {
     if lost.len() == 0 {
         if is_codeword_at_sight(left_code, right_code, wiring, received) {
-            copy_front(received, output);
+            bits::copy_front(received, output);
             return Decoding {
                 outcome: Decoded::Settled(0),
                 sums: [0; SUMS],
@@ -152,7 +147,7 @@ fn decode_checked(
     }
     let left_basis = left_code.basis;
     let mut left_finder = [0u16; FINDER_WORDS];
-    tables::prepare_finder(left, left_code.k, &left_basis, &mut left_finder);
+    finder::prepare_finder(left, left_code.k, &left_basis, &mut left_finder);
     if bits::same(left, right) {
         let mut none = [0u16; 0];
         return decode_trials(
@@ -171,7 +166,7 @@ fn decode_checked(
     }
     let right_basis = right_code.basis;
     let mut right_finder = [0u16; FINDER_WORDS];
-    tables::prepare_finder(right, right_code.k, &right_basis, &mut right_finder);
+    finder::prepare_finder(right, right_code.k, &right_basis, &mut right_finder);
     decode_trials(
         left,
         right,
@@ -202,12 +197,11 @@ fn decode_trials(
     output: &mut [u8],
     limit: usize,
 ) -> Decoding
-    requires { ⌜ Ready (planOf (now left) (now right) nl nr (now wiring)) (now «left_finder») (now «right_finder») ⌝ }
-    requires { ⌜ decodeCheck (planOf (now left) (now right) nl nr (now wiring)) (now received) (now lost) (now output) limit ≡ done [] ⌝ }
-    ensures { λ r. ⌜ decodeReply (r .outcome) ≡ decodeAnswer (planOf (now (left .entry)) (now (right .entry)) nl nr (now (wiring .entry))) (now (received .entry)) (now (lost .entry)) (now (output .entry)) limit ⌝ }
-    ensures { λ r. ⌜ r .sums ≡ decodeSums (planOf (now (left .entry)) (now (right .entry)) nl nr (now (wiring .entry))) (now (received .entry)) (now (lost .entry)) (now (output .entry)) limit ⌝ }
-    ensures { λ r. ⌜ r .visits ≡ decodeVisits (planOf (now (left .entry)) (now (right .entry)) nl nr (now (wiring .entry))) (now (received .entry)) (now (lost .entry)) (now (output .entry)) limit ⌝ }
-    ensures { λ _. ⌜ now (output .exit) ≡ decodeOutput (planOf (now (left .entry)) (now (right .entry)) nl nr (now (wiring .entry))) (now (received .entry)) (now (lost .entry)) (now (output .entry)) limit ⌝ }
+    ghost { Plan }
+    requires { λ plan. ⌜ planOf (now left) (now right) nl nr (now wiring) ≡ plan ⌝ }
+    requires { λ plan. ⌜ Ready plan (now «left_finder») (now «right_finder») ⌝ }
+    requires { λ plan. ⌜ decodeCheck plan (now received) (now lost) (now output) limit ≡ done [] ⌝ }
+    ensures { λ plan r. ⌜ Decodes plan (now (received .entry)) (now (lost .entry)) (now (output .entry)) limit r (now (output .exit)) ⌝ }
 {
     let size = received.len();
     lay_out(received, lost, 0, output);
@@ -279,13 +273,12 @@ fn decode_on(
     kept: &mut [u16; KEPT],
     output: &mut [u8],
 ) -> Decoding
-    requires { ⌜ Ready (planOf (now left) (now right) nl nr (now wiring)) (now «left_finder») (now «right_finder») ⌝ }
-    requires { ⌜ decodeCheck (planOf (now left) (now right) nl nr (now wiring)) (now received) (now lost) (now output) (opening .limit) ≡ done [] ⌝ }
-    requires { ⌜ Opened (planOf (now left) (now right) nl nr (now wiring)) (filled 0 (now lost) (now received)) (opening .limit) opening (now kept) (take (length (now received)) (now output)) ⌝ }
-    ensures { λ r. ⌜ decodeReply (r .outcome) ≡ decodeAnswer (planOf (now (left .entry)) (now (right .entry)) nl nr (now (wiring .entry))) (now (received .entry)) (now (lost .entry)) (now (output .entry)) (opening .limit) ⌝ }
-    ensures { λ r. ⌜ r .sums ≡ decodeSums (planOf (now (left .entry)) (now (right .entry)) nl nr (now (wiring .entry))) (now (received .entry)) (now (lost .entry)) (now (output .entry)) (opening .limit) ⌝ }
-    ensures { λ r. ⌜ r .visits ≡ decodeVisits (planOf (now (left .entry)) (now (right .entry)) nl nr (now (wiring .entry))) (now (received .entry)) (now (lost .entry)) (now (output .entry)) (opening .limit) ⌝ }
-    ensures { λ _. ⌜ now (output .exit) ≡ decodeOutput (planOf (now (left .entry)) (now (right .entry)) nl nr (now (wiring .entry))) (now (received .entry)) (now (lost .entry)) (now (output .entry)) (opening .limit) ⌝ }
+    ghost { Plan }
+    requires { λ plan. ⌜ planOf (now left) (now right) nl nr (now wiring) ≡ plan ⌝ }
+    requires { λ plan. ⌜ Ready plan (now «left_finder») (now «right_finder») ⌝ }
+    requires { λ plan. ⌜ decodeCheck plan (now received) (now lost) (now output) (opening .limit) ≡ done [] ⌝ }
+    requires { λ plan. ⌜ Opened plan (filled 0 (now lost) (now received)) (opening .limit) opening (now kept) (take (length (now received)) (now output)) ⌝ }
+    ensures { λ plan r. ⌜ Decodes plan (now (received .entry)) (now (lost .entry)) (now (output .entry)) (opening .limit) r (now (output .exit)) ⌝ }
 {
     if wiring.len() <= 2 * FEW_EDGES {
         let mut places = [0u16; FEW_EDGES];
@@ -341,14 +334,13 @@ fn decode_placed(
     kept: &mut [u16; KEPT],
     output: &mut [u8],
 ) -> Decoding
-    requires { ⌜ Ready (planOf (now left) (now right) nl nr (now wiring)) (now «left_finder») (now «right_finder») ⌝ }
-    requires { ⌜ decodeCheck (planOf (now left) (now right) nl nr (now wiring)) (now received) (now lost) (now output) (opening .limit) ≡ done [] ⌝ }
-    requires { ⌜ edgeCount (planOf (now left) (now right) nl nr (now wiring)) ≤ length (now places) ⌝ }
-    requires { ⌜ Opened (planOf (now left) (now right) nl nr (now wiring)) (filled 0 (now lost) (now received)) (opening .limit) opening (now kept) (take (length (now received)) (now output)) ⌝ }
-    ensures { λ r. ⌜ decodeReply (r .outcome) ≡ decodeAnswer (planOf (now (left .entry)) (now (right .entry)) nl nr (now (wiring .entry))) (now (received .entry)) (now (lost .entry)) (now (output .entry)) (opening .limit) ⌝ }
-    ensures { λ r. ⌜ r .sums ≡ decodeSums (planOf (now (left .entry)) (now (right .entry)) nl nr (now (wiring .entry))) (now (received .entry)) (now (lost .entry)) (now (output .entry)) (opening .limit) ⌝ }
-    ensures { λ r. ⌜ r .visits ≡ decodeVisits (planOf (now (left .entry)) (now (right .entry)) nl nr (now (wiring .entry))) (now (received .entry)) (now (lost .entry)) (now (output .entry)) (opening .limit) ⌝ }
-    ensures { λ _. ⌜ now (output .exit) ≡ decodeOutput (planOf (now (left .entry)) (now (right .entry)) nl nr (now (wiring .entry))) (now (received .entry)) (now (lost .entry)) (now (output .entry)) (opening .limit) ⌝ }
+    ghost { Plan }
+    requires { λ plan. ⌜ planOf (now left) (now right) nl nr (now wiring) ≡ plan ⌝ }
+    requires { λ plan. ⌜ Ready plan (now «left_finder») (now «right_finder») ⌝ }
+    requires { λ plan. ⌜ decodeCheck plan (now received) (now lost) (now output) (opening .limit) ≡ done [] ⌝ }
+    requires { λ plan. ⌜ edgeCount plan ≤ length (now places) ⌝ }
+    requires { λ plan. ⌜ Opened plan (filled 0 (now lost) (now received)) (opening .limit) opening (now kept) (take (length (now received)) (now output)) ⌝ }
+    ensures { λ plan r. ⌜ Decodes plan (now (received .entry)) (now (lost .entry)) (now (output .entry)) (opening .limit) r (now (output .exit)) ⌝ }
 {
     let size = received.len();
     let limit = opening.limit;
@@ -412,7 +404,7 @@ fn decode_placed(
         ones.count,
         second.changed,
     ) {
-        copy_front(&other[0..size], output);
+        bits::copy_front(&other[0..size], output);
         return answer_by(limit, ones, received, output);
     }
     answer_by(limit, zeros, received, output)
@@ -443,20 +435,22 @@ fn finish_trial(
     kept: &mut [u16; KEPT],
     room: &mut [u8],
 ) -> Attempt
-    requires { ⌜ Ready (planOf (now left) (now right) nl nr (now wiring)) (now «left_finder») (now «right_finder») ⌝ }
-    requires { ⌜ length (now received) ≤ length (now room) ⌝ }
-    requires { ⌜ OpenedSome (planOf (now left) (now right) nl nr (now wiring)) opening (now kept) (take (length (now received)) (now room)) ⌝ }
-    requires { ⌜ edgeCount (planOf (now left) (now right) nl nr (now wiring)) ≤ length (now places) ⌝ }
-    requires { ⌜ (noted ≡ true → PlacesNoted (planOf (now left) (now right) nl nr (now wiring)) (now places)) ⌝ }
-    ensures { λ _. ⌜ Ready (planOf (now (left .entry)) (now (right .entry)) nl nr (now (wiring .entry))) (now («left_finder» .exit)) (now («right_finder» .exit)) ⌝ }
-    ensures { λ r. ⌜ (r .noted ≡ true → PlacesNoted (planOf (now (left .entry)) (now (right .entry)) nl nr (now (wiring .entry))) (now (places .exit))) ⌝ }
-    ensures { λ _. ⌜ now (room .exit) ≡ written (take (length (now (received .entry))) (now (room .exit))) (now (room .entry)) ⌝ }
-    ensures { λ r. ⌜ ((block : List ℕ) → Opened (planOf (now (left .entry)) (now (right .entry)) nl nr (now (wiring .entry))) block (opening .limit) opening (now (kept .entry)) (take (length (now (received .entry))) (now (room .entry)))
-        → Tried (planOf (now (left .entry)) (now (right .entry)) nl nr (now (wiring .entry))) block (opening .limit) (r .settling .count) (r .settling .sums) (r .settling .visits) (take (length (now (received .entry))) (now (room .exit)))) ⌝ }
-    ensures { λ r. ⌜ ((length (now (lost .entry)) ≡ 0 → ⊥) → r .changed ≡ flipsAround (length (now (wiring .entry)) / 2) (now (lost .entry)) (now (received .entry)) (take (length (now (received .entry))) (now (room .exit)))) ⌝ }
+    ghost { Plan }
+    requires { λ plan. ⌜ planOf (now left) (now right) nl nr (now wiring) ≡ plan ⌝ }
+    requires { λ plan. ⌜ Ready plan (now «left_finder») (now «right_finder») ⌝ }
+    requires { λ plan. ⌜ length (now received) ≤ length (now room) ⌝ }
+    requires { λ plan. ⌜ OpenedSome plan opening (now kept) (take (length (now received)) (now room)) ⌝ }
+    requires { λ plan. ⌜ edgeCount plan ≤ length (now places) ⌝ }
+    requires { λ plan. ⌜ (noted ≡ true → PlacesNoted (now wiring) (now places)) ⌝ }
+    ensures { λ plan _. ⌜ Ready plan (now («left_finder» .exit)) (now («right_finder» .exit)) ⌝ }
+    ensures { λ plan r. ⌜ (r .noted ≡ true → PlacesNoted (now (wiring .entry)) (now (places .exit))) ⌝ }
+    ensures { λ plan _. ⌜ now (room .exit) ≡ written (take (length (now (received .entry))) (now (room .exit))) (now (room .entry)) ⌝ }
+    ensures { λ plan r. ⌜ ((block : List ℕ) → Opened plan block (opening .limit) opening (now (kept .entry)) (take (length (now (received .entry))) (now (room .entry)))
+        → Tried plan block (opening .limit) (r .settling .count) (r .settling .sums) (r .settling .visits) (take (length (now (received .entry))) (now (room .exit)))) ⌝ }
+    ensures { λ plan r. ⌜ ((length (now (lost .entry)) ≡ 0 → ⊥) → r .changed ≡ flipsAround (length (now (wiring .entry)) / 2) (now (lost .entry)) (now (received .entry)) (take (length (now (received .entry))) (now (room .exit)))) ⌝ }
 {
     let size = received.len();
-    let noted = places_for(left, right, nl, nr, wiring, opening.ended, noted, places);
+    let noted = places_for(wiring, opening.ended, noted, places);
     let settling = finish(
         left,
         right,
@@ -483,6 +477,25 @@ fn finish_trial(
         changed,
         noted,
     }
+}
+
+// Notes the places of the edges where a third sweep needs them and they are not yet noted, and tells whether they are noted.
+fn places_for(wiring: &[u8], ended: bool, noted: bool, places: &mut [u16]) -> bool
+    requires { ⌜ Permuted (length (now wiring) / 2) (now wiring) ⌝ }
+    requires { ⌜ length (now wiring) / 2 ≤ 32768 ⌝ }
+    requires { ⌜ length (now wiring) / 2 ≤ length (now places) ⌝ }
+    requires { ⌜ (noted ≡ true → PlacesNoted (now wiring) (now places)) ⌝ }
+    ensures { λ r. ⌜ (r ≡ true → PlacesNoted (now (wiring .entry)) (now (places .exit))) ⌝ }
+    ensures { λ r. ⌜ (ended ≡ false → r ≡ true) ⌝ }
+{
+    if ended {
+        return noted;
+    }
+    if noted {
+        return true;
+    }
+    wiring::note_places(wiring, places);
+    true
 }
 
 // Whether the trial with zeros is kept whatever the one with ones gives: no bit is lost, or it settles and changes no bit outside the spans.
@@ -524,7 +537,7 @@ fn lay_out(received: &[u8], lost: &[u8], value: u64, room: &mut [u8])
     requires { ⌜ length (now received) ≤ length (now room) ⌝ }
     ensures { λ _. ⌜ now (room .exit) ≡ written (filled (value % 2) (now (lost .entry)) (now (received .entry))) (now (room .entry)) ⌝ }
 {
-    copy_front(received, room);
+    bits::copy_front(received, room);
     let size = received.len();
     spans::fill(lost, value, &mut room[0..size]);
 }
@@ -533,16 +546,13 @@ fn lay_out(received: &[u8], lost: &[u8], value: u64, room: &mut [u8])
 // the received block is put back there.
 fn answer_by(limit: usize, trial: Settling, received: &[u8], output: &mut [u8]) -> Decoding
     requires { ⌜ length (now received) ≤ length (now output) ⌝ }
-    ensures { λ r. ⌜ decodeReply (r .outcome) ≡ refuseIf (ltb limit (trial .count)) 15 0 (done (trial .count ∷ [])) ⌝ }
-    ensures { λ r. ⌜ r .sums ≡ trial .sums ⌝ }
-    ensures { λ r. ⌜ r .visits ≡ trial .visits ⌝ }
-    ensures { λ _. ⌜ now (output .exit) ≡ cond (ltb limit (trial .count)) (written (now (received .entry)) (now (output .entry))) (now (output .entry)) ⌝ }
+    ensures { λ r. ⌜ ByTrial (now (received .entry)) limit trial (now (output .entry)) r (now (output .exit)) ⌝ }
 {
     let count = trial.count;
     let sums = trial.sums;
     let visits = trial.visits;
     if limit < count {
-        copy_front(received, output);
+        bits::copy_front(received, output);
         return Decoding {
             outcome: Decoded::Refused(Refusal {
                 number: refusal::UNSETTLED,
@@ -575,6 +585,7 @@ fn refuse(refusal: Refusal) -> Decoding
 // Whether a block is found to be a codeword with no finder set up: one of zeros, which is a codeword of every plan, or one of few bits, by the
 // rows of each side. Of any other block nothing is said. Setting up a finder costs more than testing so few vertices by the rows.
 fn is_codeword_at_sight(left: SideCode, right: SideCode, wiring: &[u8], block: &[u8]) -> bool
+    requires { ⌜ AllReadable (bothCodes left right) (now wiring) (now block) ⌝ }
     ensures { λ r. ⌜ (r ≡ true → locatedBy (bothCodes left right) (now (wiring .entry)) (now (block .entry)) ≡ []) ⌝ }
 {
     if bits::is_zero(block) {
@@ -587,17 +598,5 @@ fn is_codeword_at_sight(left: SideCode, right: SideCode, wiring: &[u8], block: &
         Located::Nowhere => true,
         Located::At { side: _, vertex: _ } => false,
         Located::Refused(_) => false,
-    }
-}
-
-// Copies bytes to the front of a buffer.
-fn copy_front(from: &[u8], to: &mut [u8])
-    requires { ⌜ length (now from) ≤ length (now to) ⌝ }
-    ensures { λ _. ⌜ now (to .exit) ≡ written (now (from .entry)) (now (to .entry)) ⌝ }
-{
-    let mut i = 0;
-    while i < from.len() {
-        to[i] = from[i];
-        i += 1;
     }
 }

@@ -1,27 +1,27 @@
 // Sweeps in turn, up to the first count after which the block is a codeword. The first two sweeps go over all vertices; the later ones, over those
 // with news.
-use crate::news::KEPT;
-use crate::news::clear_marks;
-use crate::sweep::Tally;
-use crate::sweep::all_codewords;
-use crate::sweep::all_satisfied;
-use crate::sweep::other_side;
-use crate::sweep::sweep_first;
-use crate::sweep::sweep_right;
-use crate::sweep::sweep_turn;
-use crate::words::read_words;
+use sweeps::Tally;
+use sweeps::all_codewords;
+use sweeps::all_satisfied;
+use sweeps::sweep_first;
+use sweeps::sweep_right;
+use sweeps::sweep_turn;
 use wiring::SideName;
+use wiring::other_side;
+use words::KEPT;
+use words::clear_marks;
+use words::read_words;
 ghost use mathlib.Core.Bool.{false};
 ghost use mathlib.Core.List.{List, []};
 ghost use mathlib.Core.Path.{_≡_};
 ghost use Prim.Native.Nat.{ℕ, _+_, _≤_, _<_};
 ghost use lib.ListN.{length};
 ghost use Rattle.inner_code.specs.Reply.{done};
-ghost use Rattle.wiring.specs.Plan.{planOf, edgeCount};
+ghost use Rattle.wiring.specs.Plan.{Plan, planOf, edgeCount};
 ghost use Rattle.wiring.specs.Block.{blockCheck};
-ghost use Rattle.decoder.specs.Visiting.{Ready, PlacesNoted, Tried, noted};
-ghost use Rattle.decoder.specs.News.{BothSwept};
-ghost use Rattle.decoder.specs.Turns.{addedVisits, endedTo, Opened, OpenedSome};
+ghost use Rattle.sweeps.specs.Sweeping.{Ready, BothSwept};
+ghost use Rattle.wiring.specs.Places.{PlacesNoted};
+ghost use Rattle.decoder.specs.Turns.{Tried, noted, addedVisits, endedTo, Opened, OpenedSome};
 
 // The sweeps whose sums are told.
 pub const SUMS: usize = 64;
@@ -60,12 +60,14 @@ pub(crate) fn open(
     kept: &mut [u16; KEPT],
     block: &mut [u8],
 ) -> Opening
-    requires { ⌜ limit ≤ 4096 ⌝ }
-    requires { ⌜ length (now kept) ≡ 2304 ⌝ }
-    requires { ⌜ Ready (planOf (now left) (now right) nl nr (now wiring)) (now «left_finder») (now «right_finder») ⌝ }
-    requires { ⌜ blockCheck (edgeCount (planOf (now left) (now right) nl nr (now wiring))) (now block) ≡ done [] ⌝ }
-    ensures { λ _. ⌜ Ready (planOf (now (left .entry)) (now (right .entry)) nl nr (now (wiring .entry))) (now («left_finder» .exit)) (now («right_finder» .exit)) ⌝ }
-    ensures { λ r. ⌜ Opened (planOf (now (left .entry)) (now (right .entry)) nl nr (now (wiring .entry))) (now (block .entry)) limit r (now (kept .exit)) (now (block .exit)) ⌝ }
+    ghost { Plan }
+    requires { λ plan. ⌜ planOf (now left) (now right) nl nr (now wiring) ≡ plan ⌝ }
+    requires { λ plan. ⌜ limit ≤ 4096 ⌝ }
+    requires { λ plan. ⌜ length (now kept) ≡ 2304 ⌝ }
+    requires { λ plan. ⌜ Ready plan (now «left_finder») (now «right_finder») ⌝ }
+    requires { λ plan. ⌜ blockCheck (edgeCount plan) (now block) ≡ done [] ⌝ }
+    ensures { λ plan _. ⌜ Ready plan (now («left_finder» .exit)) (now («right_finder» .exit)) ⌝ }
+    ensures { λ plan r. ⌜ Opened plan (now (block .entry)) limit r (now (kept .exit)) (now (block .exit)) ⌝ }
 {
     let firsts = sweep_firsts(
         left,
@@ -101,7 +103,7 @@ pub(crate) fn open(
         };
     }
     if second.ties == 0 {
-        if all_codewords(left, nl, wiring, left_finder, block) {
+        if all_codewords(left, nl, left_finder, block) {
             return Opening {
                 limit,
                 ended: true,
@@ -169,11 +171,13 @@ fn sweep_firsts(
     kept: &mut [u16; KEPT],
     block: &mut [u8],
 ) -> Tallies
-    requires { ⌜ Ready (planOf (now left) (now right) nl nr (now wiring)) (now «left_finder») (now «right_finder») ⌝ }
-    requires { ⌜ blockCheck (edgeCount (planOf (now left) (now right) nl nr (now wiring))) (now block) ≡ done [] ⌝ }
-    requires { ⌜ length (now kept) ≡ 2304 ⌝ }
-    ensures { λ r. ⌜ BothSwept (planOf (now (left .entry)) (now (right .entry)) nl nr (now (wiring .entry))) (now (block .entry)) (r .left) (r .right) (now (block .exit)) (now (kept .exit)) ⌝ }
-    ensures { λ _. ⌜ Ready (planOf (now (left .entry)) (now (right .entry)) nl nr (now (wiring .entry))) (now («left_finder» .exit)) (now («right_finder» .exit)) ⌝ }
+    ghost { Plan }
+    requires { λ plan. ⌜ planOf (now left) (now right) nl nr (now wiring) ≡ plan ⌝ }
+    requires { λ plan. ⌜ Ready plan (now «left_finder») (now «right_finder») ⌝ }
+    requires { λ plan. ⌜ blockCheck (edgeCount plan) (now block) ≡ done [] ⌝ }
+    requires { λ plan. ⌜ length (now kept) ≡ 2304 ⌝ }
+    ensures { λ plan r. ⌜ BothSwept plan (now (block .entry)) (r .left) (r .right) (now (block .exit)) (now (kept .exit)) ⌝ }
+    ensures { λ plan _. ⌜ Ready plan (now («left_finder» .exit)) (now («right_finder» .exit)) ⌝ }
 {
     let first = sweep_first(left, nl, wiring, left_finder, block);
     clear_marks(kept);
@@ -211,12 +215,14 @@ pub(crate) fn finish(
     kept: &mut [u16; KEPT],
     block: &mut [u8],
 ) -> Settling
-    requires { ⌜ Ready (planOf (now left) (now right) nl nr (now wiring)) (now «left_finder») (now «right_finder») ⌝ }
-    requires { ⌜ OpenedSome (planOf (now left) (now right) nl nr (now wiring)) opening (now kept) (now block) ⌝ }
-    requires { ⌜ (opening .ended ≡ false → PlacesNoted (planOf (now left) (now right) nl nr (now wiring)) (now places)) ⌝ }
-    ensures { λ _. ⌜ Ready (planOf (now (left .entry)) (now (right .entry)) nl nr (now (wiring .entry))) (now («left_finder» .exit)) (now («right_finder» .exit)) ⌝ }
-    ensures { λ r. ⌜ ((received : List ℕ) → Opened (planOf (now (left .entry)) (now (right .entry)) nl nr (now (wiring .entry))) received (opening .limit) opening (now (kept .entry)) (now (block .entry))
-        → Tried (planOf (now (left .entry)) (now (right .entry)) nl nr (now (wiring .entry))) received (opening .limit) (r .count) (r .sums) (r .visits) (now (block .exit))) ⌝ }
+    ghost { Plan }
+    requires { λ plan. ⌜ planOf (now left) (now right) nl nr (now wiring) ≡ plan ⌝ }
+    requires { λ plan. ⌜ Ready plan (now «left_finder») (now «right_finder») ⌝ }
+    requires { λ plan. ⌜ OpenedSome plan opening (now kept) (now block) ⌝ }
+    requires { λ plan. ⌜ (opening .ended ≡ false → PlacesNoted (now wiring) (now places)) ⌝ }
+    ensures { λ plan _. ⌜ Ready plan (now («left_finder» .exit)) (now («right_finder» .exit)) ⌝ }
+    ensures { λ plan r. ⌜ ((received : List ℕ) → Opened plan received (opening .limit) opening (now (kept .entry)) (now (block .entry))
+        → Tried plan received (opening .limit) (r .count) (r .sums) (r .visits) (now (block .exit))) ⌝ }
 {
     let limit = opening.limit;
     let mut sums = opening.sums;

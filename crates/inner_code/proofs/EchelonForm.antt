@@ -9,7 +9,7 @@ use mathlib.Core.Bool.{Bool, true, false, true≢false}
 use mathlib.Core.List.{List}
 use Prim.Native.Nat.{ℕ, zero, suc, _+_, _*_, _/_, _%_, _^_, _≤_, _<_, min}
 use native.Mathlib.Nat.{min-eq-left, min-eq-right, min-le-left, min-le-right, min-zero, zero-min, zero-mul, one-mul, div-eq-of-lt-le, pow-suc}
-use native.Mathlib.Nat.{eq-zero-or-pos, le-suc-iff, suc-inj, not-suc-le-zero, le-step, le-of-lt, lt-suc-self, le-refl, ne-of-lt}
+use native.Mathlib.Nat.{eq-zero-or-pos, le-suc-iff, suc-inj, not-suc-le-zero, le-step, le-of-lt, le-trans, lt-suc-self, le-refl, ne-of-lt}
 use native.Mathlib.Nat.{le-dest, mul-comm}
 use native.Mathlib.Decide.{decLt}
 use native.Mathlib.Numerals.{add-one}
@@ -97,6 +97,16 @@ unfolding reduceBy
 reduceBy-either b w = min-either w (bitXor w b)
 
 -- ---- all steps
+
+-- a further row leaves no more
+pub reduced-further : (row : ℕ → ℕ) (k w : ℕ) → reduced row (suc k) w ≤ reduced row k w
+unfolding reduced reduceBy
+reduced-further row k w = min-le-left (reduced row k w) _
+
+pub reduced-le : (row : ℕ → ℕ) (k w : ℕ) → reduced row k w ≤ w
+unfolding reduced
+reduced-le row zero w = le-refl w
+reduced-le row (suc k) w = le-trans (reduced-further row k w) (reduced-le row k w)
 
 pub reduced-xor : (row : ℕ → ℕ) (k x y : ℕ) → reduced row k (bitXor x y) ≡ bitXor (reduced row k x) (reduced row k y)
 unfolding reduced

@@ -31,8 +31,7 @@ use Rattle.inner_code.specs.Answer.{nearestAnswer}
 use Rattle.inner_code.specs.Sheet.{degree, rowCount, rowOf, sheetCheck}
 use Rattle.inner_code.proofs.Replies.{andThen-refused, andThen-passed, refuse-taken, refuse-passed}
 use Rattle.bits.specs.Search.{least}
-use Rattle.inner_code.specs.Code.{combination, isCodeword, key, noKey, leastPattern, tied, nearestPattern, nearestWord}
-use Rattle.inner_code.specs.Code.{bitsChanged, distance}
+use Rattle.inner_code.specs.Code.{combination, isCodeword, key, noKey, leastPattern, tied, nearestPattern, nearestWord, bitsChanged, distance}
 use Rattle.inner_code.specs.declared.nearest.Step.{Step}
 use Rattle.inner_code.specs.Reduction.{leastKey, backKey, leastBack, sole, searched, stepTo}
 use Rattle.bits.proofs.Tests.{and-both}

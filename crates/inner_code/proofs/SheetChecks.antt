@@ -299,3 +299,13 @@ pub turned-back : {sheet before after : List ℕ} {r : Sheet} {f : Refusal} → 
     → sheetCheck sheet ≡ refused (f .number) (f .place)
 unfolding sheetAnswer
 turned-back {sheet} c e = andThen-back (sheetCheck sheet) _ _ _ (sym (c .answer) ∙ ap sheetReply e)
+
+-- ---- a sheet's d and k are its first two bytes
+
+pub degree-byte : (sheet : List ℕ) → getD sheet 0 0 ≡ degree sheet
+unfolding degree
+degree-byte sheet = refl
+
+pub count-byte : (sheet : List ℕ) → getD sheet 1 0 ≡ rowCount sheet
+unfolding rowCount
+count-byte sheet = refl

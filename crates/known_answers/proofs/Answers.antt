@@ -20,18 +20,18 @@ use Rattle.inner_code.specs.Reduction.{reduceBy, reduced}
 use Rattle.tables.specs.Classes.{smallestOf, isSmallest, classOf, tieMark, entryOf, entriesBelow}
 use Rattle.tables.specs.Answer.{tableBytes, tableOf, buildAnswer, buildOutput, patternIn, lookUpAnswer}
 use Rattle.tables.proofs.Numbers.{smallest-test}
-use Rattle.wiring.specs.Plan.{edgeOf, sideBit}
+use Rattle.wiring.specs.Plan.{edgeOf, sideBit, other}
 use Rattle.wiring.specs.Wiring.{entryCheck, entriesCheck, countFaulty, wiringCheck, planCheck, edgesBetween}
-use Rattle.wiring.specs.Block.{blockBytes, bitsCheck, vertexWord, scattered, satisfied, firstUnsatisfied, isCodewordBlock}
+use Rattle.wiring.specs.Block.{blockBytes, bitsCheck, vertexWord, scattered, satisfied, firstUnsatisfied, isCodewordBlock, heard}
 use Rattle.wiring.specs.Square.{entryBytes, squareWiring}
 use Rattle.spans.specs.Spans.{pairCount, startOf, lengthOf, endOf, endBefore, spanCheck, pairsCheck, spansCheck, isLost, flipsOutside, filledBelow, filled}
-use Rattle.decoder.specs.Sweep.{visited, sweep, other, turn, afterSweeps}
-use Rattle.decoder.specs.Decode.{settlesAt, sweepSum, sweepSums, heard, visitsIn, visitsMade, trial, keepsOnes, decoding}
+use Rattle.sweeps.specs.Sweep.{visited, sweep, turn, afterSweeps}
+use Rattle.decoder.specs.Decode.{settlesAt, sweepSum, sweepSums, visitsIn, visitsMade, trial, keepsOnes, decoding}
 use Rattle.decoder.specs.Answer.{decodeCheck, decodeAnswer, decodeSums, numberIfDone, decodeVisits, decodeOutput}
 use Rattle.unsatisfied.specs.Count.{unsatisfiedAt, unsatisfiedCount, countChange}
 use Rattle.panel.specs.State.{stateBytes, countIn, sweepsIn, blockIn, stateOf, loadedState, movedCount, sweptState, setTo, setState}
 use Rattle.panel.specs.Answer.{stateCheck, told, loadCheck, loadAnswer, loadOutput, sweepCheck, sweepAnswer, sweepOutput, setCheck, setAnswer, setOutput}
-use Rattle.radius.specs.Spread.{meeting, unevenness, spread}
+use Rattle.meetings.specs.Spread.{meeting, unevenness, spread}
 use Rattle.radius.specs.Margin.{slack, stepCovered, nextBound, bound, chainEnd, sweepsNamed}
 use Rattle.radius.specs.Answer.{marginAnswer}
 use Rattle.messages.specs.Position.{bitsPut, blockOf, codewordNumber, isPosition, positionsBefore}

@@ -16,7 +16,7 @@ use Rattle.inner_code.specs.Reply.{done}
 use Rattle.wiring.specs.Plan.{Plan, edgeCount, sideOf}
 use Rattle.decoder.specs.Decode.{sweptBlock, sweepSum}
 use Rattle.decoder.specs.Answer.{decodeAnswer, decodeSums, decodeOutput}
-use Rattle.decoder.proofs.Sweeping.{after-zero, length-after}
+use Rattle.sweeps.proofs.Sweeping.{after-zero, length-after}
 use Rattle.decoder.proofs.Settling.{decode-settled, decode-means}
 use Rattle.decoder.proofs.SweepSums.{sums-made}
 use Rattle.report.specs.Answer.{reportAnswer, reportList}

@@ -21,11 +21,11 @@ use Rattle.wiring.specs.Wiring.{entryCheck, entriesCheck, countFaulty, wiringCh
 use Rattle.wiring.specs.Block.{blockBytes, bitsCheck, blockCheck, vertexWord, scattered, satisfied, firstUnsatisfied, isCodewordBlock}
 use Rattle.wiring.specs.declared.side.SideName.{SideName}
 use Rattle.spans.proofs.Checking.{spans-none}
-use Rattle.decoder.specs.Sweep.{visited, sweep, afterSweeps}
+use Rattle.sweeps.specs.Sweep.{visited, sweep, afterSweeps}
 use Rattle.decoder.specs.Decode.{sweptBlock, settledAfter, sweepSum, sweepSums}
 use Rattle.decoder.specs.Answer.{decodeAnswer, decodeSums, decodeOutput}
 use Rattle.decoder.proofs.Settling.{settles-none, check-passed, decode-unsettled}
-use Rattle.decoder.proofs.Sweeping.{after-still}
+use Rattle.sweeps.proofs.Sweeping.{after-still}
 use Rattle.decoder.proofs.SweepSums.{sums-zero, noted-still}
 use Rattle.known_answers.specs.Table.{pairPlan}
 

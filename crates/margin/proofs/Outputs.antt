@@ -2,9 +2,9 @@
 -- The notions:
 --   planPart input                         the plan in an input
 --   numbersAnswer, marginOf, beyond        of radius: the first line, the sweeps in the line of F, the first F that is not covered
--- and of radius, for numbers that may be out of the range of plans:
---   namedInRange p F, beyondInRange p
--- `first-` laws speak of the first line, `line-` laws of the lines of covered F (-covered, -sweeps), `last-` laws of the last line.
+--   InRange p, measuresBy p                of radius: nine numbers in the range that has every plan's, and the measures that they give
+-- `first-` laws speak of the first line, `numbers-` laws of its numbers, `line-` laws of the lines of covered F (-covered, -sweeps), `last-`
+-- laws of the last line.
 use Prim.Native.Nat.{ℕ, _-_, _<_}
 use mathlib.Core.List.{List, []}
 use mathlib.Core.Path.{_≡_, refl, ap, _∙_}
@@ -14,14 +14,14 @@ use lib.Seq.{take-all}
 use Rattle.inner_code.specs.Reply.{done}
 use Rattle.wiring.specs.Plan.{planOf}
 use Rattle.wiring.specs.Wiring.{planCheck}
-use Rattle.radius.specs.Margin.{beyond}
+use Rattle.radius.specs.Margin.{Measures, sweepsNamed, beyond}
 use Rattle.radius.specs.Answer.{measuresOf, marginOf, numbersOf, inOrder, numbersAnswer}
-use Rattle.radius.specs.Ranges.{namedInRange, beyondInRange}
+use Rattle.radius.specs.Ranges.{measuresBy, InRange}
 use Rattle.radius.specs.declared.numbers.Numbers.{Numbers}
 use Rattle.radius.specs.declared.numbers.PlanNumbers.{PlanNumbers}
 use Rattle.radius.proofs.PlanNumbers.{numbers-known}
-use Rattle.radius.proofs.PlanRanges.{named-plan}
-use Rattle.radius.proofs.Uncovered.{beyond-covers, beyond-plan}
+use Rattle.radius.proofs.PlanRanges.{measures-plan, plan-within}
+use Rattle.radius.proofs.Uncovered.{beyond-covers}
 use Rattle.margin.specs.Input.{inputParts}
 use Rattle.margin.specs.declared.margin_input.MarginInput.{MarginInput}
 use Rattle.margin.specs.Output.{planPart}
@@ -43,8 +43,15 @@ module _ (input : List ℕ) (p : PlanNumbers) (numbers : done (inOrder p) ≡ nu
   known : (planCheck (planPart input) ≡ done []) × (p ≡ numbersOf (planPart input))
   known = numbers-known _ (Numbers.Plan p) p numbers refl
 
-  pub line-sweeps : (F sweeps : ℕ) → sweeps ≡ namedInRange p F → sweeps ≡ marginOf (planPart input) F
-  line-sweeps F sweeps e = e ∙ ap (λ (q : PlanNumbers). namedInRange q F) (known .1) ∙ named-plan (planPart input) (known .0) F
+  pub numbers-within : InRange p
+  numbers-within = rw (known .1) (plan-within _ (known .0))
 
-  pub last-is : (F : ℕ) → F ≡ beyondInRange p → F ≡ beyond (measuresOf (planPart input))
-  last-is F e = e ∙ ap beyondInRange (known .1) ∙ beyond-plan (planPart input) (known .0)
+  -- the numbers give the measures of the plan in the input
+  measures : measuresBy p ≡ measuresOf (planPart input)
+  measures = ap measuresBy (known .1) ∙ measures-plan (planPart input)
+
+  pub line-sweeps : (F sweeps : ℕ) → sweeps ≡ sweepsNamed (measuresBy p) F → sweeps ≡ marginOf (planPart input) F
+  line-sweeps F sweeps e = e ∙ ap (λ (m : Measures). sweepsNamed m F) measures
+
+  pub last-is : (F : ℕ) → F ≡ beyond (measuresBy p) → F ≡ beyond (measuresOf (planPart input))
+  last-is F e = e ∙ ap beyond measures

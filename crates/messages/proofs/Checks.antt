@@ -16,8 +16,8 @@ use mathlib.Core.Bool.{true}
 use mathlib.Core.List.{List}
 use mathlib.Core.Logic.{_↔_}
 use mathlib.Core.Path.{_≡_, refl, sym, ap, ap₂, _∙_}
-use native.Mathlib.Nat.{mul-assoc, mul-one, mul-zero, pow-suc, div-lt-iff-lt-mul, min-le-left}
-use native.Mathlib.Nat.{lt-of-le-of-lt, not-suc-le-zero, le-refl, lt-suc-self, le-step, le-trans}
+use native.Mathlib.Nat.{mul-assoc, mul-one, mul-zero, pow-suc, div-lt-iff-lt-mul}
+use native.Mathlib.Nat.{lt-of-le-of-lt, not-suc-le-zero, lt-suc-self, le-step}
 use native.Mathlib.Decide.{decLe}
 use native.Mathlib.Omega.{arith}
 use lib.Arith.{digits-lt, digits-div, digits-mod}
@@ -32,8 +32,8 @@ use Rattle.bits.proofs.Xor.{digit-lt, digit-zero, digit-ext, xor-digit, xor-pow
 use Rattle.bits.proofs.Bytes.{bitAt-lt}
 use Rattle.inner_code.specs.Reply.{done}
 use Rattle.inner_code.specs.Code.{isCodeword}
-use Rattle.inner_code.specs.Reduction.{reduceBy, reduced}
-use Rattle.inner_code.proofs.EchelonForm.{reduced-xor, reduced-zero, codeword-reduced, reduced-codeword}
+use Rattle.inner_code.specs.Reduction.{reduced}
+use Rattle.inner_code.proofs.EchelonForm.{reduced-le, reduced-xor, reduced-zero, codeword-reduced, reduced-codeword}
 use Rattle.wiring.specs.Plan.{Plan, Side, edgeCount, left, right, sideOf}
 use Rattle.wiring.specs.Wiring.{planCheck}
 use Rattle.wiring.specs.Block.{vertexWord, satisfied, isCodewordBlock}
@@ -74,12 +74,6 @@ additive-digit (suc d) T add none f bits j =
     lowest zero l = ap (λ (x : ℕ). digit x j) none ∙ digit-zero j ∙ sym (mul-zero _)
     lowest (suc zero) l = let first : suc d - 1 - d ≡ 0 = omega arith in rw first (sym (mul-one _))
     lowest (suc (suc b)) l = absurd (omega arith)
-
--- a reduction makes no word larger
-reduced-le : (row : ℕ → ℕ) (k w : ℕ) → reduced row k w ≤ w
-unfolding reduced reduceBy
-reduced-le row zero w = le-refl w
-reduced-le row (suc k) w = le-trans (min-le-left _ _) (reduced-le row k w)
 
 -- ---- a sum of which some terms count
 

@@ -27,7 +27,7 @@ use lib.Seq.{getD-set-same, getD-set-other}
 use Rattle.bits.specs.Bit.{digit, bitAt}
 use Rattle.bits.specs.Sum.{sum, flag}
 use Rattle.bits.proofs.Sums.{sum-zero, sum-one-more, sum-ext, sum-none, sum-append, sum-blocks, sum-mono, sum-const, flag-true, flag-false}
-use Rattle.bits.proofs.Xor.{digit-pow-same, digit-pow-other, xor-digit}
+use Rattle.bits.proofs.Xor.{digit-pow-same, digit-pow-other, xor-digit, digits-product}
 use Rattle.bits.proofs.Bytes.{bitAt-lt}
 use Rattle.bits.proofs.Words.{ones-sum}
 use Rattle.wiring.specs.Plan.{Plan, edgeCount}
@@ -40,7 +40,7 @@ use Rattle.messages.proofs.Ranks.{rank}
 use Rattle.messages.proofs.Positions.{final-reduced, positions-live}
 use Rattle.messages.proofs.Encoding.{encoded-digit}
 use Rattle.messages.proofs.StoredRows.{rowBit-lt, rows-empty}
-use Rattle.messages.proofs.Pivots.{dropped-none, term-lt}
+use Rattle.messages.proofs.Pivots.{dropped-none}
 
 -- ---- the count
 
@@ -70,7 +70,7 @@ module _ (p : ℕ) (low : p < 512) (columns message chosen : List ℕ) (sized : 
   word = bitXor (getD chosen (p / 64) 0) (bit * 2 ^ (p % 64) % 2 ^ 64)
 
   bit-lt : bit < 2
-  bit-lt = rw is (term-lt _ _ (rowBit-lt columns p p) (bitAt-lt message _))
+  bit-lt = rw is (digits-product _ _ (rowBit-lt columns p p) (bitAt-lt message _))
 
   shifted : bit * 2 ^ (p % 64) % 2 ^ 64 ≡ bit * 2 ^ (p % 64)
   shifted = mod-eq-of-lt (lt-of-lt-of-le (shl-lt 1 (p % 64) bit-lt) (pow-mono {i = 1 + p % 64} {j = 64} (omega arith)))

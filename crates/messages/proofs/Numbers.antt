@@ -17,12 +17,13 @@ use native.Mathlib.Numerals.{add-one}
 use native.Mathlib.Omega.{arith}
 use lib.Pow.{pow-mono}
 use lib.ListN.{length, getD, replicate, length-replicate}
+use Rattle.wiring.proofs.Blocks.{bytes-hold, block-back, block-ext}
 use Rattle.bits.specs.Bit.{digit, word, bitAt, withBit}
+use Rattle.bits.proofs.Lists.{zeros-at}
 use Rattle.bits.proofs.Xor.{digit-lt, digit-zero, digit-high, digit-ext}
 use Rattle.bits.proofs.Words.{word-lt, word-digit}
 use Rattle.bits.proofs.Bytes.{bitAt-lt, bitAt-same, bitAt-other, length-withBit, withBit-byte}
 use Rattle.wiring.specs.Block.{blockBytes, Block}
-use Rattle.wiring.proofs.Blocks.{block-back, block-ext}
 use Rattle.messages.specs.Position.{bitsPut, blockOf}
 use Rattle.messages.proofs.Elimination.{Bits, LastOne}
 
@@ -119,18 +120,9 @@ bitsPut-bit x (suc m) block fits i l =
     bitAt-other (bitsPut x m block) m i (digit x m) (λ q. ne-of-lt b (sym q)) (digit-lt x m) ∙ bitsPut-bit x m block (le-of-lt fits) i b)
     (eq-or-lt-of-le (le-of-suc-le-suc l))
 
-pub zeros-at : (n k : ℕ) → _≡_ {A = ℕ} (getD (replicate n 0) k 0) 0
-zeros-at zero k = refl
-zeros-at (suc n) zero = refl
-zeros-at (suc n) (suc k) = zeros-at n k
-
 pub zeros-bit : (n i : ℕ) → bitAt (replicate n 0) i ≡ 0
 unfolding bitAt
 zeros-bit n i = ap (λ (x : ℕ). digit x (7 - i % 8)) (zeros-at n (i / 8)) ∙ digit-zero (7 - i % 8)
-
-pub bytes-fit : (N : ℕ) → N ≤ blockBytes N * 8
-unfolding blockBytes
-bytes-fit N = omega arith
 
 module _ (N x : ℕ) where
   pub blockOf-is : blockOf N x ≡ bitsPut x N (replicate (blockBytes N) 0)
@@ -147,7 +139,7 @@ module _ (N x : ℕ) where
 
   pub blockOf-bit : (i : ℕ) → i < N → bitAt (blockOf N x) i ≡ digit x i
   unfolding blockOf
-  blockOf-bit = bitsPut-bit x N _ (rw length-replicate (bytes-fit N))
+  blockOf-bit = bitsPut-bit x N _ (rw length-replicate (bytes-hold N))
 
   blockOf-past : (i : ℕ) → N ≤ i → bitAt (blockOf N x) i ≡ 0
   unfolding blockOf

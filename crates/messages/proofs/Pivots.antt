@@ -31,10 +31,10 @@ use lib.Dec.{eqb}
 use lib.ListN.{getD}
 use lib.Pow.{pow-mono, shr-lt}
 use borrow.Author.Tests.{ltb-false, eqb-true, eq-eqb, not-true}
+use Rattle.bits.proofs.Xor.{digits-product, digit-lt, digit-zero}
 use Rattle.bits.specs.Bit.{digit}
 use Rattle.bits.specs.Sum.{flag}
 use Rattle.bits.proofs.Sums.{flag-true, flag-false, flag-apart}
-use Rattle.bits.proofs.Xor.{digit-lt, digit-zero}
 use Rattle.bits.proofs.Windows.{digit-low, digit-shifted}
 use Rattle.inner_code.specs.Reduction.{reduced}
 use Rattle.wiring.specs.Plan.{Side, sideBit}
@@ -43,8 +43,7 @@ use Rattle.wiring.specs.declared.side.SideName.{SideName}
 use Rattle.wiring.proofs.Permutation.{side-lt, fitted-vertex}
 use Rattle.bits.proofs.Searches.{first-le, first-zero, first-at, first-all, first-all-each, first-ext}
 use Rattle.messages.specs.Elimination.{parity, State, start, hit, pivot, stepped, after, mask, sideCheck}
-use Rattle.messages.specs.Columns.{rowBit, noRows, ColumnPut, Uses, Stores, checkOf, Within, checkValue, FailSet}
-use Rattle.messages.specs.Columns.{lowestRow, Spread, CheckMade}
+use Rattle.messages.specs.Columns.{rowBit, noRows, ColumnPut, Uses, Stores, checkOf, Within, checkValue, FailSet, lowestRow, Spread, CheckMade}
 use Rattle.messages.specs.declared.solver.Check.{Check}
 use Rattle.messages.proofs.Elimination.{parity-zero, parity-one-more, parity-ext, parity-none, hit-live, hit-product, pivot-hit}
 use Rattle.messages.proofs.Elimination.{stepped-live-is, stepped-row, stepped-missed, after-one-more, after-reduced}
@@ -111,12 +110,6 @@ lowest-empty = first-all 512 _ (λ q l. ap (λ (b : ℕ). not (eqb b 1)) (rows-e
 
 -- ---- the rows that fail a check
 
--- a bit that counts or does not
-pub term-lt : (a x : ℕ) → a < 2 → x < 2 → a * x < 2
-term-lt zero x h l = omega arith
-term-lt (suc zero) x h l = omega arith
-term-lt (suc (suc a)) x h l = absurd (omega arith)
-
 module _ (check : Check) (wiring residues columns : List ℕ) where
   pub hits-none : FailSet 0 check wiring residues columns noRows
   hits-none = record { bits = λ p l. rows-empty p ∙ sym (parity-zero _ _) }
@@ -132,7 +125,7 @@ module _ (check : Check) (wiring residues columns : List ℕ) where
     one-more : (p : ℕ) → p < 512
         → parity (i + 1) counts (λ x. rowBit columns p (bit x)) ≡ bitXor (rowBit hits p 0) (counts i * rowBit columns p (bit i))
     one-more p l =
-        parity-one-more i _ _ (term-lt _ _ (digit-lt _ (check .digit)) (rowBit-lt columns p _))
+        parity-one-more i _ _ (digits-product _ _ (digit-lt _ (check .digit)) (rowBit-lt columns p _))
         ∙ ap (λ (x : ℕ). bitXor x (counts i * rowBit columns p (bit i))) (sym (so-far .bits p l))
 
     pub hits-put : (e : ℕ) (left : List ℕ) → counts i ≡ 1 → e ≡ bit i → ColumnPut columns e hits 0 left

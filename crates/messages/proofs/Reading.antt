@@ -23,12 +23,12 @@ use Rattle.inner_code.specs.Reply.{done}
 use Rattle.wiring.specs.Plan.{Plan, edgeCount, sideOf}
 use Rattle.wiring.specs.Wiring.{planCheck}
 use Rattle.wiring.specs.Block.{blockBytes, isCodewordBlock, Block, Codeword}
-use Rattle.wiring.proofs.Blocks.{bits-sized, bits-clear, bits-back, block-back, block-ext}
+use Rattle.wiring.proofs.Blocks.{bits-sized, bits-clear, bits-back, block-back, block-ext, bytes-hold}
 use Rattle.messages.specs.Position.{blockOf, isPosition, positionsBefore, messageBits}
 use Rattle.messages.specs.Message.{encodedBlock, readBefore, readMessage, ValidMessage, OneToOne}
 use Rattle.messages.proofs.Elimination.{Bits}
-use Rattle.messages.proofs.Numbers.{numberOf, number-lt, number-digit, blockOf-bit, blockOf-block}
-use Rattle.messages.proofs.Numbers.{block-number, zeros-at, zeros-bit, bytes-fit}
+use Rattle.messages.proofs.Numbers.{numberOf, number-lt, number-digit, blockOf-bit, blockOf-block, block-number, zeros-bit}
+use Rattle.bits.proofs.Lists.{zeros-at}
 use Rattle.messages.proofs.Ranks.{rank-mono, rank-lt, rank-onto}
 use Rattle.messages.proofs.Positions.{codeword-number-is, positions-rank, message-bits-rank}
 use Rattle.messages.proofs.Encoding.{Carrier, encoded-block-is, encoded-carries, encoded-at}
@@ -102,7 +102,7 @@ module _ (plan : Plan) (block : List ℕ) where
 
   place-covered : (j : ℕ) → j < edgeCount plan → isPosition plan j ≡ true
       → positionsBefore plan j < length (readBefore plan block j) * 8
-  place-covered j l e = rw length-before (lt-of-lt-of-le (place-inside plan j l e) (bytes-fit (messageBits plan)))
+  place-covered j l e = rw length-before (lt-of-lt-of-le (place-inside plan j l e) (bytes-hold (messageBits plan)))
 
   before-bit : (j : ℕ) → j ≤ edgeCount plan → (p : ℕ) → p < j → isPosition plan p ≡ true
       → bitAt (readBefore plan block j) (positionsBefore plan p) ≡ bitAt block p

@@ -12,7 +12,7 @@ use Prim.Native.Nat.{ℕ, zero, suc, _+_, _*_, _/_, _%_, _^_, _≤_, _<_}
 use mathlib.Core.List.{List}
 use mathlib.Core.Logic.{⊎-elim, _≢_}
 use mathlib.Core.Path.{_≡_, refl, sym, ap, _∙_}
-use native.Mathlib.Nat.{eq-or-lt-of-le, le-of-suc-le-suc, not-suc-le-zero, lt-suc-self, le-step, one-mul}
+use native.Mathlib.Nat.{eq-or-lt-of-le, le-of-suc-le-suc, not-suc-le-zero, lt-suc-self, le-step}
 use native.Mathlib.Decide.{ℕ-discrete}
 use native.Mathlib.Numerals.{add-one}
 use native.Mathlib.Omega.{arith}
@@ -20,13 +20,13 @@ use lib.Bits.{bitXor}
 use lib.Dec.{eqb}
 use lib.ListN.{length, getD, set, length-set, length-replicate}
 use lib.Seq.{getD-set-same, getD-set-other}
+use Rattle.bits.proofs.Xor.{digit-power, digit-lt, digit-zero, xor-digit}
 use Rattle.bits.specs.Bit.{digit}
 use Rattle.bits.specs.Sum.{flag}
 use Rattle.bits.proofs.Sums.{flag-equal, flag-apart}
-use Rattle.bits.proofs.Xor.{digit-lt, digit-zero, digit-pow, digit-pow-other, xor-digit}
 use Rattle.messages.specs.Elimination.{start}
 use Rattle.messages.specs.Columns.{rowBit, noColumns, noRows, ColumnPut, Stores}
-use Rattle.messages.proofs.Numbers.{zeros-at}
+use Rattle.bits.proofs.Lists.{zeros-at}
 
 pub rowBit-lt : (columns : List ℕ) (p e : ℕ) → rowBit columns p e < 2
 unfolding rowBit
@@ -117,14 +117,6 @@ pub units-none : Units 0 noColumns
 unfolding noColumns
 units-none = record { sized = length-noColumns; units = λ q e l k. absurd (not-suc-le-zero k); clear = λ i _. zeros-at 4096 i }
 
--- the digit of a word with one 1
-unit-digit : (a b : ℕ) → digit (2 ^ a) b ≡ flag (eqb b a)
-unit-digit a b =
-    elim (ℕ-discrete b a) [
-      | yes e ↦ rw e (digit-pow a ∙ sym (flag-equal a a refl))
-      | no n ↦ ap (λ (x : ℕ). digit x b) (sym (one-mul (2 ^ a))) ∙ digit-pow-other 1 a b (omega arith) n ∙ sym (flag-apart b a n)
-    ]
-
 module _ (p : ℕ) (columns : List ℕ) (inside : p < 512) (u : Units p columns) (word : ℕ) (one : word ≡ 2 ^ (p % 64)) where
   abbrev next : List ℕ
   next = set columns (8 * p + p / 64) word
@@ -142,7 +134,7 @@ module _ (p : ℕ) (columns : List ℕ) (inside : p < 512) (u : Units p columns)
         | yes e ↦
             rw e
             (ap (λ (x : ℕ). digit x (q % 64)) (getD-set-same columns (8 * p + p / 64) word 0 (omega (arith, u .sized)) ∙ one)
-            ∙ unit-digit (p % 64) (q % 64)
+            ∙ digit-power (p % 64) (q % 64)
             ∙ same e)
         | no n ↦
             ap (λ (x : ℕ). digit x (q % 64))

@@ -30,7 +30,8 @@ use Rattle.messages.specs.Message.{encodedNumber, encodedBlock, readBefo
 use Rattle.messages.specs.Elimination.{finalState}
 use Rattle.messages.specs.Columns.{rowBit, StoredPlan, liveBefore, Chosen, columnParity, BitsPut, bitsTaken}
 use Rattle.messages.proofs.Elimination.{parity-lt}
-use Rattle.messages.proofs.Numbers.{bitsPut-none, bitsPut-one-more, length-bitsPut, blockOf-is, bytes-fit}
+use Rattle.messages.proofs.Numbers.{bitsPut-none, bitsPut-one-more, length-bitsPut, blockOf-is}
+use Rattle.wiring.proofs.Blocks.{bytes-hold}
 use Rattle.messages.proofs.Positions.{position-live}
 use Rattle.messages.proofs.Encoding.{encoded-block-is}
 use Rattle.messages.proofs.Reading.{read-none, read-position, read-other}
@@ -74,7 +75,7 @@ pub put-encoded : {plan : Plan} {N : ℕ} {columns : List ℕ} (s : StoredPlan p
     → BitsPut N chosen columns (written (replicate (blockBytes N) 0) output) left → left ≡ written (encodedBlock plan message) output
 put-encoded {plan} {N} {columns} s message chosen output left c put =
     put .is x (stored-digit s message chosen c)
-    ∙ put-written x N (replicate (blockBytes N) 0) output (rw length-replicate (bytes-fit N))
+    ∙ put-written x N (replicate (blockBytes N) 0) output (rw length-replicate (bytes-hold N))
     ∙ ap (λ (front : List ℕ). written front output)
     (sym (blockOf-is N x) ∙ ap (λ (M : ℕ). blockOf M x) (s .edges) ∙ sym (encoded-block-is plan message))
   where
@@ -178,5 +179,5 @@ module _ {plan : Plan} {N : ℕ} {columns : List ℕ} (s : StoredPlan plan N col
   unfolding readMessage
   taken-read output left taken =
       taken
-      ∙ taken-written columns block N _ output (rw (stored-bits s, length-replicate) (bytes-fit (messageBits plan)))
+      ∙ taken-written columns block N _ output (rw (stored-bits s, length-replicate) (bytes-hold (messageBits plan)))
       ∙ ap (λ (front : List ℕ). written front output) (taken-before N (omega arith) ∙ ap (readBefore plan block) (s .edges))

@@ -13,7 +13,7 @@ use wiring::check_plan;
 ghost use mathlib.Core.Path.{_≡_};
 ghost use Prim.Native.Nat.{_+_, _*_, _<_, _≤_};
 ghost use lib.ListN.{length};
-ghost use Rattle.wiring.specs.Plan.{planOf};
+ghost use Rattle.wiring.specs.Plan.{planAt};
 ghost use Rattle.messages.specs.Answer.{encodeReply, encodeAnswer, encodeOutput};
 ghost use Rattle.messages.specs.Columns.{noRows, Chosen, columnParity, BitsPut};
 ghost use Rattle.messages.specs.Service.{EncodedRows};
@@ -35,8 +35,8 @@ pub fn encode(
     message: &[u8],
     output: &mut [u8],
 ) -> Encoded
-    ensures { λ r. ⌜ encodeReply r ≡ encodeAnswer (planOf (now (left .entry)) (now (right .entry)) nl nr (now (wiring .entry))) (now (message .entry)) (now (output .entry)) ⌝ }
-    ensures { λ _. ⌜ now (output .exit) ≡ encodeOutput (planOf (now (left .entry)) (now (right .entry)) nl nr (now (wiring .entry))) (now (message .entry)) (now (output .entry)) ⌝ }
+    ensures { λ r. ⌜ encodeReply r ≡ encodeAnswer (planAt left right nl nr wiring) (now (message .entry)) (now (output .entry)) ⌝ }
+    ensures { λ _. ⌜ now (output .exit) ≡ encodeOutput (planAt left right nl nr wiring) (now (message .entry)) (now (output .entry)) ⌝ }
 {
     let plan = check_plan(left, right, nl, nr, wiring);
     let checked = plan.checked;

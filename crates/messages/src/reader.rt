@@ -15,7 +15,7 @@ use wiring::first_unsatisfied;
 ghost use mathlib.Core.Path.{_≡_};
 ghost use Prim.Native.Nat.{_≤_};
 ghost use lib.ListN.{length};
-ghost use Rattle.wiring.specs.Plan.{planOf};
+ghost use Rattle.wiring.specs.Plan.{planAt};
 ghost use Rattle.messages.specs.Answer.{takenReply, readAnswer, readOutput};
 ghost use Rattle.messages.specs.Columns.{bitsTaken};
 ghost use Rattle.messages.specs.Service.{TakenRows};
@@ -37,8 +37,8 @@ pub fn read_block(
     block: &[u8],
     output: &mut [u8],
 ) -> Taken
-    ensures { λ r. ⌜ takenReply r ≡ readAnswer (planOf (now (left .entry)) (now (right .entry)) nl nr (now (wiring .entry))) (now (block .entry)) (now (output .entry)) ⌝ }
-    ensures { λ _. ⌜ now (output .exit) ≡ readOutput (planOf (now (left .entry)) (now (right .entry)) nl nr (now (wiring .entry))) (now (block .entry)) (now (output .entry)) ⌝ }
+    ensures { λ r. ⌜ takenReply r ≡ readAnswer (planAt left right nl nr wiring) (now (block .entry)) (now (output .entry)) ⌝ }
+    ensures { λ _. ⌜ now (output .exit) ≡ readOutput (planAt left right nl nr wiring) (now (block .entry)) (now (output .entry)) ⌝ }
 {
     let plan = check_plan(left, right, nl, nr, wiring);
     let checked = plan.checked;

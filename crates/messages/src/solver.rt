@@ -7,7 +7,6 @@ use wiring::SideName;
 ghost use mathlib.Core.Path.{_≡_};
 ghost use Prim.Native.Nat.{_+_, _*_, _<_, _≤_};
 ghost use lib.ListN.{length};
-ghost use Rattle.wiring.specs.Plan.{sideBit};
 ghost use Rattle.wiring.specs.Checking.{Fitted, Permuted, Wired};
 ghost use Rattle.messages.specs.Columns.{noColumns, noRows, UnitResidues, Uses, Within, FailSet, lowestRow, Spread, CheckMade, Eliminated, Solved};
 
@@ -128,20 +127,9 @@ fn find_hits(
     let mut i: usize = 0;
     while i < d {
         if (residues[i] >> digit) % 2 == 1 {
-            add_column(columns, bit_of(side, wiring, base + i), hits, 0);
+            add_column(columns, wiring::bit_of(side, wiring, base + i), hits, 0);
         }
         i += 1;
-    }
-}
-
-// The bit of the block at entry i of a side.
-fn bit_of(side: SideName, wiring: &[u8], i: usize) -> usize
-    requires { ⌜ 2 * i + 1 < length (now wiring) ⌝ }
-    ensures { λ r. ⌜ r ≡ sideBit side (now (wiring .entry)) i ⌝ }
-{
-    match side {
-        SideName::Left => i,
-        SideName::Right => bits::pair(wiring, 2 * i) as usize,
     }
 }
 

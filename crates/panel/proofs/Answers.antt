@@ -33,7 +33,7 @@ use Rattle.wiring.specs.Wiring.{planCheck}
 use Rattle.wiring.specs.Block.{blockCheck}
 use Rattle.wiring.proofs.Blocks.{bits-unsized, block-sized, block-clear, block-back}
 use Rattle.wiring.proofs.Plans.{plan-done}
-use Rattle.decoder.specs.Sweep.{sweep, turn}
+use Rattle.sweeps.specs.Sweep.{sweep, turn}
 use Rattle.unsatisfied.specs.Count.{unsatisfiedCount}
 use Rattle.unsatisfied.specs.Answer.{countAnswer, bitCheck}
 use Rattle.panel.specs.State.{stateBytes, countIn, sweepsIn, blockIn, stateOf, loadedState, movedCount, sweptState, setTo, setState}

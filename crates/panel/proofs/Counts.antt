@@ -30,8 +30,8 @@ use Rattle.wiring.specs.Block.{blockCheck, isCodewordBlock}
 use Rattle.wiring.proofs.Blocks.{block-sized, block-clear, block-back}
 use Rattle.wiring.proofs.Permutation.{side-fits}
 use Rattle.wiring.proofs.Plans.{plan-sound, plan-joined}
-use Rattle.decoder.specs.Sweep.{turn}
-use Rattle.decoder.proofs.Sweeping.{sweep-block}
+use Rattle.sweeps.specs.Sweep.{turn}
+use Rattle.sweeps.proofs.Sweeping.{sweep-block}
 use Rattle.unsatisfied.specs.Count.{unsatisfiedCount, countChange}
 use Rattle.unsatisfied.proofs.Counting.{count-le-all, count-codeword, count-none}
 use Rattle.panel.specs.State.{stateBytes, countIn, sweepsIn, blockIn, stateOf, loadedState, movedCount, setTo}

@@ -26,7 +26,7 @@ use Rattle.wiring.specs.Wiring.{planCheck}
 use Rattle.wiring.specs.Block.{blockCheck}
 use Rattle.wiring.specs.declared.side.SideName.{SideName}
 use Rattle.wiring.proofs.Blocks.{block-sized}
-use Rattle.decoder.specs.Sweep.{turn}
+use Rattle.sweeps.specs.Sweep.{turn}
 use Rattle.unsatisfied.specs.Count.{unsatisfiedCount, countChange}
 use Rattle.unsatisfied.specs.Answer.{countAnswer, bitAnswer, bitBlock}
 use Rattle.single_sweep.specs.Answer.{onceCheck, onceAnswer, onceBlock}

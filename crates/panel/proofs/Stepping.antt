@@ -30,10 +30,10 @@ use Rattle.wiring.specs.Wiring.{planCheck}
 use Rattle.wiring.specs.Block.{blockBytes, blockCheck}
 use Rattle.wiring.proofs.Blocks.{block-sized}
 use Rattle.wiring.proofs.Plans.{plan-joined}
-use Rattle.decoder.specs.Sweep.{sweep, turn}
+use Rattle.sweeps.specs.Sweep.{sweep, turn}
 use Rattle.decoder.specs.Decode.{sweptBlock, settledAfter, settlesAt}
 use Rattle.decoder.specs.Answer.{decodeAnswer, decodeOutput}
-use Rattle.decoder.proofs.Sweeping.{after-zero, after-one-more, after-block, length-after}
+use Rattle.sweeps.proofs.Sweeping.{after-zero, after-one-more, after-block, length-after}
 use Rattle.decoder.proofs.Settling.{settles-codeword, settles-first, decode-settled, decode-means}
 use Rattle.decoder.proofs.Trials.{check-means}
 use Rattle.unsatisfied.specs.Count.{unsatisfiedCount}

@@ -3,7 +3,7 @@
 --   blockCheck, spansCheck, decodeCheck  the refusals of a block, of lost spans, and of a decoder call before it decodes (wiring specs Block, spans
 --                                        specs Spans, decoder specs Answer)
 --   settlesAt plan block H               the first count from 0 to H after which the block is a codeword, H + 1 where none is (decoder specs Decode)
---   Passed ..                            what a call knows that nothing stops before it decodes (decoder specs Visiting)
+--   Passed ..                            what a call knows that nothing stops before it decodes (decoder specs Turns)
 --   Not15 reply                          the reply is no refusal with 15
 -- Laws are named by their subject, then by the fact: each `-not15` says Not15 of a check; unsettled-means leads from the answer 15 to what it says.
 use Prim.Native.Nat.{ℕ, zero, suc, _+_, _*_, _^_, _<_}
@@ -27,7 +27,7 @@ use Rattle.spans.specs.Spans.{spansCheck}
 use Rattle.spans.proofs.Checking.{spans-number}
 use Rattle.decoder.specs.Decode.{settlesAt}
 use Rattle.decoder.specs.Answer.{decodeCheck, decodeAnswer}
-use Rattle.decoder.specs.Visiting.{Passed}
+use Rattle.decoder.specs.Turns.{Passed}
 use Rattle.decoder.proofs.Settling.{decode-stopped, decode-settled}
 use Rattle.decoder.proofs.Trials.{check-means}
 

@@ -16,7 +16,7 @@ use lib.ListN.{drop}
 use Rattle.bits.specs.Bit.{pairAt, withBit}
 use Rattle.wiring.specs.Plan.{Plan, sideOf}
 use Rattle.wiring.specs.Block.{blockBytes}
-use Rattle.decoder.specs.Sweep.{sweep, turn}
+use Rattle.sweeps.specs.Sweep.{sweep, turn}
 use Rattle.unsatisfied.specs.Count.{unsatisfiedCount, countChange}
 
 unfoldable pub stateBytes : ℕ → ℕ

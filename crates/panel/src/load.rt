@@ -6,11 +6,8 @@ use inner_code::Refusal;
 use inner_code::refusal;
 use unsatisfied::Counted;
 ghost use mathlib.Core.Path.{_≡_};
-ghost use Prim.Native.Nat.{_+_, _≤_};
-ghost use lib.ListN.{length};
 ghost use Rattle.inner_code.specs.Reply.{refused};
-ghost use Rattle.bits.specs.Bit.{written};
-ghost use Rattle.wiring.specs.Plan.{planOf};
+ghost use Rattle.wiring.specs.Plan.{planAt};
 ghost use Rattle.panel.specs.Answer.{loadAnswer, loadOutput, shownReply};
 
 // Puts the state of a block at the front of `state`: the number of its unsatisfied vertices, sweep 0, and the block. Refusals 1 to 13 and 23; a
@@ -24,8 +21,8 @@ pub fn load_state(
     block: &[u8],
     state: &mut [u8],
 ) -> Shown
-    ensures { λ r. ⌜ shownReply r ≡ loadAnswer (planOf (now (left .entry)) (now (right .entry)) nl nr (now (wiring .entry))) (now (block .entry)) (now (state .entry)) ⌝ }
-    ensures { λ _. ⌜ now (state .exit) ≡ loadOutput (planOf (now (left .entry)) (now (right .entry)) nl nr (now (wiring .entry))) (now (block .entry)) (now (state .entry)) ⌝ }
+    ensures { λ r. ⌜ shownReply r ≡ loadAnswer (planAt left right nl nr wiring) (now (block .entry)) (now (state .entry)) ⌝ }
+    ensures { λ _. ⌜ now (state .exit) ≡ loadOutput (planAt left right nl nr wiring) (now (block .entry)) (now (state .entry)) ⌝ }
 {
     match unsatisfied::count_unsatisfied(left, right, nl, nr, wiring, block) {
         Counted::Refused(r) => Shown::Refused(r),
@@ -37,7 +34,7 @@ pub fn load_state(
                 return short();
             }
             put_head(count, 0, state);
-            copy_front(block, &mut state[HEAD..]);
+            bits::copy_front(block, &mut state[HEAD..]);
             Shown::State { count, sweeps: 0 }
         }
     }
@@ -51,16 +48,4 @@ fn short() -> Shown
         number: refusal::OUTPUT_SHORT,
         place: 0,
     })
-}
-
-// Copies bytes to the front of a buffer.
-fn copy_front(from: &[u8], to: &mut [u8])
-    requires { ⌜ length (now from) ≤ length (now to) ⌝ }
-    ensures { λ _. ⌜ now (to .exit) ≡ written (now (from .entry)) (now (to .entry)) ⌝ }
-{
-    let mut i = 0;
-    while i < from.len() {
-        to[i] = from[i];
-        i += 1;
-    }
 }

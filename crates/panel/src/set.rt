@@ -6,7 +6,7 @@ use crate::state::read_head;
 use crate::state::refuse_short;
 use unsatisfied::Counted;
 ghost use mathlib.Core.Path.{_≡_};
-ghost use Rattle.wiring.specs.Plan.{planOf};
+ghost use Rattle.wiring.specs.Plan.{planAt};
 ghost use Rattle.panel.specs.State.{setTo};
 ghost use Rattle.panel.specs.Answer.{setAnswer, setOutput, shownReply};
 
@@ -22,8 +22,8 @@ pub fn set_bit(
     value: u64,
     state: &mut [u8],
 ) -> Shown
-    ensures { λ r. ⌜ shownReply r ≡ setAnswer (planOf (now (left .entry)) (now (right .entry)) nl nr (now (wiring .entry))) bit value (now (state .entry)) ⌝ }
-    ensures { λ _. ⌜ now (state .exit) ≡ setOutput (planOf (now (left .entry)) (now (right .entry)) nl nr (now (wiring .entry))) bit value (now (state .entry)) ⌝ }
+    ensures { λ r. ⌜ shownReply r ≡ setAnswer (planAt left right nl nr wiring) bit value (now (state .entry)) ⌝ }
+    ensures { λ _. ⌜ now (state .exit) ≡ setOutput (planAt left right nl nr wiring) bit value (now (state .entry)) ⌝ }
 {
     if state.len() < HEAD {
         return Shown::Refused(refuse_short(left, right, nl, nr, wiring));

@@ -7,7 +7,7 @@ ghost use Prim.Native.Nat.{_≤_, _<_};
 ghost use lib.ListN.{length};
 ghost use Rattle.bits.specs.Bit.{pairAt};
 ghost use Rattle.inner_code.specs.Reply.{refused, andThen};
-ghost use Rattle.wiring.specs.Plan.{planOf};
+ghost use Rattle.wiring.specs.Plan.{planAt};
 ghost use Rattle.wiring.specs.Wiring.{planCheck};
 ghost use Rattle.wiring.specs.Checking.{checkReply};
 ghost use Rattle.panel.specs.State.{blockIn, stateOf};
@@ -40,7 +40,7 @@ pub(crate) fn refuse_short(
     nr: usize,
     wiring: &[u8],
 ) -> Refusal
-    ensures { λ r. ⌜ refused (r .number) (r .place) ≡ andThen (planCheck (planOf (now (left .entry)) (now (right .entry)) nl nr (now (wiring .entry)))) (refused 11 0) ⌝ }
+    ensures { λ r. ⌜ refused (r .number) (r .place) ≡ andThen (planCheck (planAt left right nl nr wiring)) (refused 11 0) ⌝ }
 {
     let plan = wiring::check_plan(left, right, nl, nr, wiring);
     let checked = plan.checked;
@@ -63,7 +63,7 @@ pub(crate) fn check_state(
     state: &[u8],
 ) -> Checked
     requires { ⌜ 4 ≤ length (now state) ⌝ }
-    ensures { λ r. ⌜ checkReply r ≡ stateCheck (planOf (now (left .entry)) (now (right .entry)) nl nr (now (wiring .entry))) (now (state .entry)) ⌝ }
+    ensures { λ r. ⌜ checkReply r ≡ stateCheck (planAt left right nl nr wiring) (now (state .entry)) ⌝ }
 {
     let plan = wiring::check_plan(left, right, nl, nr, wiring);
     let checked = plan.checked;

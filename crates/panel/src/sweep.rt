@@ -11,8 +11,8 @@ use unsatisfied::Counted;
 use wiring::Checked;
 use wiring::SideName;
 ghost use mathlib.Core.Path.{_≡_};
-ghost use Rattle.wiring.specs.Plan.{planOf};
-ghost use Rattle.decoder.specs.Sweep.{turn};
+ghost use Rattle.wiring.specs.Plan.{planAt};
+ghost use Rattle.sweeps.specs.Sweep.{turn};
 ghost use Rattle.panel.specs.Answer.{sweepAnswer, sweepOutput, shownReply};
 
 // The sweep number from which on an unsettled state is swept no more.
@@ -28,8 +28,8 @@ pub fn sweep_state(
     wiring: &[u8],
     state: &mut [u8],
 ) -> Shown
-    ensures { λ r. ⌜ shownReply r ≡ sweepAnswer (planOf (now (left .entry)) (now (right .entry)) nl nr (now (wiring .entry))) (now (state .entry)) ⌝ }
-    ensures { λ _. ⌜ now (state .exit) ≡ sweepOutput (planOf (now (left .entry)) (now (right .entry)) nl nr (now (wiring .entry))) (now (state .entry)) ⌝ }
+    ensures { λ r. ⌜ shownReply r ≡ sweepAnswer (planAt left right nl nr wiring) (now (state .entry)) ⌝ }
+    ensures { λ _. ⌜ now (state .exit) ≡ sweepOutput (planAt left right nl nr wiring) (now (state .entry)) ⌝ }
 {
     if state.len() < HEAD {
         return Shown::Refused(refuse_short(left, right, nl, nr, wiring));

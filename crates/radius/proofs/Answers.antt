@@ -1,11 +1,10 @@
--- The services' answers, outcome by outcome, and what they say.
+-- The margin's answers, outcome by outcome, and what they say.
 -- The notions, of specs/Answer.antt:
---   spreadAnswer plan              1 to 10 and 23, or the spread R
 --   marginAnswer plan F            1 to 10, 23, 17, 18, or the sweeps named for F flips
 --   marginOf plan F                the sweeps named, 0 where F is not covered
 -- and here
 --   Covered plan F q               the plan is accepted, F flips are covered, and q sweeps are named for them
--- Names: the service first (spread, margin), then the outcome. margin-means leads from the answer back to what it says.
+-- Laws are named `margin-`, then by the outcome. margin-means leads from the answer back to what it says.
 use Prim.Native.Nat.{ℕ, _≤_, _<_}
 use mathlib.Core.List.{List, [], _∷_}
 use mathlib.Core.Logic.{_≢_}
@@ -14,11 +13,10 @@ use lib.Dec.{ltb, eqb}
 use borrow.Author.Tests.{lt-ltb, le-ltb, ltb-false, eq-eqb, ne-eqb, eqb-false}
 use Rattle.inner_code.specs.Reply.{done, refused, refuseIf, andThen}
 use Rattle.inner_code.proofs.Replies.{refuse-taken, refuse-passed, refuse-done, andThen-passed, andThen-refused, andThen-done}
-use Rattle.wiring.specs.Plan.{Plan, edgeCount, sideOf}
+use Rattle.wiring.specs.Plan.{Plan, edgeCount}
 use Rattle.wiring.specs.Wiring.{planCheck}
 use Rattle.wiring.proofs.Plans.{plan-done}
-use Rattle.radius.specs.Spread.{spread}
-use Rattle.radius.specs.Answer.{marginOf, spreadAnswer, marginAnswer}
+use Rattle.radius.specs.Answer.{marginOf, marginAnswer}
 
 pub record Covered (plan : Plan) (F q : ℕ) : Type 0 where
   pub accepted : planCheck plan ≡ done []
@@ -27,18 +25,6 @@ pub record Covered (plan : Plan) (F q : ℕ) : Type 0 where
   pub some : q ≢ 0
 
 module _ (plan : Plan) where
-  -- ---- the spread
-
-  pub spread-refused : (number place : ℕ) → planCheck plan ≡ refused number place → spreadAnswer plan ≡ refused number place
-  unfolding spreadAnswer
-  spread-refused number place e = andThen-refused _ _ number place e
-
-  pub spread-done : {values : List ℕ} → planCheck plan ≡ done values → spreadAnswer plan ≡ done (spread (sideOf plan) ∷ [])
-  unfolding spreadAnswer
-  spread-done {values} e = andThen-passed _ _ values e
-
-  -- ---- the margin
-
   module _ (F : ℕ) where
     margin-tests : marginAnswer plan F
         ≡ andThen (planCheck plan)

@@ -12,7 +12,7 @@ use native.Mathlib.Omega.{arith}
 use Rattle.radius.specs.Margin.{Measures, stepCovered, nextBound}
 use Rattle.radius.specs.Chain.{oneMore}
 use Rattle.wiring.specs.declared.side.SideName.{SideName}
-use Rattle.decoder.specs.Sweep.{other}
+use Rattle.wiring.specs.Plan.{other}
 use Rattle.radius.proofs.MarginChain.{sweepsFrom, chain-next, chain-step, chain-zero}
 
 unfoldable pub counted : ℕ → ℕ → ℕ

@@ -34,16 +34,16 @@ use Rattle.bits.specs.Sum.{sum, flag}
 use Rattle.bits.proofs.Tests.{flag-zero}
 use Rattle.bits.proofs.Sums.{count-le, flag-false, flag-le-one, flag-mono, flag-true}
 use Rattle.bits.proofs.Sums.{sum-blocks, sum-mono, sum-none, sum-none-each, sum-reindex, sum-scale, sum-term}
-use Rattle.wiring.specs.Plan.{Side, left, right}
+use Rattle.wiring.specs.Plan.{Side, left, right, other}
 use Rattle.wiring.specs.declared.side.SideName.{SideName}
 use Rattle.wiring.proofs.Permutation.{Joined, placeOf, place-bit, place-lt, bit-place, entry-lt}
 use Rattle.wiring.proofs.Edges.{vertexOf, vertex-of-lt}
-use Rattle.decoder.specs.Sweep.{other, turn}
-use Rattle.radius.specs.Spread.{spread, size}
+use Rattle.sweeps.specs.Sweep.{turn}
+use Rattle.meetings.specs.Spread.{spread, size}
+use Rattle.meetings.proofs.PairBound.{slackBy, flag-part, size-demand}
+use Rattle.meetings.proofs.Graph.{step-joined}
 use Rattle.radius.specs.Margin.{Measures, slack, stepCovered, nextBound, bound, sweepsNamed}
-use Rattle.radius.proofs.PairBound.{slackBy, flag-part, size-demand}
 use Rattle.radius.proofs.MarginChain.{firstBound, covered-slack, named-step, named-last}
-use Rattle.radius.proofs.Graph.{step-joined}
 
 -- ---- whether a number is above 0
 

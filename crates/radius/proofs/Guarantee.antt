@@ -39,7 +39,7 @@ use Rattle.spans.specs.Spans.{spansCheck}
 use Rattle.spans.proofs.Checking.{spans-done, spans-number}
 use Rattle.decoder.specs.Decode.{sweptBlock, settlesAt}
 use Rattle.decoder.specs.Answer.{decodeCheck, decodeAnswer}
-use Rattle.decoder.proofs.Sweeping.{sheet-mends}
+use Rattle.sweeps.proofs.Sweeping.{sheet-mends}
 use Rattle.decoder.proofs.Settling.{settles-codeword, settles-first, settles-stays, decode-stopped, decode-settled}
 use Rattle.decoder.proofs.Settling.{check-block, check-spans, check-short, check-limit, check-passed}
 use Rattle.report.specs.Report.{differsAt}

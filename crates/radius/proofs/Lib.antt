@@ -1,6 +1,4 @@
-pub mod PairBound
 pub mod MarginChain
-pub mod Graph
 pub mod Convergence
 pub mod Restoring
 pub mod Answers
@@ -11,5 +9,4 @@ pub mod LostSpans
 pub mod PlanRanges
 pub mod ChainWalk
 pub mod Uncovered
-pub mod Walks
 pub mod PlanNumbers

@@ -34,8 +34,8 @@ use Rattle.spans.proofs.Checking.{filled-block}
 use Rattle.spans.proofs.Outside.{outside-comm, outside-triangle, outside-sum}
 use Rattle.decoder.specs.Decode.{settlesAt}
 use Rattle.decoder.specs.Answer.{decodeCheck, decodeAnswer}
-use Rattle.decoder.proofs.Sweeping.{after-block, after-bytes}
-use Rattle.decoder.proofs.Settling.{settledFrom, changedFrom, settles-codeword, Decoded, decode-zeros, decode-ones}
+use Rattle.sweeps.proofs.Sweeping.{after-block, after-bytes}
+use Rattle.decoder.proofs.Settling.{settledFrom, changedFrom, settles-codeword, DecodingIs, decode-zeros, decode-ones}
 use Rattle.radius.specs.Answer.{marginAnswer}
 use Rattle.radius.specs.Demand.{stoppedBefore15, Mended}
 use Rattle.radius.proofs.Answers.{Covered, margin-means}
@@ -110,7 +110,7 @@ module _ (plan : Plan) (sent received lost output : List ℕ) (F q H : ℕ) (cod
 
   module _ (check : decodeCheck plan received lost output H ≡ done []) where
     kept-mended : (b : ℕ) {sums : List ℕ} {visits : ℕ} → settled b ≡ sent
-        → Decoded plan received lost output H (done (settlesAt plan (trialOf b) H ∷ [])) sums visits (written (settled b) output)
+        → DecodingIs plan received lost output H (done (settlesAt plan (trialOf b) H ∷ [])) sums visits (written (settled b) output)
         → Mended plan sent received lost output H
     kept-mended b home decoded =
         record {

@@ -19,7 +19,7 @@
 --   chain-mono                                       its length
 --   end-passed, end-le, end-failed, end-counted      where the chain of b stops, and how many sweeps that names
 --   named-step, named-last                           the b of a covered F: every step is covered, and the last b is 0
---   named-is, named-zero, named-small                which F are covered, by which chain
+--   named-is, named-one, named-zero, named-small, named-over  which F are covered, by which chain
 --   named-monotone, named-le                         the covered F have no gaps; how many sweeps are named at most
 use Prim.Native.Nat.{ℕ, zero, suc, _+_, _-_, _*_, _/_, _≤_, _<_, zero-le}
 use mathlib.Core.Bool.{Bool, true, false, cond, _&&_}
@@ -36,9 +36,9 @@ use Rattle.bits.proofs.Tests.{and-both}
 use Rattle.bits.proofs.Searches.{first-passed, first-failed}
 use Rattle.radius.specs.Margin.{Measures, slack, stepCovered, nextBound, bound, chainEnd, sweepsNamed}
 use Rattle.radius.specs.Chain.{oneMore, chainSweeps}
-use Rattle.wiring.specs.Plan.{left, right}
+use Rattle.wiring.specs.Plan.{left, right, other}
 use Rattle.wiring.specs.declared.side.SideName.{SideName}
-use Rattle.decoder.specs.Sweep.{other, turn}
+use Rattle.sweeps.specs.Sweep.{turn}
 
 abbrev pub firstBound : Measures → ℕ → ℕ
 firstBound m F = 2 * F / m .distance left
@@ -242,6 +242,13 @@ module _ (m : Measures) where
     pub named-small : sweepsNamed m F ≢ 0 → F ≤ m .edges
     named-small some = named-end some .0
 
+    pub named-over : m .edges < F → sweepsNamed m F ≡ 0
+    named-over over =
+        elim (eq-zero-or-pos (sweepsNamed m F)) [
+          | inl none ↦ none
+          | inr some ↦ absurd (omega (arith, named-small (λ none. omega arith)))
+        ]
+
     pub named-le : sweepsNamed m F ≤ firstBound m F + 1
     unfolding bound
     named-le =
@@ -259,8 +266,12 @@ module _ (m : Measures) where
         let last : chainEnd m F ≡ k = omega arith in
         rw last at none
 
+  -- where the first b is 0 one sweep is named, whatever the spread
+  pub named-one : (F : ℕ) → F ≤ m .edges → firstBound m F ≡ 0 → sweepsNamed m F ≡ 1
+  named-one F l none = named-is F l ∙ rw none (chain-zero right)
+
   pub named-zero : sweepsNamed m 0 ≡ 1
-  named-zero = named-is 0 zero-le ∙ rw zero-div (chain-zero right)
+  named-zero = named-one 0 zero-le (rw zero-div)
 
   -- what is below a covered F is covered and names no more sweeps
   pub named-monotone : (F G : ℕ) → F ≤ G → sweepsNamed m G ≢ 0 → (sweepsNamed m F ≢ 0) × (sweepsNamed m F ≤ sweepsNamed m G)

@@ -1,35 +1,30 @@
--- A plan's numbers: what a checked plan gives the measures, how their values make the services' answers, and what a caller learns.
---   PlanAccepted ..           what a caller learns from a check that accepts (wiring Plans)
---   spreadAnswer, numbersAnswer  what the services answer (specs Answer)
+-- A plan's numbers: what the measures of an accepted plan give, how they make the answer, and what a caller learns.
+--   Sound sheet               what an accepted sheet is (inner_code SheetChecks)
+--   numbersAnswer plan           1 to 10 and 23, or a plan's nine numbers (specs Answer)
 --   numbersOf plan, inOrder p    a plan's nine numbers, and such numbers in the order in which they are answered (specs Answer)
--- Laws are named by their subject, then by the fact: `-refused` and `-answered` are the outcomes of a service, `-known` and
--- `-turned-back` lead from its answer back to the plan.
+-- Laws are named by their subject, then by the fact: `-is` is what a measure gives, `-refused` and `-answered` are the outcomes,
+-- and `-known` leads from its answer back to the plan.
 use Prim.Native.Nat.{ℕ, _^_, _≤_, min}
-use mathlib.Core.List.{List, [], _∷_}
+use mathlib.Core.List.{List, []}
 use mathlib.Core.Path.{_≡_, sym, ap, _∙_}
 use native.Mathlib.Nat.{min-eq-left}
 use lib.ListN.{length, getD, take}
 use Rattle.bits.specs.Window.{at}
 use Rattle.inner_code.specs.Reply.{Reply, done, refused}
 use Rattle.inner_code.specs.Code.{distance}
-use Rattle.inner_code.specs.Sheet.{rowOf}
+use Rattle.inner_code.specs.Sheet.{rowCount, rowOf}
 use Rattle.inner_code.specs.Reduction.{Lists, fewestOnes}
-use Rattle.inner_code.specs.declared.refusal.Refusal.{Refusal}
-use Rattle.inner_code.proofs.Replies.{andThen-passed, andThen-refused, andThen-done, andThen-back}
+use Rattle.inner_code.proofs.Replies.{andThen-passed, andThen-refused, andThen-done}
 use Rattle.inner_code.proofs.Listings.{front-length, front-word}
 use Rattle.inner_code.proofs.InnerDistance.{fewest-distance}
-use Rattle.wiring.specs.Plan.{Plan, left, right, sheetOf, sideOf}
+use Rattle.inner_code.proofs.SheetChecks.{Sound}
+use Rattle.wiring.specs.Plan.{Plan, sheetOf, sideOf}
 use Rattle.wiring.specs.Wiring.{planCheck}
-use Rattle.wiring.specs.Checking.{codeIn}
-use Rattle.wiring.specs.declared.plan.CheckedPlan.{CheckedPlan}
-use Rattle.wiring.specs.declared.side.SideCode.{SideCode}
 use Rattle.wiring.specs.declared.side.SideName.{SideName}
-use Rattle.wiring.proofs.Plans.{PlanAccepted, plan-done}
-use Rattle.radius.specs.Spread.{spread}
-use Rattle.radius.specs.Answer.{distanceOf, spreadAnswer, inOrder, numbersOf, numbersAnswer, numbersReply}
+use Rattle.wiring.proofs.Plans.{plan-done}
+use Rattle.radius.specs.Answer.{distanceOf, inOrder, numbersOf, numbersAnswer, numbersReply}
 use Rattle.radius.specs.declared.numbers.Numbers.{Numbers}
 use Rattle.radius.specs.declared.numbers.PlanNumbers.{PlanNumbers}
-use Rattle.radius.proofs.Answers.{spread-done}
 
 -- the fewest ones of the listed codewords are the code's distance
 pub listed-distance : (row : ℕ → ℕ) (k : ℕ) {before words : List ℕ} {count : ℕ} → Lists row k before count words
@@ -44,22 +39,14 @@ module _ (plan : Plan) where
   unfolding numbersAnswer
   numbers-refused a b e = andThen-refused _ _ a b e
 
-  module _ (r : CheckedPlan) (p : PlanAccepted plan r) where
-    distance-is : (name : SideName) (D : ℕ) → D ≡ distance (rowOf (sheetOf plan name)) (min (codeIn r name .k) 11)
-        → D ≡ distanceOf (sideOf plan name)
-    distance-is name D e =
-        e ∙ ap (λ (code : SideCode). distance (rowOf (sheetOf plan name)) (min (code .k) 11)) (p .code-is name)
-        ∙ ap (distance (rowOf (sheetOf plan name))) (min-eq-left (p .sheet-sound name .count-high))
+  pub distance-is : (name : SideName) → Sound (sheetOf plan name) → (D : ℕ)
+      → D ≡ distance (rowOf (sheetOf plan name)) (min (rowCount (sheetOf plan name)) 11) → D ≡ distanceOf (sideOf plan name)
+  distance-is name s D e = e ∙ ap (distance (rowOf (sheetOf plan name))) (min-eq-left (s .count-high))
 
-    pub spread-answered : (R : ℕ) → R ≡ spread (sideOf plan) → done (R ∷ []) ≡ spreadAnswer plan
-    spread-answered R e = rw e (sym (spread-done plan (p .plan-done)))
-
-    pub numbers-answered : (Dl Dr R : ℕ) → Dl ≡ distance (rowOf (plan .leftSheet)) (min (r .left .k) 11)
-        → Dr ≡ distance (rowOf (plan .rightSheet)) (min (r .right .k) 11) → R ≡ spread (sideOf plan)
-        → done (r .left .n ∷ r .right .n ∷ r .left .d ∷ r .right .d ∷ r .left .k ∷ r .right .k ∷ Dl ∷ Dr ∷ R ∷ []) ≡ numbersAnswer plan
+  module _ (accepted : planCheck plan ≡ done []) where
+    pub numbers-answered : (p : PlanNumbers) → p ≡ numbersOf plan → done (inOrder p) ≡ numbersAnswer plan
     unfolding numbersAnswer
-    numbers-answered Dl Dr R e f g =
-        rw (p .code-is left, p .code-is right, distance-is left Dl e, distance-is right Dr f, g) (sym (andThen-passed _ _ [] (p .plan-done)))
+    numbers-answered p e = rw e (sym (andThen-passed _ _ [] accepted))
 
 -- ---- what a caller learns from the numbers
 
@@ -89,8 +76,3 @@ unfolding numbersAnswer
 numbers-known plan r p e q =
     let ((values, passed), told) = andThen-done (planCheck plan) _ _ (sym e ∙ ap numbersReply q) in
     (plan-done plan passed, sym (order-tells _ p told))
-
-pub numbers-turned-back : (plan : Plan) (r : Numbers) (f : Refusal) → numbersReply r ≡ numbersAnswer plan → r ≡ Numbers.Refused f
-    → planCheck plan ≡ refused (f .number) (f .place)
-unfolding numbersAnswer
-numbers-turned-back plan r f e q = andThen-back (planCheck plan) _ _ _ (sym e ∙ ap numbersReply q)

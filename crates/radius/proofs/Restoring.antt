@@ -2,7 +2,7 @@
 --   differsAt a b i               bit i of two blocks differs (report specs Report)
 --   flips N a b                   the number of bits 0 .. N - 1 in which two blocks differ (bits specs Bit)
 --   wrongAt side wrong v          how many bits of vertex v are wrong (Convergence)
---   sweep, afterSweeps            the block after a sweep, and after i sweeps (decoder specs Sweep)
+--   sweep, afterSweeps            the block after a sweep, and after i sweeps (sweeps specs Sweep)
 --   sweepsNamed m F               the sweeps named for F flips, 0 where F is not covered (specs Margin)
 --   Mending N sides D F wrong     what is known of sweeps that mend (Convergence)
 --   Nears side D                  what is needed of a side's nearest word: a word that differs from a codeword in fewer than D/2 digits
@@ -28,9 +28,9 @@ use Rattle.wiring.proofs.Permutation.{Joined}
 use Rattle.wiring.proofs.Blocks.{block-ext}
 use Rattle.wiring.proofs.VertexWords.{vertex-lt, vertex-bits, vertex-differing}
 use Rattle.wiring.proofs.CodewordBlocks.{codeword-block-each}
-use Rattle.decoder.specs.Visiting.{nearestOf}
-use Rattle.decoder.specs.Sweep.{sweep, turn, afterSweeps}
-use Rattle.decoder.proofs.Sweeping.{Mends, sweep-word, after-block, after-bytes}
+use Rattle.sweeps.specs.Sweeping.{nearestOf}
+use Rattle.sweeps.specs.Sweep.{sweep, turn, afterSweeps}
+use Rattle.sweeps.proofs.Sweeping.{Mends, sweep-word, after-block, after-bytes}
 use Rattle.report.specs.Report.{differsAt}
 use Rattle.report.proofs.Runs.{differs-flag, differs-agree, differs-none, flips-differ}
 use Rattle.radius.specs.Margin.{sweepsNamed}

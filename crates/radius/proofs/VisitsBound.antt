@@ -27,19 +27,19 @@ use Rattle.bits.specs.Bit.{flips}
 use Rattle.bits.specs.Sum.{flag}
 use Rattle.bits.proofs.Sums.{flag-le-one, sum-add, sum-append, sum-mono}
 use Rattle.inner_code.specs.Reply.{Reply, done, refused}
-use Rattle.wiring.specs.Plan.{Plan, Side, edgeCount, sideOf}
-use Rattle.wiring.specs.Block.{Block, Codeword}
+use Rattle.wiring.specs.Plan.{Plan, Side, edgeCount, sideOf, other}
+use Rattle.wiring.specs.Block.{Block, Codeword, heard}
 use Rattle.wiring.proofs.Plans.{plan-joined}
 use Rattle.wiring.proofs.VertexWords.{vertex-ext}
-use Rattle.decoder.specs.Sweep.{other, turn}
-use Rattle.decoder.specs.Decode.{sweptBlock, settlesAt, heard, visitsIn, visitsMade}
+use Rattle.sweeps.specs.Sweep.{turn}
+use Rattle.decoder.specs.Decode.{sweptBlock, settlesAt, visitsIn, visitsMade}
 use Rattle.decoder.specs.Answer.{decodeCheck, decodeVisits}
 use Rattle.decoder.proofs.Passes.{turn-again}
 use Rattle.decoder.proofs.Settling.{decode-stopped, decode-settled, decode-unsettled}
 use Rattle.decoder.proofs.Trials.{check-means}
 use Rattle.report.specs.Report.{differsAt}
 use Rattle.report.proofs.Runs.{differs-none}
-use Rattle.radius.specs.Spread.{size}
+use Rattle.meetings.specs.Spread.{size}
 use Rattle.radius.specs.Margin.{bound}
 use Rattle.radius.specs.Answer.{measuresOf, marginAnswer}
 use Rattle.radius.specs.Demand.{visitsBound}

@@ -1,12 +1,12 @@
--- What the services spread and margin answer, and the numbers of a plan.
+-- What the service margin answers, and the numbers of a plan.
 --   distanceOf side           the inner distance D of a side's code
 --   measuresOf plan           the measures of a plan; its spread is measured from the wiring's own entries
 --   marginOf plan F           the sweeps named for F flips, 0 where F is not covered
---   spreadAnswer, marginAnswer  the services: 1 to 10, 23, and R; 1 to 10, 23, 17, 18, and the sweeps
+--   marginAnswer plan F       the service: 1 to 10, 23, 17, 18, or the sweeps
 --   numbersOf plan            a plan's nine numbers: of each side n, d, k and the inner distance D, and the spread R
 --   inOrder p                 such numbers in the order in which they are answered: nl, nr, dl, dr, kl, kr, the left D, the right D, R
 --   numbersAnswer plan        1 to 10 and 23, or a plan's nine numbers
---   spreadReply, marginReply, numbersReply  the paper's number, place and values for each case of an answer in the code
+--   marginReply, numbersReply  the paper's number, place and values for each case of an answer in the code
 use Prim.Native.Nat.{ℕ}
 use mathlib.Core.List.{List, [], _∷_}
 use lib.Dec.{ltb, eqb}
@@ -15,11 +15,10 @@ use Rattle.inner_code.specs.Code.{distance}
 use Rattle.wiring.specs.Plan.{Plan, Side, edgeCount, left, right, sideOf}
 use Rattle.wiring.specs.Wiring.{planCheck}
 use Rattle.wiring.specs.declared.side.SideName.{SideName}
-use Rattle.radius.specs.Spread.{spread}
+use Rattle.meetings.specs.Spread.{spread}
 use Rattle.radius.specs.Margin.{Measures, sweepsNamed}
 use Rattle.radius.specs.declared.numbers.Numbers.{Numbers}
 use Rattle.radius.specs.declared.numbers.PlanNumbers.{PlanNumbers}
-use Rattle.radius.specs.declared.numbers.Spread.{Spread}
 use Rattle.radius.specs.declared.margins.Margin.{Margin}
 
 abbrev pub distanceOf : Side → ℕ
@@ -32,10 +31,6 @@ measuresOf plan =
 
 abbrev pub marginOf : Plan → ℕ → ℕ
 marginOf plan F = sweepsNamed (measuresOf plan) F
-
-unfoldable pub spreadAnswer : Plan → Reply
-unfolding andThen planCheck spread
-spreadAnswer plan = andThen (planCheck plan) (done (spread (sideOf plan) ∷ []))
 
 unfoldable pub marginAnswer : Plan → ℕ → Reply
 unfolding andThen refuseIf planCheck sweepsNamed
@@ -65,10 +60,6 @@ inOrder p = p .nl ∷ p .nr ∷ p .dl ∷ p .dr ∷ p .kl ∷ p .kr ∷ p .«lef
 unfoldable pub numbersAnswer : Plan → Reply
 unfolding andThen planCheck distance spread
 numbersAnswer plan = andThen (planCheck plan) (done (inOrder (numbersOf plan)))
-
-abbrev pub spreadReply : Spread → Reply
-spreadReply (Spread.Value value) = done (value ∷ [])
-spreadReply (Spread.Refused r) = refused (r .number) (r .place)
 
 abbrev pub marginReply : Margin → Reply
 marginReply (Margin.Sweeps sweeps) = done (sweeps ∷ [])

@@ -5,7 +5,7 @@
 use Prim.Native.Nat.{ℕ, zero, suc}
 use mathlib.Core.Bool.{cond}
 use Rattle.wiring.specs.declared.side.SideName.{SideName}
-use Rattle.decoder.specs.Sweep.{other}
+use Rattle.wiring.specs.Plan.{other}
 use Rattle.radius.specs.Margin.{Measures, stepCovered, nextBound}
 
 unfoldable pub oneMore : ℕ → ℕ

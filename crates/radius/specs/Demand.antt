@@ -14,7 +14,7 @@ use Rattle.bits.specs.Bit.{written}
 use Rattle.bits.specs.Sum.{sum}
 use Rattle.inner_code.specs.Reply.{Reply, done, refused}
 use Rattle.wiring.specs.Plan.{Plan, sideOf}
-use Rattle.decoder.specs.Sweep.{turn}
+use Rattle.sweeps.specs.Sweep.{turn}
 use Rattle.decoder.specs.Decode.{settledAfter}
 use Rattle.decoder.specs.Answer.{decodeAnswer, decodeOutput}
 use Rattle.radius.specs.Margin.{bound}

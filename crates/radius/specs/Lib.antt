@@ -1,7 +1,5 @@
-pub mod Spread
 pub mod Margin
 pub mod Answer
 pub mod Demand
 pub mod Chain
 pub mod Ranges
-pub mod Walk

@@ -13,7 +13,7 @@ use lib.Dec.{ltb, leb, eqb}
 use Rattle.bits.specs.Search.{firstFailing}
 use Rattle.wiring.specs.Plan.{left}
 use Rattle.wiring.specs.declared.side.SideName.{SideName}
-use Rattle.decoder.specs.Sweep.{turn}
+use Rattle.sweeps.specs.Sweep.{turn}
 
 pub record Measures : Type 0 where
   pub edges : ℕ

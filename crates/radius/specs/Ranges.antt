@@ -2,14 +2,9 @@
 --   distanceTo p to          of a plan's nine numbers, the inner distance D of the side that is named
 --   measuresBy p             the measures that they give; dr, kl and kr do not enter
 --   InRange p                nl and nr up to 2,048, dl up to 16, both D from 1 to 16, R up to 1,048,576: every accepted plan is in range
---   planRange p              the test of it
---   namedInRange p F         the sweeps named for F flips; 0 where F is not covered or the numbers are no plan's
---   beyondInRange p          the first F that is not covered; 0 where the numbers are no plan's
 use Prim.Native.Nat.{ℕ, _*_, _≤_}
-use mathlib.Core.Bool.{Bool, cond, _&&_}
-use lib.Dec.{leb}
 use Rattle.wiring.specs.declared.side.SideName.{SideName}
-use Rattle.radius.specs.Margin.{Measures, sweepsNamed, beyond}
+use Rattle.radius.specs.Margin.{Measures}
 use Rattle.radius.specs.declared.numbers.PlanNumbers.{PlanNumbers}
 
 abbrev pub distanceTo : PlanNumbers → SideName → ℕ
@@ -26,20 +21,3 @@ pub record InRange (p : PlanNumbers) : Type 0 where
   pub distance-low : (to : SideName) → 1 ≤ distanceTo p to
   pub distance-high : (to : SideName) → distanceTo p to ≤ 16
   pub spread-high : p .spread ≤ 1048576
-
-unfoldable pub planRange : PlanNumbers → Bool
-planRange p =
-    leb (p .nl) 2048
-    && (leb (p .nr) 2048
-    && (leb (p .dl) 16
-    && (leb 1 (p .«left_distance»)
-    && (leb (p .«left_distance») 16
-    && (leb 1 (p .«right_distance») && (leb (p .«right_distance») 16 && leb (p .spread) 1048576))))))
-
-unfoldable pub namedInRange : PlanNumbers → ℕ → ℕ
-unfolding planRange sweepsNamed
-namedInRange p F = cond (planRange p) (sweepsNamed (measuresBy p) F) 0
-
-unfoldable pub beyondInRange : PlanNumbers → ℕ
-unfolding planRange beyond
-beyondInRange p = cond (planRange p) (beyond (measuresBy p)) 0

@@ -7,7 +7,7 @@ ghost use Prim.Native.Nat.{_+_, _*_, _≤_, _<_};
 ghost use lib.ListN.{length};
 ghost use lib.Seq.{sets};
 ghost use Rattle.bits.specs.Bit.{written};
-ghost use Rattle.wiring.specs.Plan.{planOf};
+ghost use Rattle.wiring.specs.Plan.{planAt};
 ghost use Rattle.report.specs.Report.{differsAt, runCount, pairBytes, runBytes};
 ghost use Rattle.report.specs.Answer.{reportAnswer, reportList, reportReply};
 ghost use Rattle.report.specs.Agreement.{Held, Agreeing};
@@ -31,8 +31,8 @@ pub fn report_runs(
     settled: &[u8],
     list: &mut [u8],
 ) -> Reported
-    ensures { λ r. ⌜ reportReply r ≡ reportAnswer (planOf (now (left .entry)) (now (right .entry)) nl nr (now (wiring .entry))) (now (received .entry)) (now (settled .entry)) (now (list .entry)) ⌝ }
-    ensures { λ _. ⌜ now (list .exit) ≡ reportList (planOf (now (left .entry)) (now (right .entry)) nl nr (now (wiring .entry))) (now (received .entry)) (now (settled .entry)) (now (list .entry)) ⌝ }
+    ensures { λ r. ⌜ reportReply r ≡ reportAnswer (planAt left right nl nr wiring) (now (received .entry)) (now (settled .entry)) (now (list .entry)) ⌝ }
+    ensures { λ _. ⌜ now (list .exit) ≡ reportList (planAt left right nl nr wiring) (now (received .entry)) (now (settled .entry)) (now (list .entry)) ⌝ }
 {
     let plan = wiring::check_plan(left, right, nl, nr, wiring);
     let checked = plan.checked;

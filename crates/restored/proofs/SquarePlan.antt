@@ -29,7 +29,7 @@ use Rattle.wiring.specs.Wiring.{planCheck}
 use Rattle.wiring.specs.Block.{blockBytes, isCodewordBlock, Block, Codeword}
 use Rattle.wiring.specs.Square.{squareWiring, squarePlan}
 use Rattle.wiring.proofs.Blocks.{block-back}
-use Rattle.radius.specs.Spread.{spread}
+use Rattle.meetings.specs.Spread.{spread}
 use Rattle.radius.specs.Answer.{marginAnswer}
 use Rattle.restored.specs.Flip.{Flipped}
 use Rattle.restored.specs.Sent.{sentBlock, Received}

@@ -15,7 +15,7 @@ use Rattle.wiring.specs.declared.side.SideName.{SideName}
 use Rattle.wiring.proofs.Blocks.{bytes-hold, block-sized}
 use Rattle.wiring.proofs.Plans.{plan-done}
 use Rattle.unsatisfied.specs.Count.{countChange}
-use Rattle.decoder.specs.Sweep.{sweep}
+use Rattle.sweeps.specs.Sweep.{sweep}
 use Rattle.single_sweep.specs.Answer.{onceCheck, onceAnswer, onceBlock}
 
 module _ (plan : Plan) (block : List ℕ) where

@@ -2,7 +2,7 @@
 --   unsatisfiedAt side block       how many vertices of a side read no inner codeword (unsatisfied specs Count)
 --   missedOf code w                1 where the code's test of a word fails (unsatisfied specs Answer)
 --   acrossFrom side wiring places i  the entry of the other side at which the bit stands that entry i of a side has (specs Telling)
---   Across plan side places        what leads there (decoder specs Visiting)
+--   Across wiring side places      what leads there (wiring specs Places)
 --   bothCodes, codeOf              a side as the code holds it (wiring specs Access, Checking)
 -- Laws are named by their subject, then by the fact: `code-` and `sheet-` are about the parts of a side, `across-` about the entry of the other
 -- side, `told-` about the count of a side in which one bit is turned, `count-` about the counts of both sides.
@@ -12,40 +12,27 @@ use mathlib.Core.Path.{_≡_, refl, sym, ap, ap₂, _∙_}
 use native.Mathlib.Nat.{div-add-mod', div-lt-iff-lt-mul, mod-lt}
 use native.Mathlib.Omega.{arith}
 use lib.Bits.{bitXor}
-use lib.ListN.{length, replicate}
+use lib.ListN.{length}
 use Rattle.bits.specs.Window.{at, turned}
 use Rattle.inner_code.specs.Reply.{done}
-use Rattle.inner_code.proofs.SheetChecks.{sound-accepted}
-use Rattle.tables.specs.Finding.{preparedFinder, Finds}
-use Rattle.tables.proofs.Finding.{prepared-finds}
-use Rattle.wiring.specs.Plan.{Plan, Side, edgeCount, sheetOf, countOf, sideOf, sideBit, left, right}
+use Rattle.wiring.specs.Plan.{Plan, Side, edgeCount, sheetOf, countOf, sideOf, sideBit, left, right, other}
 use Rattle.wiring.specs.Wiring.{planCheck}
 use Rattle.wiring.specs.Block.{vertexWord}
-use Rattle.wiring.specs.Access.{bothCodes, readWord}
+use Rattle.wiring.specs.Access.{bothCodes, readWord, Readable}
 use Rattle.wiring.specs.Checking.{codeOf}
 use Rattle.wiring.specs.declared.side.SideCode.{SideCode}
 use Rattle.wiring.specs.declared.side.SideName.{SideName}
-use Rattle.wiring.proofs.Plans.{plan-sound}
+use Rattle.wiring.proofs.Plans.{plan-whole}
+use Rattle.wiring.proofs.Sides.{right-left}
 use Rattle.wiring.proofs.TurnedBits.{vertex-turned-same}
-use Rattle.wiring.proofs.VertexAccess.{read-inside}
+use Rattle.wiring.proofs.VertexAccess.{read-vertex, plan-readable}
 use Rattle.unsatisfied.specs.Count.{unsatisfiedAt, unsatisfiedCount}
 use Rattle.unsatisfied.specs.Answer.{missedOf}
 use Rattle.unsatisfied.proofs.Counting.{missed, missedWord, missed-word, at-turned}
 use Rattle.unsatisfied.proofs.VertexTests.{word-defined}
-use Rattle.decoder.specs.Sweep.{other}
-use Rattle.decoder.specs.Visiting.{PlacesNoted}
-use Rattle.decoder.proofs.RightWords.{plan-whole, plan-fits, places-lt, places-bit}
-use Rattle.decoder.specs.Visiting.{Across}
+use Rattle.wiring.specs.Places.{PlacesNoted, Across}
+use Rattle.wiring.proofs.EdgePlaces.{places-lt, places-bit}
 use Rattle.single_sweep.specs.Telling.{acrossFrom}
-
--- ---- the names of the sides differ
-
-abbrev sideRank : SideName → ℕ
-sideRank SideName.Left = 0
-sideRank SideName.Right = 1
-
-right-not-left : right ≡ left → ⊥
-right-not-left e = let z : _≡_ {A = ℕ} 1 0 = ap sideRank e in omega arith
 
 -- ---- the parts of a side
 
@@ -62,19 +49,12 @@ count-split sides SideName.Left block = refl
 count-split sides SideName.Right block = omega arith
 
 module _ (plan : Plan) (accepted : planCheck plan ≡ done []) where
-  -- a finder that is prepared for a side finds its nearest words
-  pub prepared : (name : SideName) {code : SideCode} → code ≡ codeOf plan name → {before after : List ℕ}
-      → after ≡ preparedFinder (sheetOf plan name) (code .k) (code .basis) before → before ≡ replicate 4640 0 → Finds (sheetOf plan name) after
-  prepared name {code} held p zeros =
-      prepared-finds (sheetOf plan name) (code .k) p zeros (sound-accepted (sheetOf plan name) (plan-sound plan accepted .0 name))
-      (ap (λ (x : SideCode). x .k) held) (ap (λ (x : SideCode). x .basis) held)
-
   -- ---- the entry of the other side
 
   abbrev Meets : SideName → ℕ → ℕ → Type 0
   Meets name i place = (place < edgeCount plan) × (sideBit (other name) (plan .wiring) place ≡ sideBit name (plan .wiring) i)
 
-  pub across-meets : (name : SideName) {places : List ℕ} → Across plan name places → (i : ℕ) → i < edgeCount plan
+  pub across-meets : (name : SideName) {places : List ℕ} → Across (plan .wiring) name places → (i : ℕ) → i < edgeCount plan
       → Meets name i (acrossFrom name (plan .wiring) places i)
   unfolding acrossFrom sideBit other
   across-meets SideName.Left across i below =
@@ -82,11 +62,11 @@ module _ (plan : Plan) (accepted : planCheck plan ≡ done []) where
       (places-lt plan accepted noted i below, sym (places-bit plan accepted noted i below))
   across-meets SideName.Right across i below = (plan-whole plan accepted right .bit-lt i below, refl)
 
-  pub across-left : {places : List ℕ} → PlacesNoted plan places → Across plan left places
+  pub across-left : {places : List ℕ} → PlacesNoted (plan .wiring) places → Across (plan .wiring) left places
   across-left noted = record { noted = λ _. noted }
 
-  pub across-right : {places : List ℕ} → Across plan right places
-  across-right = record { noted = λ e. absurd (right-not-left e) }
+  pub across-right : {places : List ℕ} → Across (plan .wiring) right places
+  across-right = record { noted = λ e. absurd (right-left e) }
 
   -- ---- a bit that is turned, by the code's test of the vertex that reads it
 
@@ -96,6 +76,9 @@ module _ (plan : Plan) (accepted : planCheck plan ≡ done []) where
     vertex-below =
         let w = plan-whole plan accepted name in
         div-lt-iff-lt-mul (w .degree-pos) .1 (rw (w .entries) below)
+
+    pub told-readable : Readable name (plan .wiring) (code .d) block (place / code .d)
+    told-readable = rw held (plan-readable plan accepted block room name _ vertex-below)
 
     pub told-turned : {word before after : ℕ} {block' : List ℕ} → block' ≡ turned block (sideBit name (plan .wiring) place) 1
         → word ≡ readWord name (plan .wiring) (code .d) block (place / code .d) → before ≡ missedOf code word
@@ -116,7 +99,7 @@ module _ (plan : Plan) (accepted : planCheck plan ≡ done []) where
         word-is : word ≡ vertexWord side block v
         word-is =
             read ∙ ap (λ (x : SideCode). readWord name (plan .wiring) (x .d) block (place / x .d)) held
-            ∙ read-inside (sheetOf plan name) (plan-fits plan accepted name) name block v vertex-below
+            ∙ read-vertex (sheetOf plan name) (countOf plan name) (plan .wiring) name block v
 
         turned-is : bitXor word (2 ^ (code .d - 1 - place % code .d)) ≡ vertexWord side block' v
         turned-is =

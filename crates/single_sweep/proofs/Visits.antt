@@ -1,7 +1,7 @@
 -- Vertices visited in turn, and the true count as they are.
 --   Visited plan side before v change block  the first v vertices of a side are visited (specs Telling)
 --   missed side block v           1 where vertex v reads no inner codeword (unsatisfied Counting)
---   SideReady ..                  a side that fits its wiring, and a finder for it (decoder specs Visiting)
+--   SideReady ..                  a side that fits its wiring, and a finder for it (sweeps specs Sweeping)
 -- Laws are named `visited-`: `-none` at the start, `-kept` a vertex that stays, `-mended` one that takes another word, `-all` after the last;
 -- `word-mended` says what becomes of a vertex that read no codeword, `side-few` and
 -- `change-few` bound the numbers.
@@ -19,20 +19,19 @@ use Rattle.inner_code.specs.Code.{isCodeword}
 use Rattle.inner_code.specs.Reply.{done}
 use Rattle.inner_code.proofs.NearestWord.{nearest-codeword, changed-none, changed-tied}
 use Rattle.inner_code.proofs.SheetChecks.{Sound}
-use Rattle.tables.specs.Finding.{Finds}
-use Rattle.tables.proofs.Finding.{Member}
-use Rattle.wiring.specs.Plan.{Plan, Side, edgeCount, sheetOf, countOf, sideOf, left}
+use Rattle.finder.specs.Finding.{Finds}
+use Rattle.finder.proofs.Finding.{Member}
+use Rattle.wiring.specs.Plan.{Plan, Side, edgeCount, sheetOf, countOf, sideOf, left, other}
 use Rattle.wiring.specs.Wiring.{planCheck}
 use Rattle.wiring.specs.Block.{vertexWord, withWord}
 use Rattle.wiring.specs.declared.side.SideName.{SideName}
-use Rattle.wiring.proofs.Plans.{plan-sound}
+use Rattle.wiring.proofs.Plans.{plan-sound, plan-whole, plan-fits}
 use Rattle.wiring.proofs.VertexWords.{vertex-lt, withWord-same, withWord-other}
 use Rattle.unsatisfied.specs.Count.{unsatisfiedAt, unsatisfiedCount, countChange}
 use Rattle.unsatisfied.proofs.Counting.{missed, missedWord, missed-word, at-le, at-moved, change-is}
-use Rattle.decoder.specs.Sweep.{visited, sweep, other}
-use Rattle.decoder.specs.Visiting.{nearestOf, changedAt, tiedAt}
-use Rattle.decoder.proofs.Sweeping.{visited-one-more, visited-skip, length-visited}
-use Rattle.decoder.proofs.RightWords.{plan-whole, plan-fits}
+use Rattle.sweeps.specs.Sweep.{visited, sweep}
+use Rattle.sweeps.specs.Sweeping.{nearestOf, changedAt, tiedAt}
+use Rattle.sweeps.proofs.Sweeping.{visited-one-more, visited-skip, length-visited}
 use Rattle.single_sweep.specs.Telling.{Visited}
 use Rattle.single_sweep.proofs.TurnedBits.{count-split}
 

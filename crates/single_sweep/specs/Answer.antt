@@ -9,7 +9,7 @@ use Rattle.wiring.specs.Plan.{Plan, edgeCount, sideOf}
 use Rattle.wiring.specs.Wiring.{planCheck}
 use Rattle.wiring.specs.Block.{blockCheck}
 use Rattle.wiring.specs.declared.side.SideName.{SideName}
-use Rattle.decoder.specs.Sweep.{sweep}
+use Rattle.sweeps.specs.Sweep.{sweep}
 use Rattle.unsatisfied.specs.Count.{countChange}
 
 unfoldable pub onceCheck : Plan → List ℕ → Reply

@@ -8,8 +8,8 @@ use Rattle.bits.specs.Window.{at}
 use Rattle.wiring.specs.Plan.{Plan, edgeOf, sideOf}
 use Rattle.wiring.specs.declared.side.SideName.{SideName}
 use Rattle.unsatisfied.specs.Count.{unsatisfiedCount}
-use Rattle.decoder.specs.Sweep.{visited}
-use Rattle.decoder.specs.Visiting.{nearestOf}
+use Rattle.sweeps.specs.Sweep.{visited}
+use Rattle.sweeps.specs.Sweeping.{nearestOf}
 
 unfoldable pub acrossFrom : SideName → List ℕ → List ℕ → ℕ → ℕ
 unfolding at edgeOf

@@ -1,7 +1,6 @@
 // One sweep of the side that is named, on a block that is checked.
 use crate::sweep::sweep_told;
-use crate::telling::note_places;
-use tables::FINDER_WORDS;
+use finder::FINDER_WORDS;
 use unsatisfied::Counted;
 use wiring::Checked;
 use wiring::MAX_EDGES;
@@ -10,12 +9,12 @@ use wiring::SideName;
 ghost use mathlib.Core.List.{[]};
 ghost use mathlib.Core.Path.{_≡_};
 ghost use Rattle.inner_code.specs.Reply.{done};
-ghost use Rattle.wiring.specs.Plan.{planOf, sideOf};
+ghost use Rattle.wiring.specs.Plan.{Plan, planOf, planAt, sideOf};
 ghost use Rattle.wiring.specs.Checking.{codeOf};
 ghost use Rattle.wiring.specs.declared.side.SideName.{SideName};
 ghost use Rattle.unsatisfied.specs.Count.{countChange};
 ghost use Rattle.unsatisfied.specs.Answer.{countedReply};
-ghost use Rattle.decoder.specs.Sweep.{sweep};
+ghost use Rattle.sweeps.specs.Sweep.{sweep};
 ghost use Rattle.single_sweep.specs.Answer.{onceCheck, onceAnswer, onceBlock};
 
 // Puts the nearest word at every vertex of a side, and tells by how much the number of unsatisfied vertices, left and right, is above what it
@@ -29,8 +28,8 @@ pub fn sweep_once(
     side: SideName,
     block: &mut [u8],
 ) -> Counted
-    ensures { λ r. ⌜ countedReply r ≡ onceAnswer (planOf (now (left .entry)) (now (right .entry)) nl nr (now (wiring .entry))) side (now (block .entry)) ⌝ }
-    ensures { λ _. ⌜ now (block .exit) ≡ onceBlock (planOf (now (left .entry)) (now (right .entry)) nl nr (now (wiring .entry))) side (now (block .entry)) ⌝ }
+    ensures { λ r. ⌜ countedReply r ≡ onceAnswer (planAt left right nl nr wiring) side (now (block .entry)) ⌝ }
+    ensures { λ _. ⌜ now (block .exit) ≡ onceBlock (planAt left right nl nr wiring) side (now (block .entry)) ⌝ }
 {
     let plan = wiring::check_plan(left, right, nl, nr, wiring);
     let checked = plan.checked;
@@ -75,17 +74,19 @@ fn sweep_left(
     right_code: SideCode,
     block: &mut [u8],
 ) -> usize
-    requires { ⌜ onceCheck (planOf (now left) (now right) nl nr (now wiring)) (now block) ≡ done [] ⌝ }
-    requires { ⌜ «left_code» ≡ codeOf (planOf (now left) (now right) nl nr (now wiring)) SideName.Left ⌝ }
-    requires { ⌜ «right_code» ≡ codeOf (planOf (now left) (now right) nl nr (now wiring)) SideName.Right ⌝ }
-    ensures { λ r. ⌜ r ≡ countChange (sideOf (planOf (now (left .entry)) (now (right .entry)) nl nr (now (wiring .entry)))) (now (block .entry)) (now (block .exit)) ⌝ }
-    ensures { λ _. ⌜ now (block .exit) ≡ sweep (sideOf (planOf (now (left .entry)) (now (right .entry)) nl nr (now (wiring .entry))) SideName.Left) (now (block .entry)) ⌝ }
+    ghost { Plan }
+    requires { λ plan. ⌜ planOf (now left) (now right) nl nr (now wiring) ≡ plan ⌝ }
+    requires { λ plan. ⌜ onceCheck plan (now block) ≡ done [] ⌝ }
+    requires { λ plan. ⌜ «left_code» ≡ codeOf plan SideName.Left ⌝ }
+    requires { λ plan. ⌜ «right_code» ≡ codeOf plan SideName.Right ⌝ }
+    ensures { λ plan r. ⌜ r ≡ countChange (sideOf plan) (now (block .entry)) (now (block .exit)) ⌝ }
+    ensures { λ plan _. ⌜ now (block .exit) ≡ sweep (sideOf plan SideName.Left) (now (block .entry)) ⌝ }
 {
     let basis = left_code.basis;
     let mut finder = [0u16; FINDER_WORDS];
-    tables::prepare_finder(left, left_code.k, &basis, &mut finder);
+    finder::prepare_finder(left, left_code.k, &basis, &mut finder);
     let mut places = [0u16; MAX_EDGES];
-    note_places(left, right, nl, nr, wiring, &mut places);
+    wiring::note_places(wiring, &mut places);
     sweep_told(
         left,
         right,
@@ -112,15 +113,17 @@ fn sweep_right(
     right_code: SideCode,
     block: &mut [u8],
 ) -> usize
-    requires { ⌜ onceCheck (planOf (now left) (now right) nl nr (now wiring)) (now block) ≡ done [] ⌝ }
-    requires { ⌜ «left_code» ≡ codeOf (planOf (now left) (now right) nl nr (now wiring)) SideName.Left ⌝ }
-    requires { ⌜ «right_code» ≡ codeOf (planOf (now left) (now right) nl nr (now wiring)) SideName.Right ⌝ }
-    ensures { λ r. ⌜ r ≡ countChange (sideOf (planOf (now (left .entry)) (now (right .entry)) nl nr (now (wiring .entry)))) (now (block .entry)) (now (block .exit)) ⌝ }
-    ensures { λ _. ⌜ now (block .exit) ≡ sweep (sideOf (planOf (now (left .entry)) (now (right .entry)) nl nr (now (wiring .entry))) SideName.Right) (now (block .entry)) ⌝ }
+    ghost { Plan }
+    requires { λ plan. ⌜ planOf (now left) (now right) nl nr (now wiring) ≡ plan ⌝ }
+    requires { λ plan. ⌜ onceCheck plan (now block) ≡ done [] ⌝ }
+    requires { λ plan. ⌜ «left_code» ≡ codeOf plan SideName.Left ⌝ }
+    requires { λ plan. ⌜ «right_code» ≡ codeOf plan SideName.Right ⌝ }
+    ensures { λ plan r. ⌜ r ≡ countChange (sideOf plan) (now (block .entry)) (now (block .exit)) ⌝ }
+    ensures { λ plan _. ⌜ now (block .exit) ≡ sweep (sideOf plan SideName.Right) (now (block .entry)) ⌝ }
 {
     let basis = right_code.basis;
     let mut finder = [0u16; FINDER_WORDS];
-    tables::prepare_finder(right, right_code.k, &basis, &mut finder);
+    finder::prepare_finder(right, right_code.k, &basis, &mut finder);
     let places = [0u16; 0];
     sweep_told(
         left,

@@ -8,14 +8,14 @@ ghost use mathlib.Core.Path.{_≡_};
 ghost use mathlib.Core.Bool.{cond};
 ghost use lib.Dec.{eqb};
 ghost use Rattle.inner_code.specs.Reply.{done};
-ghost use Rattle.tables.specs.Finding.{Finds};
-ghost use Rattle.wiring.specs.Plan.{planOf, sideOf, sheetOf};
+ghost use Rattle.finder.specs.Finding.{Finds};
+ghost use Rattle.wiring.specs.Plan.{Plan, planOf, sideOf, sheetOf};
 ghost use Rattle.wiring.specs.Checking.{codeOf};
 ghost use Rattle.wiring.specs.declared.side.SideName.{SideName};
 ghost use Rattle.unsatisfied.specs.Count.{countChange};
-ghost use Rattle.decoder.specs.Sweep.{sweep};
+ghost use Rattle.sweeps.specs.Sweep.{sweep};
 ghost use Rattle.single_sweep.specs.Answer.{onceCheck};
-ghost use Rattle.decoder.specs.Visiting.{Across};
+ghost use Rattle.wiring.specs.Places.{Across};
 
 // Sweeps a side with its finder, and tells the change of the count.
 pub(crate) fn sweep_told(
@@ -31,13 +31,15 @@ pub(crate) fn sweep_told(
     places: &[u16],
     block: &mut [u8],
 ) -> usize
-    requires { ⌜ onceCheck (planOf (now left) (now right) nl nr (now wiring)) (now block) ≡ done [] ⌝ }
-    requires { ⌜ «left_code» ≡ codeOf (planOf (now left) (now right) nl nr (now wiring)) SideName.Left ⌝ }
-    requires { ⌜ «right_code» ≡ codeOf (planOf (now left) (now right) nl nr (now wiring)) SideName.Right ⌝ }
-    requires { ⌜ Finds (sheetOf (planOf (now left) (now right) nl nr (now wiring)) side) (now finder) ⌝ }
-    requires { ⌜ Across (planOf (now left) (now right) nl nr (now wiring)) side (now places) ⌝ }
-    ensures { λ r. ⌜ r ≡ countChange (sideOf (planOf (now (left .entry)) (now (right .entry)) nl nr (now (wiring .entry)))) (now (block .entry)) (now (block .exit)) ⌝ }
-    ensures { λ _. ⌜ now (block .exit) ≡ sweep (sideOf (planOf (now (left .entry)) (now (right .entry)) nl nr (now (wiring .entry))) side) (now (block .entry)) ⌝ }
+    ghost { Plan }
+    requires { λ plan. ⌜ planOf (now left) (now right) nl nr (now wiring) ≡ plan ⌝ }
+    requires { λ plan. ⌜ onceCheck plan (now block) ≡ done [] ⌝ }
+    requires { λ plan. ⌜ «left_code» ≡ codeOf plan SideName.Left ⌝ }
+    requires { λ plan. ⌜ «right_code» ≡ codeOf plan SideName.Right ⌝ }
+    requires { λ plan. ⌜ Finds (sheetOf plan side) (now finder) ⌝ }
+    requires { λ plan. ⌜ Across (now wiring) side (now places) ⌝ }
+    ensures { λ plan r. ⌜ r ≡ countChange (sideOf plan) (now (block .entry)) (now (block .exit)) ⌝ }
+    ensures { λ plan _. ⌜ now (block .exit) ≡ sweep (sideOf plan side) (now (block .entry)) ⌝ }
 {
     let code = wiring::code_of(side, left_code, right_code);
     let n = code.n;
@@ -46,10 +48,10 @@ pub(crate) fn sweep_told(
     let mut v = 0;
     while v < n {
         let word = wiring::read_word(side, wiring, d, block, v);
-        if tables::is_codeword(finder, word) {
+        if finder::is_codeword(finder, word) {
             v += 1;
         } else {
-            let step = decoder::nearest_on(left, right, side, finder, word);
+            let step = sweeps::nearest_on(left, right, side, finder, word);
             let told = put_told(
                 left,
                 right,

@@ -4,4 +4,3 @@ pub mod Entries
 pub mod Keys
 pub mod Tables
 pub mod LookUps
-pub mod Finding

@@ -31,7 +31,8 @@ use Rattle.inner_code.proofs.SheetChecks.{Sound, sound, sound-accepted}
 use Rattle.tables.specs.Classes.{smallestOf, isSmallest, classOf, tieMark, entryOf, entriesBelow}
 use Rattle.tables.specs.Answer.{tableBytes, tableOf, buildAnswer, buildOutput, patternIn, lookUpAnswer}
 use Rattle.tables.specs.Numbering.{numberOf}
-use Rattle.tables.proofs.Numbers.{reduced-le, reduced-again, smallest-reduced, smallest-test, class-number}
+use Rattle.inner_code.proofs.EchelonForm.{reduced-le}
+use Rattle.tables.proofs.Numbers.{reduced-again, smallest-reduced, smallest-test, class-number}
 use Rattle.tables.proofs.Entries.{smallestBelow, entries-pair}
 use Rattle.tables.proofs.Tables.{table-length}
 

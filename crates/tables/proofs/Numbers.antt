@@ -10,7 +10,7 @@ use mathlib.Core.Path.{_≡_, refl, sym, ap, ap₂, _∙_}
 use mathlib.Core.Logic.{⊎-elim}
 use mathlib.Core.Bool.{Bool, true, false, cond, not, _&&_, and-true, and-false, true≢false}
 use Prim.Native.Nat.{ℕ, zero, suc, _+_, _-_, _*_, _/_, _^_, _≤_, _<_}
-use native.Mathlib.Nat.{le-refl, le-trans, le-antisymm, lt-of-le-of-lt, lt-of-lt-of-le, lt-suc-self, eq-zero-or-pos, min-le-left}
+use native.Mathlib.Nat.{le-refl, le-antisymm, lt-of-le-of-lt, lt-of-lt-of-le, lt-suc-self, eq-zero-or-pos}
 use native.Mathlib.Nat.{le-step, add-zero, mul-one, pow-suc, one-mul, zero-mul}
 use native.Mathlib.Decide.{decLt, ℕ-discrete, le-ind}
 use native.Mathlib.Numerals.{add-one}
@@ -20,32 +20,22 @@ use lib.Bits.{bitXor, xor-comm, xor-lt, xor-self, xor-shifted, xor-zero-r}
 use lib.Count.{leadingZeros, leading-top}
 use lib.Dec.{eqb}
 use lib.Pow.{pow-pos, pow-mono, pow-lt, pow-add}
+use Rattle.bits.proofs.Xor.{digit-power, xor-cancel, xor-digit, digit-lt, digit-first, digit-suc}
 use Rattle.bits.specs.Bit.{digit}
 use Rattle.bits.specs.Search.{least}
 use Rattle.bits.specs.Sum.{sum, flag}
 use Rattle.bits.proofs.Searches.{least-le, least-top, least-ge}
 use Rattle.bits.proofs.Sums.{sum-zero, sum-suc, sum-ext, sum-mono, sum-add, sum-scale, sum-const, sum-term, sum-append}
 use Rattle.bits.proofs.Sums.{flag-true, flag-false, flag-equal, flag-apart, count-at}
-use Rattle.bits.proofs.Xor.{xor-cancel, xor-digit, digit-lt, digit-first, digit-suc, digit-pow, digit-pow-other}
 use Rattle.inner_code.specs.Code.{combination, isCodeword}
 use Rattle.inner_code.specs.Reduction.{reduceBy, reduced, echelon}
 use Rattle.inner_code.proofs.Combinations.{combination-xor, combination-none, combination-lt, combination-lower, combination-upper}
-use Rattle.inner_code.proofs.EchelonForm.{reduced-xor, reduced-zero, reduced-apart, reduced-codeword, reduceBy-digit, highest}
+use Rattle.inner_code.proofs.EchelonForm.{reduced-further, reduced-le, reduced-xor, reduced-zero, reduced-apart, reduced-codeword, reduceBy-digit, highest}
 use Rattle.inner_code.proofs.Cosets.{coset-same}
 use Rattle.tables.specs.Classes.{smallestOf, isSmallest, classOf}
 use Rattle.tables.specs.Numbering.{isFree, freeBelow, weightOf, squeezed, numberOf, topDigit, freeMask, weightIn, squeezedBy}
 
 -- ---- what the rows leave is the smallest word of the class
-
--- a further row leaves no more
-reduced-further : (row : ℕ → ℕ) (k w : ℕ) → reduced row (suc k) w ≤ reduced row k w
-unfolding reduced reduceBy
-reduced-further row k w = min-le-left (reduced row k w) _
-
-pub reduced-le : (row : ℕ → ℕ) (k w : ℕ) → reduced row k w ≤ w
-unfolding reduced
-reduced-le row zero w = le-refl w
-reduced-le row (suc k) w = le-trans (reduced-further row k w) (reduced-le row k w)
 
 -- what is left is of the same class, so of it the same is left
 pub reduced-again : (row : ℕ → ℕ) (k w : ℕ) → reduced row k (reduced row k w) ≡ reduced row k w
@@ -294,14 +284,6 @@ module _ (row : ℕ → ℕ) (k : ℕ) where
 
 -- ---- the free digits, row by row: each new row takes the highest digit of its echelon form away
 
-digit-power : (t b : ℕ) → digit (2 ^ t) b ≡ flag (eqb b t)
-digit-power t b =
-    elim (ℕ-discrete b t) [
-      | yes same ↦ rw same (digit-pow t ∙ sym (flag-equal t t refl))
-      | no other ↦
-          ap (λ (x : ℕ). digit x b) (sym (one-mul (2 ^ t))) ∙ digit-pow-other 1 t b (omega arith) other ∙ sym (flag-apart b t other)
-    ]
-
 -- the highest digit of what is left of a row is free: what is left is a smallest word
 pub free-top : (row : ℕ → ℕ) (k t : ℕ) → 2 ^ t ≤ echelon row k → echelon row k < 2 ^ suc t → isFree row k t ≡ true
 unfolding echelon
@@ -439,11 +421,6 @@ mask-one-more basis i = rw add-one
 pub squeezed-one-more : (mask b w : ℕ) → squeezedBy mask (b + 1) w ≡ bitXor (squeezedBy mask b w) (digit w b * (digit mask b * 2 ^ sum b (digit mask)))
 unfolding squeezedBy weightIn combination
 squeezed-one-more mask b w = rw add-one
-
-pub digits-product : (a b : ℕ) → a < 2 → b < 2 → a * b < 2
-digits-product zero b ha hb = omega (arith, zero-mul b)
-digits-product (suc zero) b ha hb = omega (arith, one-mul b)
-digits-product (suc (suc a)) b ha hb = absurd (omega arith)
 
 -- no more digits are free than there are
 pub free-few : (mask b : ℕ) → sum b (digit mask) ≤ b

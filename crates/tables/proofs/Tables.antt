@@ -22,15 +22,14 @@ use Rattle.bits.proofs.Sums.{sum-suc, sum-zero, sum-append, flag-true, flag-fal
 use Rattle.inner_code.specs.Code.{combination}
 use Rattle.inner_code.specs.Reduction.{reduced, reducedBy, withEchelon}
 use Rattle.inner_code.specs.Sheet.{degree, rowCount, rowOf}
-use Rattle.inner_code.proofs.EchelonForm.{reducedBy-stored, withEchelon-at}
+use Rattle.inner_code.proofs.EchelonForm.{reducedBy-stored, withEchelon-at, reduced-le}
 use Rattle.inner_code.proofs.SheetChecks.{Sound}
 use Rattle.tables.specs.Classes.{isSmallest, entryOf}
 use Rattle.tables.specs.Answer.{tableBytes, tableOf}
 use Rattle.tables.specs.Numbering.{isFree, freeBelow, weightOf, squeezed, numberOf, freeMask, squeezedBy}
 use Rattle.tables.specs.Folding.{keyAt, marked, Lightest, Puts, Copied, Folded, Marked, Filled}
-use Rattle.tables.proofs.Numbers.{reduced-le, reduced-again, smallest-test, count-power, count-smallest}
+use Rattle.tables.proofs.Numbers.{reduced-again, smallest-test, count-power, count-smallest, mask-digit, squeezed-mask}
 use Rattle.tables.proofs.Numbers.{number-xor, number-lt, number-free, number-zero, number-codeword, number-coset, free-rank}
-use Rattle.tables.proofs.Numbers.{mask-digit, squeezed-mask}
 use Rattle.tables.proofs.Folds.{upper-sum, light-start, light-fold, light-first, light-second, light-small, light-entry}
 use Rattle.tables.proofs.Entries.{smallestBelow, entries-ext, length-entries}
 

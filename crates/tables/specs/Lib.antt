@@ -2,4 +2,3 @@ pub mod Classes
 pub mod Answer
 pub mod Numbering
 pub mod Folding
-pub mod Finding

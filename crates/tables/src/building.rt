@@ -72,7 +72,7 @@ fn fill_table(sheet: &[u8], basis: &[u16; 11], table: &mut [u8])
 }
 
 // The same with room for the costs of all classes. What stands there is not read before it is written, and of no use in the end.
-pub(crate) fn fill(sheet: &[u8], basis: &[u16; 11], table: &mut [u8], costs: &mut [u8])
+pub fn fill(sheet: &[u8], basis: &[u16; 11], table: &mut [u8], costs: &mut [u8])
     requires { ⌜ Sized (now sheet) (now basis) (now table) ⌝ }
     requires { ⌜ length (now table) ≤ 2 * length (now costs) ⌝ }
     ensures { λ _. ⌜ now (table .exit) ≡ tableOf (now (sheet .entry)) ⌝ }

@@ -54,7 +54,7 @@ pub fn look_up(sheet: &[u8], word: u64, table: &[u8]) -> Nearest
 }
 
 // The pattern of an entry: its low d bits, and none at the mark.
-pub(crate) fn pattern_of(entry: u16, d: usize) -> u16
+pub fn pattern_of(entry: u16, d: usize) -> u16
     requires { ⌜ d ≤ 16 ⌝ }
     ensures { λ r. ⌜ r ≡ cond (eqb entry tieMark) 0 (entry % 2 ^ d) ⌝ }
 {

@@ -7,7 +7,7 @@ ghost use Rattle.bits.specs.Window.{at};
 ghost use Rattle.tables.specs.Numbering.{topDigit, freeMask, squeezedBy};
 
 // The free digits of 16, as a word, by the first k rows of an echelon form, as `check_into` gives it; a k above 11 counts as 11.
-pub(crate) fn free_digits(basis: &[u16; 11], k: usize) -> u16
+pub fn free_digits(basis: &[u16; 11], k: usize) -> u16
     ensures { λ r. ⌜ r ≡ freeMask (at (now (basis .entry))) (min k 11) ⌝ }
 {
     let mut mask: u16 = 65535;
@@ -33,7 +33,7 @@ fn top_digit(word: u16) -> u16
 }
 
 // The number that the free digits of a word make, all others squeezed out.
-pub(crate) fn squeeze(mask: u16, word: u16) -> u16
+pub fn squeeze(mask: u16, word: u16) -> u16
     ensures { λ r. ⌜ r ≡ squeezedBy mask 16 word ⌝ }
 {
     let mut number: u16 = 0;

@@ -7,7 +7,8 @@
 --   countChange sides before after  the change of the true count, 65,536 added (specs Count)
 -- On the left a bit stands at the entry of its own number, on the right at the entry where the wiring names it, and entry i is read by vertex
 -- i / d. Laws are named by their subject, then by the fact: `entry-` is about the entry of an edge, `degree-` about the degree of a side as
--- the code holds it, `side-` about the count of one side, `change-` about the change. At the end of a name, `-found` and `-nowhere` are the
+-- the code holds it, `side-` about the count of one side, `change-` about the change. At the end of a name, `-readable` leads to what
+-- reading a vertex's word asks, `-found` and `-nowhere` are the
 -- ends of a search, `-lt` is a bound, `-turned` a bit that is turned.
 use Prim.Native.Nat.{ℕ, _+_, _-_, _*_, _/_, _≤_, _<_}
 use mathlib.Core.Bool.{not}
@@ -24,12 +25,13 @@ use Rattle.bits.proofs.Searches.{first-at, first-all}
 use Rattle.inner_code.specs.Reply.{done}
 use Rattle.wiring.specs.Plan.{Plan, edgeOf, edgeCount, left, right, sideBit, sideOf}
 use Rattle.wiring.specs.Wiring.{planCheck}
+use Rattle.wiring.specs.Access.{Readable}
 use Rattle.wiring.specs.Checking.{codeOf}
 use Rattle.wiring.specs.declared.side.SideCode.{SideCode}
 use Rattle.wiring.specs.declared.side.SideName.{SideName}
-use Rattle.wiring.proofs.Blocks.{block-sized, bytes-hold}
 use Rattle.wiring.proofs.Permutation.{Whole, placeOf, place-lt, bit-place}
 use Rattle.wiring.proofs.Plans.{plan-sound, plan-joined}
+use Rattle.wiring.proofs.VertexAccess.{plan-readable, block-room}
 use Rattle.unsatisfied.specs.Count.{unsatisfiedAt, unsatisfiedCount, countChange}
 use Rattle.unsatisfied.specs.Answer.{CheckedBit, entryWith, missedBy}
 use Rattle.unsatisfied.proofs.Counting.{missed, at-turned, change-is}
@@ -76,13 +78,30 @@ module _ {plan : Plan} {l r : SideCode} {e : ℕ} {block : List ℕ} (checked : 
   pub degree-right : 0 < r .d
   degree-right = rw (checked .right-is) (whole right .degree-pos)
 
+  -- the two vertices that read the bit can be read, in the block and in any of its length
+  room : edgeCount plan ≤ length block * 8
+  room = block-room (edgeCount plan) block (checked .block-done)
+
+  entry-vertex : (name : SideName) (place : ℕ) → place < edgeCount plan → place / sideOf plan name .d < sideOf plan name .n
+  entry-vertex name place within = div-lt-iff-lt-mul (whole name .degree-pos) .1 (rw (whole name .entries) within)
+
+  pub left-readable : (bytes : List ℕ) → length bytes ≡ length block → Readable left (plan .wiring) (l .d) bytes (e / l .d)
+  left-readable bytes same =
+      rw (checked .left-is) (plan-readable plan (checked .plan-done) bytes (rw same room) left _ (entry-vertex left e (checked .bit-lt)))
+
+  pub right-readable : {place : ℕ} → place ≡ entryWith (plan .wiring) e → (bytes : List ℕ) → length bytes ≡ length block
+      → Readable right (plan .wiring) (r .d) bytes (place / r .d)
+  right-readable {place} is bytes same =
+      let within : place < edgeCount plan = rw is (entry-lt plan (checked .plan-done) e (checked .bit-lt)) in
+      rw (checked .right-is) (plan-readable plan (checked .plan-done) bytes (rw same room) right _ (entry-vertex right place within))
+
   -- what the code's test tells of the vertex that reads an entry
   entry-missed : (name : SideName) {code : SideCode} → code ≡ codeOf plan name → (bytes : List ℕ) (place x : ℕ) → place < edgeCount plan
       → x ≡ missedBy code name (plan .wiring) bytes (place / code .d) → x ≡ missed (sideOf plan name) bytes (place / sideOf plan name .d)
   entry-missed name held bytes place x within told =
       told ∙ ap (λ (code : SideCode). missedBy code name (plan .wiring) bytes (place / code .d)) held
       ∙ vertex-defined plan (checked .plan-done) name bytes _
-      (div-lt-iff-lt-mul (whole name .degree-pos) .1 (rw (whole name .entries) within))
+      (entry-vertex name place within)
 
   module _ {after : List ℕ} (turns : after ≡ turned block e 1) where
     -- on a side where the bit stands at the entry `place`
@@ -91,7 +110,6 @@ module _ {plan : Plan} {l r : SideCode} {e : ℕ} {block : List ℕ} (checked : 
         → a ≡ missedBy code name (plan .wiring) after (place / code .d)
         → unsatisfiedAt (sideOf plan name) after + b ≡ unsatisfiedAt (sideOf plan name) block + a
     side-turned name held place b a within stands before-told after-told =
-        let room : edgeCount plan ≤ length block * 8 = omega (arith, block-sized _ block (checked .block-done), bytes-hold (edgeCount plan)) in
         let there : turned block (sideOf plan name .bit place) 1 ≡ after = ap (λ (i : ℕ). turned block i 1) stands ∙ sym turns in
         rw (entry-missed name held block place b within before-told, entry-missed name held after place a within after-told)
         (rw there at (at-turned (sideOf plan name) (whole name) block room place within))

@@ -26,9 +26,8 @@ use Rattle.wiring.specs.Checking.{codeOf}
 use Rattle.wiring.specs.declared.side.SideCode.{SideCode}
 use Rattle.wiring.specs.declared.side.SideName.{SideName}
 use Rattle.wiring.proofs.Locating.{codeword-residue}
-use Rattle.wiring.proofs.Permutation.{side-fits}
 use Rattle.wiring.proofs.Plans.{plan-sound}
-use Rattle.wiring.proofs.VertexAccess.{read-inside}
+use Rattle.wiring.proofs.VertexAccess.{read-vertex}
 use Rattle.unsatisfied.specs.Count.{unsatisfiedAt}
 use Rattle.unsatisfied.specs.Answer.{missedOf, missedBy, missedUpTo}
 use Rattle.unsatisfied.proofs.Counting.{missed, missedWord, missed-word}
@@ -72,7 +71,7 @@ module _ (plan : Plan) (accepted : planCheck plan ≡ done []) (name : SideName)
         → missedBy (codeOf plan name) name (plan .wiring) block v ≡ missed (sideOf plan name) block v
     unfolding missedBy
     vertex-defined v l =
-        ap (missedOf (codeOf plan name)) (read-inside (sheetOf plan name) (side-fits plan (plan-sound plan accepted .1) name) name block v l)
+        ap (missedOf (codeOf plan name)) (read-vertex (sheetOf plan name) (countOf plan name) (plan .wiring) name block v)
         ∙ word-defined _ ∙ sym (missed-word (sideOf plan name) block v)
 
     pub up-to-defined : {code : SideCode} → code ≡ codeOf plan name

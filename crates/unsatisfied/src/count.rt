@@ -4,8 +4,9 @@ use wiring::Checked;
 use wiring::SideCode;
 use wiring::SideName;
 ghost use mathlib.Core.Path.{_≡_};
-ghost use Prim.Native.Nat.{_≤_};
-ghost use Rattle.wiring.specs.Plan.{planOf};
+ghost use Prim.Native.Nat.{ℕ, _≤_, _<_};
+ghost use Rattle.wiring.specs.Plan.{planAt};
+ghost use Rattle.wiring.specs.Access.{Readable};
 ghost use Rattle.unsatisfied.specs.Answer.{missedOf, missedBy, missedUpTo, countAnswer, countedReply};
 
 // A count or its change, or the refusal.
@@ -23,7 +24,7 @@ pub fn count_unsatisfied(
     wiring: &[u8],
     block: &[u8],
 ) -> Counted
-    ensures { λ r. ⌜ countedReply r ≡ countAnswer (planOf (now (left .entry)) (now (right .entry)) nl nr (now (wiring .entry))) (now (block .entry)) ⌝ }
+    ensures { λ r. ⌜ countedReply r ≡ countAnswer (planAt left right nl nr wiring) (now (block .entry)) ⌝ }
 {
     let plan = wiring::check_plan(left, right, nl, nr, wiring);
     let checked = plan.checked;
@@ -42,6 +43,7 @@ pub fn count_unsatisfied(
 
 // How many vertices of a side fail the test.
 fn missed_on(code: SideCode, side: SideName, wiring: &[u8], block: &[u8]) -> usize
+    requires { ⌜ ((v : ℕ) → v < code .n → Readable side (now wiring) (code .d) (now block) v) ⌝ }
     ensures { λ r. ⌜ (r ≡ missedUpTo code side (now (wiring .entry)) (code .n) (now (block .entry))) × (r ≤ code .n) ⌝ }
 {
     let mut count = 0;
@@ -61,6 +63,7 @@ pub(crate) fn missed_at(
     block: &[u8],
     v: usize,
 ) -> usize
+    requires { ⌜ Readable side (now wiring) (code .d) (now block) v ⌝ }
     ensures { λ r. ⌜ (r ≡ missedBy code side (now (wiring .entry)) (now (block .entry)) v) × (r ≤ 1) ⌝ }
 {
     missed_word(code, wiring::read_word(side, wiring, code.d, block, v))

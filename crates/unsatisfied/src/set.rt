@@ -8,7 +8,7 @@ use wiring::SideCode;
 use wiring::SideName;
 ghost use mathlib.Core.Path.{_≡_};
 ghost use Rattle.bits.specs.Window.{turned};
-ghost use Rattle.wiring.specs.Plan.{planOf, sideOf};
+ghost use Rattle.wiring.specs.Plan.{Plan, planOf, planAt, sideOf};
 ghost use Rattle.unsatisfied.specs.Count.{countChange};
 ghost use Rattle.unsatisfied.specs.Answer.{CheckedBit, entryWith, bitAnswer, bitBlock, countedReply};
 
@@ -27,8 +27,8 @@ pub fn set_bit(
     value: u64,
     block: &mut [u8],
 ) -> Counted
-    ensures { λ r. ⌜ countedReply r ≡ bitAnswer (planOf (now (left .entry)) (now (right .entry)) nl nr (now (wiring .entry))) bit value (now (block .entry)) ⌝ }
-    ensures { λ _. ⌜ now (block .exit) ≡ bitBlock (planOf (now (left .entry)) (now (right .entry)) nl nr (now (wiring .entry))) bit value (now (block .entry)) ⌝ }
+    ensures { λ r. ⌜ countedReply r ≡ bitAnswer (planAt left right nl nr wiring) bit value (now (block .entry)) ⌝ }
+    ensures { λ _. ⌜ now (block .exit) ≡ bitBlock (planAt left right nl nr wiring) bit value (now (block .entry)) ⌝ }
 {
     let plan = wiring::check_plan(left, right, nl, nr, wiring);
     let checked = plan.checked;
@@ -74,9 +74,11 @@ fn turn_counted(
     bit: usize,
     block: &mut [u8],
 ) -> usize
-    requires { ⌜ CheckedBit (planOf (now left) (now right) nl nr (now wiring)) «left_code» «right_code» bit (now block) ⌝ }
-    ensures { λ r. ⌜ r ≡ countChange (sideOf (planOf (now (left .entry)) (now (right .entry)) nl nr (now (wiring .entry)))) (now (block .entry)) (turned (now (block .entry)) bit 1) ⌝ }
-    ensures { λ _. ⌜ now (block .exit) ≡ turned (now (block .entry)) bit 1 ⌝ }
+    ghost { Plan }
+    requires { λ plan. ⌜ planOf (now left) (now right) nl nr (now wiring) ≡ plan ⌝ }
+    requires { λ plan. ⌜ CheckedBit plan «left_code» «right_code» bit (now block) ⌝ }
+    ensures { λ plan r. ⌜ r ≡ countChange (sideOf plan) (now (block .entry)) (turned (now (block .entry)) bit 1) ⌝ }
+    ensures { λ plan _. ⌜ now (block .exit) ≡ turned (now (block .entry)) bit 1 ⌝ }
 {
     let u = bit / left_code.d;
     let v = entry_with(wiring, bit) / right_code.d;
@@ -95,7 +97,7 @@ fn entry_with(wiring: &[u8], edge: usize) -> usize
     let entries = wiring.len() / 2;
     let mut i = 0;
     while i < entries {
-        if bits::pair(wiring, 2 * i) as usize == edge {
+        if wiring::edge_at(wiring, i) == edge {
             return i;
         }
         i += 1;

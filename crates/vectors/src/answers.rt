@@ -3,43 +3,45 @@ use crate::input;
 use crate::output;
 use decoder::Decoded;
 use inner_code::Nearest;
+use meetings::Spread;
 use messages::Encoded;
 use messages::Taken;
 use panel::Shown;
 use radius::Margin;
-use radius::Spread;
 use report::Reported;
 use tables::Built;
 use wiring::Located;
 use wiring::SideName;
 
-// Reads the fields of a record and writes what the service answers.
+// Reads the fields of a record and writes what the service answers. The service says which fields there are, so it is looked at before any is read.
 pub fn answer(service: u8) {
-    let mut sheet_space = [0u8; 70000];
-    let sheet = input::bytes(&mut sheet_space);
-    if service == 1 {
-        let word = input::number();
-        nearest(&sheet_space[..sheet], word);
-        output::end_line();
-        return;
+    match service {
+        1 | 10 | 11 => on_sheet(service),
+        _ => read_plan(service),
     }
-    if service == 10 {
-        build(&sheet_space[..sheet]);
-        output::end_line();
-        return;
-    }
-    if service == 11 {
-        let word = input::number();
-        look_up(&sheet_space[..sheet], word);
-        output::end_line();
-        return;
-    }
-    read_plan(service, &sheet_space[..sheet]);
     output::end_line();
 }
 
-// The parts of a plan behind its left sheet.
-fn read_plan(service: u8, left: &[u8]) {
+// The services that take a sheet alone.
+fn on_sheet(service: u8) {
+    let mut space = [0u8; 70000];
+    let sheet = input::bytes(&mut space);
+    if service == 10 {
+        build(&space[..sheet]);
+        return;
+    }
+    let word = input::number();
+    if service == 1 {
+        nearest(&space[..sheet], word);
+        return;
+    }
+    look_up(&space[..sheet], word);
+}
+
+// The parts of a plan.
+fn read_plan(service: u8) {
+    let mut left_space = [0u8; 70000];
+    let left = input::bytes(&mut left_space);
     let mut right_space = [0u8; 70000];
     let right = input::bytes(&mut right_space);
     let nl = input::number();
@@ -48,7 +50,7 @@ fn read_plan(service: u8, left: &[u8]) {
     let wiring = input::bytes(&mut wiring_space);
     on_plan(
         service,
-        left,
+        &left_space[..left],
         &right_space[..right],
         nl as usize,
         nr as usize,
@@ -230,7 +232,7 @@ fn report_into(
 }
 
 fn spread(left: &[u8], right: &[u8], nl: usize, nr: usize, wiring: &[u8]) {
-    match radius::plan_spread(left, right, nl, nr, wiring) {
+    match meetings::plan_spread(left, right, nl, nr, wiring) {
         Spread::Value(value) => {
             output::text(b"ok ");
             output::number(value);

@@ -24,7 +24,7 @@ use Rattle.inner_code.specs.Reply.{done}
 use Rattle.wiring.specs.Wiring.{entriesCheck}
 use Rattle.wiring.specs.Access.{noneMarked, markedAfter}
 use Rattle.wiring.proofs.Permutation.{entries-onto, entries-back}
-use Rattle.wiring.proofs.SeenBits.{zeros-at}
+use Rattle.bits.proofs.Lists.{zeros-at}
 
 -- ---- the mask
 

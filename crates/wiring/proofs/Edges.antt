@@ -5,6 +5,7 @@
 --   vertexOf N side e            the vertex of a side that has bit e
 -- Laws are named by their subject, then by the fact:
 --   vertex-of-lt, vertex-of-entry  a bit's vertex is one of the side's n; that of entry v·d + j is v
+--   entries-left                 what is summed over the entries of a left vertex's edges, at their places
 --   edges-into, edges-from       edges counted at their far ends: of a right vertex, of a left vertex
 --   edges-row, edges-column      the right vertices that one left vertex meets, and the left ones that one right vertex meets
 use Prim.Native.Nat.{ℕ, _+_, _*_, _/_, _<_}
@@ -59,25 +60,32 @@ module _ {N : ℕ} {sides : SideName → Side} (g : Joined N sides) where
       sum-ext (sides left .n) _ _ (λ u h. rw (flag-same (end j) u u (end j) sym sym) (mul-comm _ _))
       ∙ sum-at (sides left .n) (end j) x (end-below j k))
 
-  -- the entries of all right vertices, renumbered as edges, are the edges of all left vertices, of which those of u count
-  pub edges-from : (y : ℕ → ℕ) (u : ℕ) → u < sides left .n
-      → sum (sides right .n) (λ v. edgesBetween sides u v * y v) ≡ sum dl (λ j. y (place (u * dl + j) / dr))
-  unfolding edgesBetween
-  edges-from y u l =
+  -- the entries, renumbered as edges, are the edges of all left vertices, of which those of u count
+  pub entries-left : (f : ℕ → ℕ) (u : ℕ) → u < sides left .n
+      → sum N (λ i. flag (eqb (edge i / dl) u) * f i) ≡ sum dl (λ j. f (place (u * dl + j)))
+  entries-left f u l =
       let r = g .whole right in
-      let at : ℕ → ℕ = λ i. flag (eqb (edge i / dl) u) * y (i / dr) in
-      let ends : ℕ → ℕ = λ w. sum dl (λ j. y (place (w * dl + j) / dr)) in
+      let at : ℕ → ℕ = λ i. flag (eqb (edge i / dl) u) * f i in
+      let ends : ℕ → ℕ = λ w. sum dl (λ j. f (place (w * dl + j))) in
       let in-order : (w j : ℕ) → w < sides left .n → j < dl → w * dl + j < N = λ w j. entry-lt (g .whole left) w j in
-      sum-ext (sides right .n) _ (λ v. sum dr (λ j. at (v * dr + j)))
-      (λ v k. sym (sum-scale-right dr (y v) _) ∙ sum-ext dr _ _ (λ j m. rw (digits-div v m)))
-      ∙ sym (sum-blocks (sides right .n) dr at)
-      ∙ ap (λ (m : ℕ). sum m at) (r .entries)
-      ∙ sym (sum-reindex N place edge (place-lt r) (r .bit-lt) (bit-place r) (place-bit r) at)
+      sym (sum-reindex N place edge (place-lt r) (r .bit-lt) (bit-place r) (place-bit r) at)
       ∙ ap (λ (m : ℕ). sum m (λ i. at (place i))) (sym (g .whole left .entries))
       ∙ sum-blocks (sides left .n) dl (λ i. at (place i))
       ∙ sum-ext (sides left .n) _ (λ w. flag (eqb w u) * ends w)
       (λ w k. sum-ext dl _ _ (λ j m. rw (bit-place r _ (in-order w j k m), digits-div w m)) ∙ sum-scale dl (flag (eqb w u)) _)
       ∙ sum-at (sides left .n) u ends l
+
+  -- the edges of u stand among the entries of all right vertices
+  pub edges-from : (y : ℕ → ℕ) (u : ℕ) → u < sides left .n
+      → sum (sides right .n) (λ v. edgesBetween sides u v * y v) ≡ sum dl (λ j. y (place (u * dl + j) / dr))
+  unfolding edgesBetween
+  edges-from y u l =
+      let at : ℕ → ℕ = λ i. flag (eqb (edge i / dl) u) * y (i / dr) in
+      sum-ext (sides right .n) _ (λ v. sum dr (λ j. at (v * dr + j)))
+      (λ v k. sym (sum-scale-right dr (y v) _) ∙ sum-ext dr _ _ (λ j m. rw (digits-div v m)))
+      ∙ sym (sum-blocks (sides right .n) dr at)
+      ∙ ap (λ (m : ℕ). sum m at) (g .whole right .entries)
+      ∙ entries-left (λ i. y (i / dr)) u l
 
   pub edges-row : (u : ℕ) → u < sides left .n → sum (sides right .n) (λ v. edgesBetween sides u v) ≡ dl
   edges-row u l = simp (sum-const, mul-one) at (edges-from (λ v. 1) u l)

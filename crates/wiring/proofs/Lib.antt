@@ -10,3 +10,5 @@ pub mod EdgeMarks
 pub mod VertexAccess
 pub mod Locating
 pub mod EdgeEnds
+pub mod EdgePlaces
+pub mod Sides

@@ -35,8 +35,7 @@ use Rattle.wiring.specs.Checking.{WiredPlan, codeOf}
 use Rattle.wiring.specs.declared.plan.CheckedPlan.{CheckedPlan}
 use Rattle.wiring.specs.declared.side.SideCode.{SideCode}
 use Rattle.wiring.specs.declared.side.SideName.{SideName}
-use Rattle.wiring.proofs.Permutation.{side-fits}
-use Rattle.wiring.proofs.VertexAccess.{read-zero, read-inside}
+use Rattle.wiring.proofs.VertexAccess.{read-zero, read-vertex}
 use Rattle.wiring.proofs.Plans.{PlanAccepted, accepted-edges}
 
 -- ---- one side, vertex by vertex: `word` is what the code reads, `left` what the basis leaves of it
@@ -118,7 +117,7 @@ module _ (plan : Plan) (block : List ℕ) (few : (name : SideName) → rowCount 
   unfolding satisfiedBy satisfied
   satisfied-by name v l =
       let code = codeOf plan name in
-      ap (λ (x : ℕ). eqb (reducedBy (at (code .basis)) (min (code .k) 11) x) 0) (read-inside (sheetOf plan name) (side-fits plan w name) name block v l)
+      ap (λ (x : ℕ). eqb (reducedBy (at (code .basis)) (min (code .k) 11) x) 0) (read-vertex (sheetOf plan name) (countOf plan name) (plan .wiring) name block v)
       ∙ sym (codeword-residue (rowOf (sheetOf plan name)) (code .k) (code .basis) refl (few name) _)
 
   unsatisfied-by : (name : SideName)

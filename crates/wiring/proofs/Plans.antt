@@ -8,14 +8,14 @@
 --   Joined N sides            both sides have all N bits (Permutation)
 --   PlanAccepted ..           what a caller learns from a check that accepts
 --   pieceOf plan v            the piece of right vertex v, empty for a faulty plan or a v of nr or more (specs Answer)
--- Laws are named by their subject, then by the fact: `plan-` is about the check, `checked-` leads to what the code's check gives,
+-- Laws are named by their subject, then by the fact: `plan-` is about the check and what it leads to, `checked-` leads to what the code's check gives,
 -- `piece-` is about the piece. At the end of a name, `-accepted` and `-refused` are the outcomes of the check, `-sound` and `-joined` lead
 -- from the check to the facts and `-back` from the facts to the check.
-use Prim.Native.Nat.{ℕ, _+_, _-_, _*_, _≤_, _<_}
+use Prim.Native.Nat.{ℕ, _+_, _-_, _*_, _/_, _≤_, _<_}
 use mathlib.Core.List.{List, [], _∷_}
 use mathlib.Core.Path.{_≡_, sym, ap, ap₂, _∙_}
 use native.Mathlib.Omega.{arith}
-use lib.ListN.{length, getD, take, drop}
+use lib.ListN.{length, take, drop}
 use borrow.Author.Tests.{lt-ltb, le-ltb}
 use Rattle.inner_code.specs.Reply.{Reply, done, refused}
 use Rattle.inner_code.specs.Checking.{SheetChecked}
@@ -25,14 +25,14 @@ use Rattle.inner_code.specs.declared.sheet.Sheet.{Sheet}
 use Rattle.inner_code.specs.declared.sheet.CheckedSheet.{CheckedSheet}
 use Rattle.inner_code.proofs.Replies.{andThen-passed, andThen-refused, andThen-done, ifDone-done, ifDone-refused}
 use Rattle.inner_code.proofs.SheetChecks.{Sound, sound, sound-accepted, accepted, turned-back}
-use Rattle.wiring.specs.Plan.{Plan, edgeCount, sheetOf, sideOf, left, right}
+use Rattle.wiring.specs.Plan.{Plan, edgeCount, sheetOf, countOf, sideOf, left, right}
 use Rattle.wiring.specs.Wiring.{wiringCheck, planCheck}
 use Rattle.wiring.specs.Answer.{pieceOf}
-use Rattle.wiring.specs.Checking.{Fitted, WiredPlan, PlanChecked, checkReply, codeOf, codeIn, heldCode, refusedPlan}
+use Rattle.wiring.specs.Checking.{Fitted, Permuted, WiredPlan, PlanChecked, checkReply, codeOf, codeIn, heldCode, refusedPlan}
 use Rattle.wiring.specs.declared.block.Checked.{Checked}
 use Rattle.wiring.specs.declared.plan.CheckedPlan.{CheckedPlan}
 use Rattle.wiring.specs.declared.side.SideName.{SideName}
-use Rattle.wiring.proofs.Permutation.{Joined, wired, wired-back, wired-joined}
+use Rattle.wiring.proofs.Permutation.{Whole, Joined, wired, wired-back, wired-joined, side-fits, fitted-edges}
 
 module _ (plan : Plan) where
   -- ---- the check, both ways
@@ -177,10 +177,29 @@ module _ (plan : Plan) (v : ℕ) where
 
 -- ---- the sheet of a side that fits has its first byte
 
-pub fitted-sheet : (sheet : List ℕ) {n : ℕ} {wiring : List ℕ} → Fitted (degree sheet) n wiring → 0 < length sheet
+pub sheet-some : (sheet : List ℕ) → 1 ≤ degree sheet → 0 < length sheet
 unfolding degree
-fitted-sheet sheet f = go sheet (f .d-low)
-  where
-    go : (sheet : List ℕ) → 1 ≤ getD sheet 0 0 → 0 < length sheet
-    go [] h = absurd (omega arith)
-    go (x ∷ rest) h = omega arith
+sheet-some [] h = absurd (omega arith)
+sheet-some (x ∷ rest) h = omega arith
+
+pub fitted-sheet : (sheet : List ℕ) {n : ℕ} {wiring : List ℕ} → Fitted (degree sheet) n wiring → 0 < length sheet
+fitted-sheet sheet f = sheet-some sheet (f .d-low)
+
+-- ---- a side of an accepted plan
+
+module _ (plan : Plan) (accepted : planCheck plan ≡ done []) where
+  pub plan-fits : (name : SideName) → Fitted (degree (sheetOf plan name)) (countOf plan name) (plan .wiring)
+  plan-fits = side-fits plan (plan-sound plan accepted .1)
+
+  pub plan-whole : (name : SideName) → Whole (edgeCount plan) (sideOf plan name)
+  plan-whole = plan-joined plan accepted .whole
+
+  pub plan-few : edgeCount plan ≤ 32768
+  plan-few = fitted-edges (plan-fits left)
+
+  -- the wiring has two bytes an edge
+  pub plan-entries : length (plan .wiring) / 2 ≡ edgeCount plan
+  plan-entries = omega (arith, plan-fits left .sized)
+
+  pub plan-permuted : Permuted (length (plan .wiring) / 2) (plan .wiring)
+  plan-permuted = rw plan-entries (plan-sound plan accepted .1 .permuted)

@@ -11,15 +11,15 @@ use mathlib.Core.List.{List, [], _∷_}
 use mathlib.Core.Logic.{⊎-elim}
 use mathlib.Core.Path.{_≡_, refl, sym, ap, ap₂, _∙_}
 use native.Mathlib.Nat.{zero-mul, one-mul, pow-suc, eq-zero-or-pos, mul-le-mul-right}
-use native.Mathlib.Decide.{decLe}
 use native.Mathlib.Numerals.{add-one, one-add}
 use native.Mathlib.Omega.{arith}
 use lib.Bits.{bitXor, bitAnd, and-high}
 use lib.Dec.{eqb}
-use lib.ListN.{length, getD, set, replicate, length-replicate, getD-replicate, List·getD-eq-default}
+use lib.ListN.{length, getD, set, length-replicate}
 use lib.Pow.{pow-pos}
 use borrow.Author.Tests.{le-leb, lt-leb, eqb-true, eqb-false}
 use Rattle.bits.specs.Bit.{digit, bitAt, putDigit, withBit}
+use Rattle.bits.proofs.Lists.{zeros-at}
 use Rattle.bits.proofs.Tests.{flag-zero}
 use Rattle.bits.specs.Sum.{flag}
 use Rattle.bits.proofs.Xor.{digit-zero}
@@ -53,14 +53,6 @@ mask-and x k =
     ap (bitAnd x) weight ∙ and-high x 1 k
 
 -- ---- the bits
-
--- a list of zeros has 0 everywhere, past its end too
-pub zeros-at : (n k : ℕ) → getD {A = ℕ} (replicate n 0) k 0 ≡ 0
-zeros-at n k =
-    elim (decLe n k) [
-      | yes past ↦ List·getD-eq-default {A = ℕ} (replicate n 0) 0 {n = k} (omega (arith, length-replicate {A = ℕ} n 0))
-      | no inside ↦ getD-replicate {A = ℕ} n k 0 0 (omega arith)
-    ]
 
 seen-none : (e : ℕ) → bitAt noneSeen e ≡ 0
 unfolding bitAt noneSeen

@@ -1,54 +1,34 @@
--- The word of one vertex as the code reads it: with tests for a vertex that is not inside, which an accepted wiring
--- never needs.
---   inside d wiring v                    vertex v has all its d entries in the wiring, and d and v are in their ranges (specs Access)
+-- The word of one vertex as the code reads it.
 --   wordFrom bit block base d            the word of d digits at the entries from `base` on (specs Access)
---   readWord side wiring d block v       the word that vertex v of a side reads; 0 where it is not inside (specs Access)
---   vertexWord side block v              the same with no tests (specs Block)
---   Fitted d n wiring                    a side of an accepted plan: its ranges, and as many entries as the wiring has (specs Checking)
+--   readWord side wiring d block v       the word that vertex v of a side reads (specs Access)
+--   Readable, AllReadable                what reading the word of one vertex, and of every vertex, asks (specs Access)
+--   vertexWord side block v              the word of the definition (specs Block)
 --   sideBy sheet n wiring name           the side of these parts (specs Plan)
--- Laws are named by their subject, then by the fact: `inside-` and `outside-` are about the tests, `read-` about the
--- word that is read, `word-from-` about a word of which some digits are read. At the end of a name, `-inside` is a vertex of an
--- accepted plan, `-outside` one that the tests turn away, `-one-more` one more digit, `-zero` the zero block.
-use Prim.Native.Nat.{ℕ, _+_, _*_, _≤_, _<_, min}
-use mathlib.Core.Bool.{Bool, true, false, cond, and-false}
-use mathlib.Core.List.{List}
+-- Laws are named by their subject, then by the fact: `read-` is about the word that is read, `word-from-` about a word of which some digits are
+-- read. At the end of a name, `-readable` leads to what reading asks, `-one-more` is one more digit, `-zero` the zero block.
+use Prim.Native.Nat.{ℕ, _+_, _*_, _≤_, _<_}
+use mathlib.Core.List.{List, []}
 use mathlib.Core.Path.{_≡_, refl, sym, ap, ap₂, _∙_}
-use native.Mathlib.Nat.{min-eq-left}
+use native.Mathlib.Nat.{le-trans}
 use native.Mathlib.Omega.{arith}
-use lib.Dec.{ltb, leb}
 use lib.ListN.{length}
 use lib.Pow.{pow-mono}
-use borrow.Author.Tests.{lt-ltb, le-ltb, le-leb, lt-leb}
 use Rattle.bits.specs.Window.{at, wordAt}
 use Rattle.bits.specs.Bit.{word, bitAt}
 use Rattle.bits.proofs.Words.{word-lt, word-one-more, word-zero}
 use Rattle.bits.proofs.Bytes.{bitAt-lt, bitAt-zero}
+use Rattle.inner_code.specs.Reply.{done}
 use Rattle.inner_code.specs.Sheet.{degree}
-use Rattle.wiring.specs.Plan.{edgeOf, left, right, sideBit, sideBy}
-use Rattle.wiring.specs.Block.{vertexWord}
-use Rattle.wiring.specs.Access.{inside, wordFrom, readWord}
-use Rattle.wiring.specs.Checking.{Fitted}
+use Rattle.wiring.specs.Plan.{Plan, edgeOf, edgeCount, sheetOf, countOf, left, right, sideBit, sideBy}
+use Rattle.wiring.specs.Wiring.{planCheck}
+use Rattle.wiring.specs.Block.{vertexWord, blockCheck}
+use Rattle.wiring.specs.Access.{wordFrom, readWord, bothCodes, Readable, AllReadable}
+use Rattle.wiring.specs.Checking.{codeOf}
+use Rattle.wiring.specs.declared.side.SideCode.{SideCode}
 use Rattle.wiring.specs.declared.side.SideName.{SideName}
-use Rattle.wiring.proofs.Permutation.{fitted-vertex}
-
--- ---- the tests
-
-module _ (d : ℕ) (wiring : List ℕ) (v : ℕ) where
-  pub inside-all : d ≤ 16 → v < 2048 → 2 * (v * d + d) ≤ length wiring → inside d wiring v ≡ true
-  unfolding inside
-  inside-all narrow few fits = rw (le-leb d 16 narrow, lt-ltb v 2048 few, le-leb _ _ fits)
-
-  pub outside-degree : 16 < d → inside d wiring v ≡ false
-  unfolding inside
-  outside-degree wide = rw (lt-leb d 16 wide)
-
-  pub outside-vertex : 2048 ≤ v → inside d wiring v ≡ false
-  unfolding inside
-  outside-vertex many = rw (le-ltb v 2048 many) (and-false (leb d 16))
-
-  pub outside-entries : length wiring < 2 * (v * d + d) → inside d wiring v ≡ false
-  unfolding inside
-  outside-entries short = rw (lt-leb _ _ short, and-false (ltb v 2048)) (and-false (leb d 16))
+use Rattle.wiring.proofs.Blocks.{bytes-hold, block-sized}
+use Rattle.wiring.proofs.Permutation.{fitted-vertex, entry-lt}
+use Rattle.wiring.proofs.Plans.{plan-fits, plan-whole}
 
 -- ---- reading
 
@@ -69,44 +49,50 @@ module _ (bit : ℕ → ℕ) (block : List ℕ) (base : ℕ) where
       omega (arith, pow-mono {j = 16} h, word-lt j (λ i. bitAt block (bit (base + i))) (λ i l. bitAt-lt block (bit (base + i))))
 
 -- a left vertex's bits stand in a row
-pub read-left : (wiring : List ℕ) (d : ℕ) (block : List ℕ) (v : ℕ) → d ≤ 16 → inside d wiring v ≡ true
-    → wordAt block (v * d) (min d 16) ≡ readWord left wiring d block v
+pub read-left : (wiring : List ℕ) (d : ℕ) (block : List ℕ) (v : ℕ) → wordAt block (v * d) d ≡ readWord left wiring d block v
 unfolding readWord wordFrom sideBit wordAt
-read-left wiring d block v narrow e = rw (e, min-eq-left narrow)
+read-left wiring d block v = refl
 
-pub read-right : (wiring : List ℕ) (d : ℕ) (block : List ℕ) (v : ℕ) → inside d wiring v ≡ true
+pub read-right : (wiring : List ℕ) (d : ℕ) (block : List ℕ) (v : ℕ)
     → wordFrom (edgeOf wiring) block (v * d) d ≡ readWord right wiring d block v
 unfolding readWord wordFrom sideBit
-read-right wiring d block v e = rw e
+read-right wiring d block v = refl
 
-module _ (side : SideName) (wiring : List ℕ) (d : ℕ) where
-  pub read-outside : (block : List ℕ) (v : ℕ) → inside d wiring v ≡ false → readWord side wiring d block v ≡ 0
-  unfolding readWord
-  read-outside block v e = rw e
-
-  pub read-all : (block : List ℕ) (v : ℕ) → inside d wiring v ≡ true → readWord side wiring d block v ≡ wordFrom (sideBit side wiring) block (v * d) d
-  unfolding readWord
-  read-all block v e = rw e
+-- it is the word of the definition
+pub read-vertex : (sheet : List ℕ) (n : ℕ) (wiring : List ℕ) (name : SideName) (block : List ℕ) (v : ℕ)
+    → readWord name wiring (degree sheet) block v ≡ vertexWord (sideBy sheet n wiring name) block v
+unfolding readWord wordFrom vertexWord
+read-vertex sheet n wiring name block v = refl
 
 -- ---- the zero block
 
 pub read-zero : (side : SideName) (wiring : List ℕ) (d : ℕ) (block : List ℕ) (v : ℕ) → ((i : ℕ) → at block i ≡ 0)
     → readWord side wiring d block v ≡ 0
 unfolding readWord wordFrom
-read-zero side wiring d block v zero-block =
-    ap (λ (x : ℕ). cond (inside d wiring v) x 0) (word-zero d _ (λ j _. bitAt-zero block _ zero-block)) ∙ either (inside d wiring v)
-  where
-    either : (b : Bool) → cond {A = ℕ} b 0 0 ≡ 0
-    either true = refl
-    either false = refl
+read-zero side wiring d block v zero-block = word-zero d _ (λ j _. bitAt-zero block _ zero-block)
 
--- ---- a side that fits
+-- ---- a block of an accepted plan
 
-module _ (sheet : List ℕ) {n : ℕ} {wiring : List ℕ} (f : Fitted (degree sheet) n wiring) (name : SideName) where
-  inside-fitted : (v : ℕ) → v < n → inside (degree sheet) wiring v ≡ true
-  inside-fitted v l = inside-all _ wiring v (f .d-high) (omega (arith, f .n-high)) (fitted-vertex f v l)
+module _ (plan : Plan) (accepted : planCheck plan ≡ done []) (block : List ℕ) (room : edgeCount plan ≤ length block * 8) where
+  pub plan-readable : (name : SideName) (v : ℕ) → v < countOf plan name → Readable name (plan .wiring) (degree (sheetOf plan name)) block v
+  plan-readable name v l =
+      let f = plan-fits plan accepted name in
+      let w = plan-whole plan accepted name in
+      record {
+        narrow = f .d-high;
+        few = omega (arith, f .n-high);
+        fits = fitted-vertex f v l;
+        held = λ j k. le-trans (w .bit-lt _ (entry-lt w v j l k)) room;
+      }
 
-  pub read-inside : (block : List ℕ) (v : ℕ) → v < n
-      → readWord name wiring (degree sheet) block v ≡ vertexWord (sideBy sheet n wiring name) block v
-  unfolding vertexWord wordFrom
-  read-inside block v l = read-all name wiring _ block v (inside-fitted v l)
+  -- with the sides as the check has told them
+  pub codes-readable : {l r : SideCode} → l ≡ codeOf plan left → r ≡ codeOf plan right → AllReadable (bothCodes l r) (plan .wiring) block
+  codes-readable {l} {r} left-is right-is = record { each = each }
+    where
+      each : (name : SideName) (v : ℕ) → v < bothCodes l r name .n → Readable name (plan .wiring) (bothCodes l r name .d) block v
+      each SideName.Left v below = rw left-is (plan-readable left v (rw left-is at below))
+      each SideName.Right v below = rw right-is (plan-readable right v (rw right-is at below))
+
+-- a checked block has room for every bit
+pub block-room : (N : ℕ) (block : List ℕ) {values : List ℕ} → blockCheck N block ≡ done values → N ≤ length block * 8
+block-room N block pass = rw (block-sized N block pass) (bytes-hold N)

@@ -1,18 +1,22 @@
 -- The words that vertices read from a block, and a block with a vertex's word put into it.
 --   vertexWord side block v       the word that vertex v reads, its first edge of the highest weight (specs Block)
+--   heard side since block v      vertex v reads another word in `block` than in `since` (specs Block)
 --   scattered bit d at w m block  the block with the first m of the d digits of w put at the entries from `at` on (specs Block)
 --   withWord side v w block       the block with the word w put at vertex v (specs Block)
 --   Whole N side                  the entries of a side are the bits 0 .. N - 1, each once (Permutation)
 --   bitAt block i                 bit i of the block (bits specs Bit)
 --   digit w j                     the binary digit of weight 2^j of the number w (bits specs Bit)
 -- Laws are named by their subject, then by the fact: `vertex-` is about one word that is read, `scattered-` about digits that are
--- written, `withWord-` about a word that is, `flips-` about the bits in which all words of a side differ. At the end of a name, `-lt` is a bound, `-ext` equality
+-- written, `withWord-` about a word that is, `heard-` about a vertex that reads another word, `flips-` about the bits in which all words of a side differ. At the end of a name, `-lt` is a bound, `-ext` equality
 -- from the bits, `-same` and `-other` what is written to and what is not, `-fixed` a write of what stands there, `-one-more` one more digit.
 use Prim.Native.Nat.{ℕ, zero, suc, _+_, _-_, _*_, _/_, _^_, _≤_, _<_}
+use mathlib.Core.Bool.{true, false}
 use mathlib.Core.List.{List}
 use mathlib.Core.Logic.{_≢_, ⊎-elim}
 use mathlib.Core.Path.{_≡_, refl, sym, ap, _∙_}
+use native.Mathlib.Decide.{ℕ-discrete}
 use native.Mathlib.Omega.{arith}
+use borrow.Author.Tests.{eq-eqb, ne-eqb}
 use native.Mathlib.Nat.{le-trans, le-step, lt-suc-self, not-suc-le-zero, eq-or-lt-of-le, le-of-suc-le-suc, ne-of-lt}
 use native.Mathlib.Numerals.{add-one}
 use lib.Arith.{digits-div}
@@ -20,13 +24,13 @@ use lib.Bits.{bitXor}
 use lib.Count.{ones}
 use lib.ListN.{length, getD}
 use Rattle.bits.specs.Bit.{digit, bitAt, withBit, flips}
-use Rattle.bits.specs.Sum.{sum}
-use Rattle.bits.proofs.Sums.{sum-ext, sum-blocks, sum-reindex}
+use Rattle.bits.specs.Sum.{sum, flag}
+use Rattle.bits.proofs.Sums.{sum-ext, sum-blocks, sum-reindex, flag-true, flag-false}
 use Rattle.bits.proofs.Xor.{digit-lt, xor-bits-lt}
 use Rattle.bits.proofs.Words.{word-lt, word-ext, word-digit, word-digits, word-xor, ones-word}
 use Rattle.bits.proofs.Bytes.{bitAt-lt, bitAt-same, bitAt-other, length-withBit, withBit-byte, withBit-keeps}
 use Rattle.wiring.specs.Plan.{Side}
-use Rattle.wiring.specs.Block.{vertexWord, scattered, withWord}
+use Rattle.wiring.specs.Block.{vertexWord, heard, scattered, withWord}
 use Rattle.wiring.proofs.Permutation.{Whole, placeOf, place-bit, place-lt, bit-place, entry-lt}
 
 -- ---- one word that is read
@@ -140,3 +144,29 @@ module _ {N : ℕ} {side : Side} (w : Whole N side) (a b : List ℕ) where
       ∙ ap (λ (m : ℕ). sum m (λ i. bitXor (bitAt a (side .bit i)) (bitAt b (side .bit i)))) (sym (w .entries))
       ∙ sum-blocks (side .n) (side .d) (λ i. bitXor (bitAt a (side .bit i)) (bitAt b (side .bit i)))
       ∙ sum-ext (side .n) _ _ (λ v l. sym (vertex-differing side a b v))
+
+-- ---- vertices that read another word
+
+module _ (side : Side) (since : List ℕ) where
+  pub heard-none : (block : List ℕ) (v : ℕ) → vertexWord side since v ≡ vertexWord side block v → heard side since block v ≡ false
+  unfolding heard
+  heard-none block v e = rw (eq-eqb _ _ e)
+
+  pub heard-some : (block : List ℕ) (v : ℕ) → (vertexWord side since v ≡ vertexWord side block v → ⊥) → heard side since block v ≡ true
+  unfolding heard
+  heard-some block v apart = rw (ne-eqb _ _ apart)
+
+  -- and back
+  pub heard-back : (block : List ℕ) (v : ℕ) → heard side since block v ≡ false → vertexWord side block v ≡ vertexWord side since v
+  heard-back block v e =
+      elim (ℕ-discrete (vertexWord side since v) (vertexWord side block v)) [
+        | yes same ↦ sym same
+        | no apart ↦ absurd (true-false (sym (heard-some block v apart) ∙ e))
+      ]
+    where
+      true-false : true ≡ false → ⊥
+      true-false q = let z : _≡_ {A = ℕ} 1 0 = sym flag-true ∙ ap flag q ∙ flag-false in omega arith
+
+  pub heard-ext : (a b : List ℕ) (v : ℕ) → vertexWord side b v ≡ vertexWord side a v → heard side since b v ≡ heard side since a v
+  unfolding heard
+  heard-ext a b v e = rw e

@@ -3,6 +3,7 @@
 --   bitsCheck unsized stray N bytes  the two refusals of a string of N bits: another length than it takes, and a bit after N - 1 that is set
 --   blockCheck N block           11 and 12, or done with no value
 --   vertexWord side block v      the word that vertex v reads, its first edge of the highest weight
+--   heard side before after v    vertex v of a side has a bit in which two blocks differ: it reads another word
 --   scattered bit d at w m block the block with the first m of the d digits of w put at the entries from `at` on
 --   withWord side v w block      the block with the word w put at vertex v
 --   satisfied side block v       vertex v reads an inner codeword
@@ -39,6 +40,10 @@ blockCheck N block = bitsCheck 11 12 N block
 unfoldable pub vertexWord : Side → List ℕ → ℕ → ℕ
 unfolding word bitAt
 vertexWord side block v = word (side .d) (λ j. bitAt block (side .bit (v * side .d + j)))
+
+unfoldable pub heard : Side → List ℕ → List ℕ → ℕ → Bool
+unfolding vertexWord
+heard side before after v = not (eqb (vertexWord side before v) (vertexWord side after v))
 
 unfoldable pub scattered : (ℕ → ℕ) → ℕ → ℕ → ℕ → ℕ → List ℕ → List ℕ
 unfolding withBit digit

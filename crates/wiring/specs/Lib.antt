@@ -5,4 +5,5 @@ pub mod Answer
 pub mod Checking
 pub mod Access
 pub mod Ends
+pub mod Places
 pub mod Square

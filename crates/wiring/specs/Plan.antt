@@ -1,10 +1,12 @@
 -- Plans and their sides.
 --   Plan               a plan: for each side its inner sheet and its number of vertices, and the wiring
 --   planOf leftSheet rightSheet nl nr wiring  the plan of these parts
+--   planAt left right nl nr wiring  the plan that a function is called with, by its parameters: the parts as they are at the call
 --   sheetOf plan name, countOf plan name  the sheet and the number of vertices of a side
 --   edgeCount plan     the paper's N: the number of edges, and of a block's bits
 --   edgeOf wiring i    entry i of a wiring: the edge that stands there
 --   left, right        the names of the sides
+--   other name         the other side
 --   Side               a side: n vertices that read d bits each, of which the k generator rows `row` make the inner codewords. `bit i` is the
 --                      bit of the block at entry i of the side; vertex v has the entries v·d .. v·d + d - 1
 --   sideBit name wiring i  the bit at entry i of a side of a wiring: on the left bit i itself, on the right the wiring's entry i
@@ -12,6 +14,8 @@
 --   sideOf plan name   the side of a plan that is named. What is about both sides takes them as such a function of the name.
 use Prim.Native.Nat.{ℕ, _*_}
 use mathlib.Core.List.{List}
+use denote.Ref.{RefT, now}
+use denote.Triple.Both.{Both}
 use Rattle.bits.specs.Bit.{pairAt}
 use Rattle.inner_code.specs.Sheet.{degree, rowCount, rowOf}
 use Rattle.wiring.specs.declared.side.SideName.{SideName}
@@ -25,6 +29,9 @@ pub record Plan : Type 0 where
 
 abbrev pub planOf : List ℕ → List ℕ → ℕ → ℕ → List ℕ → Plan
 planOf l r m n w = record { leftSheet = l; rightSheet = r; nl = m; nr = n; wiring = w }
+
+abbrev pub planAt : {X Y Z : Type 0} → Both (RefT (List ℕ)) X → Both (RefT (List ℕ)) Y → ℕ → ℕ → Both (RefT (List ℕ)) Z → Plan
+planAt l r m n w = planOf (now (l .entry)) (now (r .entry)) m n (now (w .entry))
 
 abbrev pub sheetOf : Plan → SideName → List ℕ
 sheetOf plan SideName.Left = plan .leftSheet
@@ -46,6 +53,10 @@ left = SideName.Left
 
 abbrev pub right : SideName
 right = SideName.Right
+
+unfoldable pub other : SideName → SideName
+other SideName.Left = SideName.Right
+other SideName.Right = SideName.Left
 
 pub record Side : Type 0 where
   pub n : ℕ

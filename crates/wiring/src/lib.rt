@@ -4,16 +4,14 @@ mod block;
 mod ends;
 mod locator;
 mod piece;
+mod places;
 mod plan;
 mod side;
 
-pub use access::read_word;
 pub use block::Checked;
 pub use block::check_bits;
 pub use block::check_block;
-pub use ends::note_ends;
 pub use locator::Located;
-pub use locator::first_unsatisfied;
 pub use locator::locate;
 pub use piece::piece_of;
 pub use plan::CheckedPlan;
@@ -23,3 +21,15 @@ pub use plan::check_plan;
 pub use side::SideCode;
 pub use side::SideName;
 pub use side::code_of;
+pub use side::count_of;
+pub use side::other_side;
+
+// Lent to the crates above: these ask what their callers prove.
+pub use access::bit_of;
+pub use access::edge_at;
+pub use access::gathered;
+pub use access::read_word;
+pub use access::vertex_at;
+pub use ends::note_ends;
+pub use locator::first_unsatisfied;
+pub use places::note_places;

@@ -9,8 +9,8 @@ use crate::side::code_of;
 use inner_code::Refusal;
 ghost use mathlib.Core.Path.{_≡_};
 ghost use Rattle.inner_code.specs.Reply.{done};
-ghost use Rattle.wiring.specs.Access.{bothCodes, locatedBy};
-ghost use Rattle.wiring.specs.Plan.{planOf};
+ghost use Rattle.wiring.specs.Access.{bothCodes, AllReadable, locatedBy};
+ghost use Rattle.wiring.specs.Plan.{planAt};
 ghost use Rattle.wiring.specs.Answer.{locateAnswer, locateReply};
 
 // Where a block breaks the code, or the refusal.
@@ -30,7 +30,7 @@ pub fn locate(
     wiring: &[u8],
     block: &[u8],
 ) -> Located
-    ensures { λ r. ⌜ locateReply r ≡ locateAnswer (planOf (now (left .entry)) (now (right .entry)) nl nr (now (wiring .entry))) (now (block .entry)) ⌝ }
+    ensures { λ r. ⌜ locateReply r ≡ locateAnswer (planAt left right nl nr wiring) (now (block .entry)) ⌝ }
 {
     let plan = check_plan(left, right, nl, nr, wiring);
     let checked = plan.checked;
@@ -46,6 +46,7 @@ pub fn locate(
 // The first vertex of which the first k rows of its side's basis leave something, the left side before the right: with the sides of a
 // checked plan the first that is unsatisfied. It refuses nothing.
 pub fn first_unsatisfied(left: SideCode, right: SideCode, wiring: &[u8], block: &[u8]) -> Located
+    requires { ⌜ AllReadable (bothCodes left right) (now wiring) (now block) ⌝ }
     ensures { λ r. ⌜ locateReply r ≡ done (locatedBy (bothCodes left right) (now (wiring .entry)) (now (block .entry))) ⌝ }
 {
     let mut side = SideName::Left;

@@ -2,7 +2,7 @@
 use crate::block::Checked;
 use crate::plan::check_plan;
 ghost use mathlib.Core.Path.{_≡_};
-ghost use Rattle.wiring.specs.Plan.{planOf};
+ghost use Rattle.wiring.specs.Plan.{planAt};
 ghost use Rattle.wiring.specs.Answer.{pieceOf};
 
 // The part of the lent wiring that holds the dr entries of right vertex v. It is empty for a faulty plan, and for a v of nr or more; no
@@ -15,7 +15,7 @@ pub fn piece_of<'a>(
     wiring: &'a [u8],
     v: usize,
 ) -> &'a [u8]
-    ensures { λ r. ⌜ now r ≡ pieceOf (planOf (now (left .entry)) (now (right .entry)) nl nr (now (wiring .entry))) v ⌝ }
+    ensures { λ r. ⌜ now r ≡ pieceOf (planAt left right nl nr wiring) v ⌝ }
 {
     let plan = check_plan(left, right, nl, nr, wiring);
     let checked = plan.checked;

@@ -13,7 +13,7 @@ ghost use Prim.Native.Nat.{ℕ, _+_, _*_, _^_, _≤_};
 ghost use lib.ListN.{length};
 ghost use Rattle.inner_code.specs.Reply.{done};
 ghost use Rattle.inner_code.specs.Checking.{SheetChecked};
-ghost use Rattle.wiring.specs.Plan.{planOf, edgeOf};
+ghost use Rattle.wiring.specs.Plan.{planAt, edgeOf};
 ghost use Rattle.wiring.specs.Access.{noneMarked};
 ghost use Rattle.wiring.specs.Wiring.{countFaulty, entriesCheck, wiringCheck};
 ghost use Rattle.wiring.specs.Checking.{PlanChecked, checkReply, refusedPlan};
@@ -36,7 +36,7 @@ pub struct CheckedPlan {
 
 // Checks a plan: the left sheet and then the right one by refusals 1 to 6, both numbers of vertices by 7, and the wiring by 23, 8, 9 and 10.
 pub fn check_plan(left: &[u8], right: &[u8], nl: usize, nr: usize, wiring: &[u8]) -> CheckedPlan
-    ensures { λ r. ⌜ PlanChecked (planOf (now (left .entry)) (now (right .entry)) nl nr (now (wiring .entry))) r ⌝ }
+    ensures { λ r. ⌜ PlanChecked (planAt left right nl nr wiring) r ⌝ }
 {
     let left_checked = inner_code::check_sheet(left);
     let left_values = left_checked.sheet;

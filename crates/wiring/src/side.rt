@@ -1,6 +1,7 @@
 // The two sides of the graph: their names, and what the code holds of a side of a checked plan.
 ghost use mathlib.Core.Path.{_≡_};
-ghost use Rattle.wiring.specs.Access.{bothCodes};
+ghost use Rattle.wiring.specs.Access.{bothCodes, countFor};
+ghost use Rattle.wiring.specs.Plan.{other};
 
 // The left side or the right side.
 pub enum SideName {
@@ -24,5 +25,25 @@ pub fn code_of(side: SideName, left: SideCode, right: SideCode) -> SideCode
     match side {
         SideName::Left => left,
         SideName::Right => right,
+    }
+}
+
+// The other side.
+pub fn other_side(side: SideName) -> SideName
+    ensures { λ r. ⌜ r ≡ other side ⌝ }
+{
+    match side {
+        SideName::Left => SideName::Right,
+        SideName::Right => SideName::Left,
+    }
+}
+
+// The number of vertices of a side.
+pub fn count_of(side: SideName, nl: usize, nr: usize) -> usize
+    ensures { λ r. ⌜ r ≡ countFor side nl nr ⌝ }
+{
+    match side {
+        SideName::Left => nl,
+        SideName::Right => nr,
     }
 }

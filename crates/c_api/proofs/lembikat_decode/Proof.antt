@@ -28,8 +28,8 @@ returns : tie.Need-returns
 unfolding toldDecode
 returns c =
     let call = decoded (c .before .before .before) .decode in (
-      telling-sums decodeReply (c .before .outcome .given .1) (call .ensures .0) (call .ensures .1 .0) (call .ensures .1 .1 .0) refl,
-      call .ensures .1 .1 .1,
+      telling-sums decodeReply (c .before .outcome .given .1) (call .ensures .answer) (call .ensures .sums) (call .ensures .visits) refl,
+      call .ensures .leaves,
     )
 
 same-length-2 : tie.Need-same-length-2
@@ -39,8 +39,8 @@ returns-2 : tie.Need-returns-2
 unfolding toldDecode
 returns-2 c =
     let call = decoded (c .before .before .before) .decode in (
-      telling-sums decodeReply (c .before .outcome2 .given .1) (call .ensures .0) (call .ensures .1 .0) (call .ensures .1 .1 .0) refl,
-      call .ensures .1 .1 .1,
+      telling-sums decodeReply (c .before .outcome2 .given .1) (call .ensures .answer) (call .ensures .sums) (call .ensures .visits) refl,
+      call .ensures .leaves,
     )
 
 pub lembikat-decode-spec : {M : Type 1} → statement M

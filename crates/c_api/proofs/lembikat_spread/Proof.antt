@@ -1,6 +1,6 @@
 -- `c_api::lembikat_spread` meets its contract: what is told of each case of the service's answer is told of the defined reply.
 use borrow.Author.Needs.{needs}
-use Rattle.radius.specs.Answer.{spreadReply}
+use Rattle.meetings.specs.Answer.{spreadReply}
 use Rattle.c_api.specs.Answer.{told}
 use Rattle.c_api.proofs.Telling.{telling}
 use Rattle.c_api.proofs.lembikat_spread.Statement.{statement}

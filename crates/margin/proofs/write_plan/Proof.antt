@@ -8,7 +8,7 @@ use denote.Ref.{now}
 use Rattle.radius.specs.Margin.{beyond}
 use Rattle.radius.specs.Answer.{measuresOf}
 use Rattle.margin.specs.Output.{planPart}
-use Rattle.margin.proofs.Outputs.{line-covered, line-sweeps, last-is}
+use Rattle.margin.proofs.Outputs.{numbers-within, line-covered, line-sweeps, last-is}
 use Rattle.margin.proofs.write_plan.Statement.{statement}
 use Rattle.margin.proofs.write_plan.Tie as tie
 
@@ -29,13 +29,13 @@ write-numbers-requires : tie.Need-write-numbers-requires Inv-loop μ-loop
 write-numbers-requires c κs = search needs
 
 first-uncovered-requires : tie.Need-first-uncovered-requires Inv-loop μ-loop
-first-uncovered-requires c κs = search needs
+first-uncovered-requires c κs = numbers-within _ _ (c .before .before .pre)
 
 loop-holds : tie.Need-loop-holds Inv-loop μ-loop
 loop-holds c = search needs
 
 sweeps-named-requires : tie.Need-sweeps-named-requires Inv-loop μ-loop
-sweeps-named-requires c κs = search needs
+sweeps-named-requires c κs = numbers-within _ _ (start (c .before) .pre)
 
 write-line-requires : tie.Need-write-line-requires Inv-loop μ-loop
 write-line-requires c κs =

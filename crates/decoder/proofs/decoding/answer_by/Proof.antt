@@ -14,10 +14,10 @@ same-length c = search needs
 returns : tie.Need-returns
 returns c =
     let copied = c .before .before in
-    by-unsettled _ _ _ _ _ _ (copied .before .before .if1 .taken) (copied .copy-front .ensures)
+    by-unsettled _ _ _ _ (copied .before .before .if1 .taken) (copied .copy-front .ensures)
 
 returns-2 : tie.Need-returns-2
-returns-2 c = by-settled _ _ _ _ _ _ (omega (arith, c .if1 .left))
+returns-2 c = by-settled _ _ _ _ (omega (arith, c .if1 .left))
 
 pub answer-by-spec : {M : Type 1} → statement M
 answer-by-spec = tie.close (tie.spec copy-front-requires same-length returns returns-2)

@@ -15,8 +15,9 @@ use Rattle.spans.specs.Spans.{spansCheck}
 use Rattle.wiring.proofs.Blocks.{block-sized}
 use Rattle.wiring.proofs.Plans.{PlanAccepted, plan-accepted, plan-refused, accepted-edges}
 use Rattle.wiring.proofs.Permutation.{fitted-edges}
-use Rattle.decoder.specs.Answer.{decodeCheck}
-use Rattle.decoder.proofs.Settling.{Answered, decode-stopped, check-plan, check-block, check-spans, check-short, check-limit, check-passed}
+use Rattle.decoder.specs.Answer.{decodeCheck, decodeReply, Decodes}
+use Rattle.decoder.specs.declared.decoding.Decoding.{Decoding}
+use Rattle.decoder.proofs.Settling.{decode-stopped, check-plan, check-block, check-spans, check-short, check-limit, check-passed}
 use Rattle.decoder.proofs.decoding.decode.Statement.{statement}
 use Rattle.decoder.proofs.decoding.decode.Tie as tie
 
@@ -117,13 +118,18 @@ spans : (c : tie.After-enum-told3) → spansCheck (edgeCount (planIn (call c))) 
 spans c = listed (c .before .before) (done []) (ap checkReply (c .enum-told3 .given .1))
 
 -- a call that is stopped answers with `refuse`
-stopped : (plan : Plan) (received lost output : List ℕ) (H : ℕ) {number place visits : ℕ} {reply : Reply} {sums : List ℕ}
+stopped : (plan : Plan) (received lost output : List ℕ) (H : ℕ) {number place : ℕ} {r : Decoding}
     → decodeCheck plan received lost output H ≡ refused number place
-    → (reply ≡ refused number place) × ((sums ≡ replicate 64 0) × (visits ≡ 0))
-    → Answered plan received lost output H reply sums visits output
+    → (decodeReply (r .outcome) ≡ refused number place) × ((r .sums ≡ replicate 64 0) × (r .visits ≡ 0))
+    → Decodes plan received lost output H r output
 stopped plan received lost output H stops (answers, (tells, none)) =
-    let r = decode-stopped plan received lost output H stops in
-    (answers ∙ sym (r .answer), (tells ∙ sym (r .tells), (none ∙ sym (r .visited), sym (r .leaves))))
+    let d = decode-stopped plan received lost output H stops in
+    record {
+      answer = answers ∙ sym (d .answer);
+      sums = tells ∙ sym (d .tells);
+      visits = none ∙ sym (d .visited);
+      leaves = sym (d .leaves);
+    }
 
 refuse-requires-4 : tie.Need-refuse-requires-4
 refuse-requires-4 c κs = search needs

@@ -1,34 +1,18 @@
 -- `decoder::decode_checked` meets its contract: a block that is a codeword at sight is copied; for any other block each finder is prepared for
 -- its side's sheet, and one for both where the sheets are the same.
-use mathlib.Core.List.{List, []}
-use mathlib.Core.Path.{_≡_, refl, ap}
-use Prim.Native.Nat.{ℕ}
+use mathlib.Core.List.{[]}
+use mathlib.Core.Path.{_≡_, refl}
 use native.Mathlib.Omega.{arith}
 use borrow.Author.Needs.{needs}
 use denote.Ref.{now}
-use lib.ListN.{replicate}
 use Rattle.inner_code.specs.Reply.{done}
-use Rattle.tables.specs.Finding.{preparedFinder, Finds}
-use Rattle.inner_code.proofs.SheetChecks.{sound-accepted}
-use Rattle.tables.proofs.Finding.{prepared-finds}
-use Rattle.wiring.specs.Plan.{Plan, planOf, left, right, sheetOf}
+use Rattle.wiring.specs.Plan.{Plan, planOf, left, right}
 use Rattle.wiring.specs.Wiring.{planCheck}
-use Rattle.wiring.specs.Checking.{codeOf}
-use Rattle.wiring.specs.declared.side.SideCode.{SideCode}
-use Rattle.wiring.specs.declared.side.SideName.{SideName}
-use Rattle.wiring.proofs.Plans.{plan-sound}
+use Rattle.wiring.proofs.VertexAccess.{codes-readable, block-room}
+use Rattle.sweeps.proofs.Visiting.{side-preparable}
 use Rattle.decoder.proofs.Trials.{check-means, none-lost, check-none, answers-none, copy-codeword}
 use Rattle.decoder.proofs.decoding.decode_checked.Statement.{statement}
 use Rattle.decoder.proofs.decoding.decode_checked.Tie as tie
-
--- ---- a finder that is prepared for a side finds its nearest words
-
-prepared : (plan : Plan) → planCheck plan ≡ done [] → (name : SideName) (code : SideCode) → code ≡ codeOf plan name
-    → {before after : List ℕ} → after ≡ preparedFinder (sheetOf plan name) (code .k) (code .basis) before → before ≡ replicate 4640 0
-    → Finds (sheetOf plan name) after
-prepared plan accepted name code held p zeros =
-    prepared-finds (sheetOf plan name) (code .k) p zeros (sound-accepted (sheetOf plan name) (plan-sound plan accepted .0 name))
-    (ap (λ (x : SideCode). x .k) held) (ap (λ (x : SideCode). x .basis) held)
 
 abbrev planIn : tie.Start → Plan
 planIn c = planOf (now (c .args .left)) (now (c .args .right)) (c .args .nl) (c .args .nr) (now (c .args .wiring))
@@ -37,7 +21,10 @@ accepted : (c : tie.Start) → planCheck (planIn c) ≡ done []
 accepted c = check-means _ _ _ _ _ (c .pre .1 .1) .plan-done
 
 is-codeword-at-sight-requires : tie.Need-is-codeword-at-sight-requires
-is-codeword-at-sight-requires c κs = search needs
+is-codeword-at-sight-requires c κs =
+    let s = c .before .before .before .before .before .before .before in
+    let passed = check-means _ _ _ _ _ (s .pre .1 .1) in
+    codes-readable (planIn s) (accepted s) _ (block-room _ _ (passed .block-done)) (s .pre .0) (s .pre .1 .0)
 
 -- ---- a block that is a codeword at sight
 
@@ -62,16 +49,13 @@ returns c =
 abbrev start : tie.After-prepare-finder → tie.Start
 start c = c .before .before .before .before .before .before .before .before .before .before .before
 
-left-finds : (c : tie.After-prepare-finder) → Finds (now (start c .args .left)) (c .prepare-finder .last .1 .1 .1 .0)
-left-finds c =
-    let s = start c in
-    prepared (planIn s) (accepted s) left (s .args .left-code) (s .pre .0) (c .prepare-finder .ensures) refl
-
 slice-aggregate-prepare-finder : tie.Need-slice-aggregate-prepare-finder
 slice-aggregate-prepare-finder c = search needs
 
 prepare-finder-requires : tie.Need-prepare-finder-requires
-prepare-finder-requires c κs = search needs
+prepare-finder-requires c κs =
+    let s = c .before .before .before .before .before .before .before .before .before .before in
+    side-preparable (planIn s) (accepted s) left (s .pre .0) refl
 
 same-requires : tie.Need-same-requires
 same-requires c κs = search needs
@@ -88,7 +72,7 @@ decode-trials-requires c κs =
     let s = start first in (
       record {
         plan-done = accepted s;
-        left-finds = left-finds first;
+        left-finds = first .prepare-finder .ensures;
         right-finds = λ some. absurd (some refl);
         shared = λ _. c .before .before .before .before .same .ensures .0 (c .before .before .before .if3 .taken);
       },
@@ -105,7 +89,9 @@ slice-aggregate-prepare-finder-2 : tie.Need-slice-aggregate-prepare-finder-2
 slice-aggregate-prepare-finder-2 c = search needs
 
 prepare-finder-requires-2 : tie.Need-prepare-finder-requires-2
-prepare-finder-requires-2 c κs = search needs
+prepare-finder-requires-2 c κs =
+    let s = start (c .before .before .before .before .before .before) in
+    side-preparable (planIn s) (accepted s) right (s .pre .1 .0) refl
 
 slice-aggregate-decode-trials-3 : tie.Need-slice-aggregate-decode-trials-3
 slice-aggregate-decode-trials-3 c = search needs
@@ -118,10 +104,10 @@ decode-trials-requires-2 c κs =
     let first = c .before .before .before .before .before .before .before .before .before .before .before in
     let second = c .before .before .before .before in
     let s = start first in
-    let finds = prepared (planIn s) (accepted s) right (s .args .right-code) (s .pre .1 .0) (second .prepare-finder2 .ensures) refl in (
+    let finds = second .prepare-finder2 .ensures in (
       record {
         plan-done = accepted s;
-        left-finds = left-finds first;
+        left-finds = first .prepare-finder .ensures;
         right-finds = λ _. finds;
         shared = λ none. absurd (omega (arith, finds .sized));
       },

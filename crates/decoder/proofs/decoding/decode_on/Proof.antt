@@ -6,7 +6,7 @@ use denote.Ref.{now}
 use lib.ListN.{length, replicate, length-replicate}
 use borrow.Author.Needs.{needs}
 use Rattle.wiring.specs.Plan.{Plan, planOf, edgeCount, left}
-use Rattle.decoder.proofs.RightWords.{plan-fits, plan-few}
+use Rattle.wiring.proofs.Plans.{plan-fits, plan-few}
 use Rattle.decoder.proofs.Trials.{check-means}
 use Rattle.decoder.proofs.decoding.decode_on.Statement.{statement}
 use Rattle.decoder.proofs.decoding.decode_on.Tie as tie

@@ -15,8 +15,7 @@ use Rattle.wiring.specs.Plan.{Plan, planOf, edgeCount}
 use Rattle.wiring.specs.Block.{blockCheck}
 use Rattle.spans.specs.Spans.{filled}
 use Rattle.spans.proofs.Filling.{length-filled}
-use Rattle.decoder.specs.Visiting.{Passed, Tried}
-use Rattle.decoder.specs.Turns.{Opened}
+use Rattle.decoder.specs.Turns.{Passed, Tried, Opened}
 use Rattle.decoder.specs.declared.settle.Opening.{Opening}
 use Rattle.decoder.specs.declared.settle.Settling.{Settling}
 use Rattle.decoder.proofs.Settling.{changedFrom}

@@ -9,15 +9,13 @@ use denote.Ref.{now}
 use lib.ListN.{length, take, drop}
 use Rattle.bits.specs.Bit.{written}
 use Rattle.bits.proofs.Fronts.{length-written}
-use Rattle.inner_code.specs.Reply.{Reply}
 use Rattle.wiring.specs.Plan.{Plan, planOf}
 use Rattle.spans.specs.Spans.{filled}
 use Rattle.spans.proofs.Filling.{length-filled}
-use Rattle.decoder.specs.Answer.{decodeCheck}
-use Rattle.decoder.specs.Visiting.{Passed}
-use Rattle.decoder.specs.Turns.{Opened}
+use Rattle.decoder.specs.Answer.{decodeCheck, Decodes}
+use Rattle.decoder.specs.declared.decoding.Decoding.{Decoding}
+use Rattle.decoder.specs.Turns.{Passed, Opened}
 use Rattle.decoder.specs.declared.settle.Opening.{Opening}
-use Rattle.decoder.proofs.Settling.{Answered}
 use Rattle.decoder.proofs.Trials.{check-means, passed-filled, laid-part, laid-whole, laid-opened, by-settled, twice-none}
 use Rattle.decoder.proofs.Trials.{over-check, over-answers}
 use Rattle.decoder.proofs.decoding.decode_trials.Statement.{statement}
@@ -106,13 +104,12 @@ module _ (c : tie.After-open) where
       (length (received call)) (omega arith)
 
   -- what a decoding ensures that goes on from there
-  decoded : {reply : Reply} {sums left : List ℕ} {visits : ℕ}
-      → Answered (planIn call) (received call) (lost call) after (opening .limit) reply sums visits left
-      → Answered (planIn call) (received call) (lost call) (output call) (call .args .limit) reply sums visits left
-  decoded {reply} {sums} {left} {visits} answered =
+  decoded : {r : Decoding} {left : List ℕ} → Decodes (planIn call) (received call) (lost call) after (opening .limit) r left
+      → Decodes (planIn call) (received call) (lost call) (output call) (call .args .limit) r left
+  decoded {r} {left} answered =
       over-answers (planIn call) (received call) (lost call) (output call) (call .args .limit) (call .pre .1) swept swept-sized
-      (subst (λ (out : List ℕ). Answered (planIn call) (received call) (lost call) out (call .args .limit) reply sums visits left) whole
-      (subst (λ (H : ℕ). Answered (planIn call) (received call) (lost call) after H reply sums visits left) (opened .limit-is) answered))
+      (subst (λ (out : List ℕ). Decodes (planIn call) (received call) (lost call) out (call .args .limit) r left) whole
+      (subst (λ (H : ℕ). Decodes (planIn call) (received call) (lost call) after H r left) (opened .limit-is) answered))
 
 lay-out-requires : tie.Need-lay-out-requires
 lay-out-requires c κs = passed (c .before .before .before .before .before .before .before .before .before) .fits
@@ -152,7 +149,8 @@ returns c =
     let s = call d in
     let (none, (ended, in-time)) = c .before .at-once .ensures (c .if1 .taken) in
     twice-none (planIn s) (received s) (lost s) (output s) (s .args .limit) (s .pre .1) (opened d .closed ended) (whole d)
-    (by-settled (received s) (s .args .limit) (opening d .count) (opening d .sums) (opening d .visits) (after d) in-time) none
+    (by-settled (received s) (s .args .limit) (record { count = opening d .count; sums = opening d .sums; visits = opening d .visits }) (after d) in-time)
+    none
 
 decode-on-requires : tie.Need-decode-on-requires
 decode-on-requires c κs =

@@ -9,9 +9,9 @@ use lib.ListN.{length, take, drop}
 use Rattle.bits.specs.Bit.{written}
 use Rattle.bits.proofs.Fronts.{length-written}
 use Rattle.wiring.specs.Plan.{Plan, planOf}
+use Rattle.wiring.proofs.Plans.{plan-few, plan-entries, plan-permuted}
 use Rattle.spans.specs.Walking.{flipsAround}
-use Rattle.decoder.specs.Visiting.{Tried}
-use Rattle.decoder.specs.Turns.{Opened, OpenedSome}
+use Rattle.decoder.specs.Turns.{Tried, Opened, OpenedSome}
 use Rattle.decoder.specs.declared.settle.Settling.{Settling}
 use Rattle.decoder.proofs.Trials.{part-lent, part-sized, part-whole, part-front}
 use Rattle.decoder.proofs.decoding.finish_trial.Statement.{statement}
@@ -70,7 +70,16 @@ module _ (c : tie.After-finish) where
       (sym (part-lent (room start) (size start))) opened))
 
 places-for-requires : tie.Need-places-for-requires
-places-for-requires c κs = search needs
+places-for-requires c κs =
+    let s = c .before .before .before .before .before .before .before .before .before .before in
+    let accepted = s .pre .0 .plan-done in
+    let entries = plan-entries (planIn s) accepted in (
+      plan-permuted (planIn s) accepted,
+      (
+        omega (arith, entries, plan-few (planIn s) accepted),
+        (omega (arith, entries, s .pre .1 .1 .1 .0), s .pre .1 .1 .1 .1),
+      ),
+    )
 
 sub-finish : tie.Need-sub-finish
 sub-finish c = search needs

@@ -9,11 +9,10 @@ use denote.Ref.{now}
 use lib.ListN.{length}
 use Rattle.wiring.specs.Plan.{Plan, planOf, countOf}
 use Rattle.wiring.specs.declared.side.SideName.{SideName}
-use Rattle.decoder.specs.Sweep.{turn}
-use Rattle.decoder.specs.Visiting.{Ready}
-use Rattle.decoder.specs.News.{NewsSwept}
+use Rattle.sweeps.specs.Sweep.{turn}
+use Rattle.sweeps.specs.Sweeping.{Ready, NewsSwept}
 use Rattle.decoder.specs.Turns.{Midway, Opened}
-use Rattle.decoder.proofs.RightWords.{plan-fits}
+use Rattle.wiring.proofs.Plans.{plan-fits}
 use Rattle.decoder.proofs.VisitCounts.{visits-few, visits-in-few}
 use Rattle.decoder.proofs.Passes.{Begun, turn-two, turn-more, told-sized, midway-told, midway-hears, midway-visits, midway-few, midway-more}
 use Rattle.decoder.proofs.Passes.{midway-settled, midway-lost, midway-never}

@@ -7,14 +7,14 @@ use Prim.Native.Nat.{ℕ, _+_, _≤_, min}
 use native.Mathlib.Omega.{arith}
 use denote.Ref.{now}
 use lib.ListN.{replicate}
-use Rattle.wiring.specs.Plan.{Plan, planOf, countOf, sideOf, left, right}
+use Rattle.wiring.specs.Plan.{Plan, planOf, countOf, sideOf, left, right, other}
 use Rattle.wiring.specs.declared.side.SideName.{SideName}
-use Rattle.decoder.specs.Sweep.{other, turn}
+use Rattle.sweeps.specs.Sweep.{turn}
 use Rattle.decoder.specs.Decode.{visitsIn, visitsMade}
 use Rattle.decoder.specs.Turns.{Midway}
-use Rattle.decoder.proofs.RightWords.{plan-fits}
-use Rattle.decoder.proofs.Sweeping.{after-zero}
-use Rattle.decoder.proofs.Visiting.{ready-side, ties-le}
+use Rattle.wiring.proofs.Plans.{plan-fits}
+use Rattle.sweeps.proofs.Sweeping.{after-zero}
+use Rattle.sweeps.proofs.Visiting.{ties-le}
 use Rattle.decoder.proofs.VisitCounts.{visits-full, visits-added, visits-few}
 use Rattle.decoder.proofs.Passes.{Begun, Pass, Told, Swept, turn-zero, turn-one, pass, pass-few, told-start, told-more, told-sized, swept-two}
 use Rattle.decoder.proofs.Passes.{open-first, open-second, open-limit, open-settled, open-going}
@@ -217,7 +217,7 @@ all-codewords-requires : tie.Need-all-codewords-requires
 all-codewords-requires c κs =
     let two = c .before .before .before .before .before .before .before .before .before .before .before .before .before .before .before .before .before .before .before .before .before in
     let s = start two in
-    ready-side (planIn s) (begun s .plan-done) left (two .sweep-firsts .ensures .1 .left-finds)
+    (plan-fits (planIn s) (begun s .plan-done) left .n-high, two .sweep-firsts .ensures .1 .left-finds)
 
 same-length-10 : tie.Need-same-length-10
 same-length-10 c = search needs
@@ -236,7 +236,7 @@ returns-4 c =
       record {
         limit-is = refl;
         closed = λ _. open-settled (begun (start two)) (swept last) (second-pass two) (c .before .before .before .before .if4 .taken) (c .before .before .before .before .before .before .if3 .left)
-            (c .before .all-codewords .ensures .0 (c .if5 .taken));
+            (c .before .all-codewords .ensures .0 (c .if5 .taken) _);
         going = λ no. absurd (true≢false no);
       },
     )

@@ -6,10 +6,10 @@ use denote.Ref.{now}
 use Rattle.inner_code.specs.Reply.{done}
 use Rattle.wiring.specs.Block.{blockCheck}
 use Rattle.wiring.specs.Plan.{Plan, planOf, edgeCount, left, right}
-use Rattle.decoder.proofs.Marks.{cleared-listening}
-use Rattle.decoder.proofs.RightWords.{plan-whole}
-use Rattle.decoder.proofs.Sweeping.{sweep-block}
-use Rattle.decoder.proofs.Visiting.{ready-side, ready-left-swept}
+use Rattle.words.proofs.Marks.{cleared-listening}
+use Rattle.wiring.proofs.Plans.{plan-whole}
+use Rattle.sweeps.proofs.Sweeping.{sweep-block}
+use Rattle.sweeps.proofs.Visiting.{ready-side, ready-left-swept}
 use borrow.Author.Needs.{needs}
 use Rattle.decoder.proofs.settle.sweep_firsts.Statement.{statement}
 use Rattle.decoder.proofs.settle.sweep_firsts.Tie as tie

@@ -1,4 +1,4 @@
--- `margin_input::count_behind` meets its contract: its test is that of the definition.
+-- `margin::count_behind` meets its contract: its test is that of the definition.
 use mathlib.Core.Path.{_∙_}
 use native.Mathlib.Omega.{arith}
 use borrow.Author.Needs.{needs}

@@ -1,4 +1,4 @@
--- `margin_input::sheet_end` meets its contract: its tests are those of the definition, and a byte is below 256, so that nothing wraps.
+-- `margin::sheet_end` meets its contract: its tests are those of the definition, and a byte is below 256, so that nothing wraps.
 use mathlib.Core.Path.{sym}
 use Prim.Native.Nat.{_+_}
 use native.Mathlib.Nat.{le-refl}

@@ -1,4 +1,4 @@
--- `margin_input::split_input` meets its contract: each part is the one of the definition.
+-- `margin::split_input` meets its contract: each part is the one of the definition.
 use mathlib.Core.Path.{sym}
 use native.Mathlib.Nat.{min-eq-left, min-eq-right}
 use native.Mathlib.Omega.{arith}

@@ -9,7 +9,7 @@ use Rattle.bits.specs.Bit.{bitAt}
 use Rattle.bits.proofs.Bytes.{bitAt-lt}
 use Rattle.messages.specs.Columns.{liveBefore, Chosen}
 use Rattle.messages.proofs.StoredRows.{rowBit-lt, length-noRows}
-use Rattle.messages.proofs.Pivots.{term-lt}
+use Rattle.bits.proofs.Xor.{digits-product}
 use Rattle.messages.proofs.LiveRows.{live-none, live-one-more, live-le, chosen-none, chosen-one-more}
 use Rattle.messages.proofs.encoder.choose.Statement.{statement}
 use Rattle.messages.proofs.encoder.choose.Tie as tie
@@ -39,7 +39,7 @@ mul-bit : tie.Need-mul-bit Inv-loop μ-loop
 mul-bit c =
     let live : c .before .row-bit .result < 2 = rw (c .before .row-bit .ensures) (rowBit-lt _ _ _) in
     let bit : c .bit .result < 2 = rw (c .bit .ensures) (bitAt-lt _ _) in
-    omega (arith, term-lt (c .before .row-bit .result) (c .bit .result) live bit)
+    omega (arith, digits-product (c .before .row-bit .result) (c .bit .result) live bit)
 
 mul-chosen : tie.Need-mul-chosen Inv-loop μ-loop
 mul-chosen c = search needs

@@ -7,12 +7,13 @@ use Prim.Native.Nat.{ℕ, _≤_}
 use native.Mathlib.Omega.{arith}
 use denote.Ref.{now}
 use Rattle.inner_code.specs.Reply.{done}
-use Rattle.wiring.specs.Plan.{Plan, planOf, edgeCount}
+use Rattle.wiring.specs.Plan.{Plan, planOf, edgeCount, left, right}
 use Rattle.wiring.specs.Block.{blockCheck}
 use Rattle.wiring.specs.Checking.{checkReply}
 use Rattle.wiring.specs.Answer.{locateReply}
 use Rattle.wiring.proofs.Permutation.{fitted-edges}
 use Rattle.wiring.proofs.Plans.{PlanAccepted, plan-accepted, plan-refused, accepted-edges}
+use Rattle.wiring.proofs.VertexAccess.{codes-readable, block-room}
 use Rattle.messages.specs.Columns.{noColumns}
 use Rattle.messages.proofs.Answers.{read-plan, read-long, read-block, read-stranger}
 use Rattle.messages.proofs.Solving.{plan-wired-by, plan-stored}
@@ -81,7 +82,9 @@ passed : (c : tie.After-enum-told2)
 passed c = sym (checked (c .before .before)) ∙ ap checkReply (c .enum-told2 .given .1)
 
 first-unsatisfied-requires : tie.Need-first-unsatisfied-requires
-first-unsatisfied-requires c κs = search needs
+first-unsatisfied-requires c κs =
+    let p = plan (accepted (c .before .before)) in
+    codes-readable _ (p .plan-done) _ (block-room _ _ (passed c)) (p .code-is left) (p .code-is right)
 
 enum-known-r-2 : tie.Need-enum-known-r-2
 enum-known-r-2 c = search needs

@@ -2,8 +2,8 @@
 use mathlib.Core.Path.{_≡_, refl, sym, ap}
 use Prim.Native.Nat.{ℕ, zero, suc, _%_}
 use native.Mathlib.Omega.{arith}
-use Rattle.wiring.specs.Plan.{left, right}
-use Rattle.decoder.specs.Sweep.{other, turn}
+use Rattle.wiring.specs.Plan.{left, right, other}
+use Rattle.sweeps.specs.Sweep.{turn}
 use Rattle.panel.proofs.sweep.side_at.Statement.{statement}
 use Rattle.panel.proofs.sweep.side_at.Tie as tie
 

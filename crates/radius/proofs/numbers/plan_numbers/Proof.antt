@@ -1,5 +1,4 @@
--- `radius::plan_numbers` meets its contract: a refusal of the plan's check is handed on, and of an accepted plan the measures give the
--- distances and the spread.
+-- `radius::plan_numbers` meets its contract: a refusal of the plan's check is handed on, and an accepted plan's numbers are measured.
 use mathlib.Core.Path.{sym}
 use borrow.Author.Needs.{needs}
 use denote.Ref.{now}
@@ -32,24 +31,14 @@ checked c = c .before .before
 plan : (c : tie.After-enum-told) → PlanAccepted (planIn (checked c)) (checked c .check-plan .result)
 plan c = plan-accepted _ _ (checked c .check-plan .ensures) (c .enum-told .given .1)
 
-measured-distance-requires : tie.Need-measured-distance-requires
-measured-distance-requires c κs = search needs
-
-measured-distance-requires-2 : tie.Need-measured-distance-requires-2
-measured-distance-requires-2 c κs = search needs
-
-measured-spread-requires : tie.Need-measured-spread-requires
-measured-spread-requires c κs = plan (c .before .before .before .before) .plan-wired
+measured-numbers-requires : tie.Need-measured-numbers-requires
+measured-numbers-requires c κs = plan c .plan-done
 
 returns : tie.Need-returns
 returns c = sym (numbers-refused _ _ _ (plan-refused _ _ (c .before .before .before .check-plan .ensures) _ (c .before .checked .given .1)))
 
 returns-2 : tie.Need-returns-2
-returns-2 c =
-    let right = c .before in
-    let left = right .before in
-    numbers-answered _ _ (plan (left .before .before .before)) _ _ _ (left .measured-distance .ensures) (right .measured-distance2 .ensures)
-    (c .measured-spread .ensures)
+returns-2 c = numbers-answered _ (plan (c .before) .plan-done) _ (c .measured-numbers .ensures)
 
 pub plan-numbers-spec : {M : Type 1} → statement M
 plan-numbers-spec =
@@ -58,8 +47,6 @@ plan-numbers-spec =
     check-plan-requires
     enum-known-checked
     enum-told
-    measured-distance-requires
-    measured-distance-requires-2
-    measured-spread-requires
+    measured-numbers-requires
     returns
     returns-2)

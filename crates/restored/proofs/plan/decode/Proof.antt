@@ -38,7 +38,7 @@ returns c =
     let wired = call .before .before .before .before .before .before in
     let plan-is : planOf (wired .before .sheet .result) (wired .before .sheet .result) 8 8 (wired .square-wiring .result) ≡ squarePlan =
     ap₂ (λ (s w : List ℕ). planOf s s 8 8 w) (wired .before .sheet .ensures) (wired .square-wiring .ensures) in
-    (rw plan-is at (call .decode .ensures .0), rw plan-is at (call .decode .ensures .1 .1 .1))
+    (rw plan-is at (call .decode .ensures .answer), rw plan-is at (call .decode .ensures .leaves))
 
 pub decode-spec : {M : Type 1} → statement M
 decode-spec =

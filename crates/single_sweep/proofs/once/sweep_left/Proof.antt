@@ -2,14 +2,17 @@
 use mathlib.Core.List.{[]}
 use mathlib.Core.Path.{_≡_, refl}
 use Prim.Native.Nat.{ℕ}
+use native.Mathlib.Omega.{arith}
 use borrow.Author.Needs.{needs}
 use denote.Ref.{now}
 use lib.ListN.{length-replicate}
 use Rattle.inner_code.specs.Reply.{done}
 use Rattle.wiring.specs.Plan.{Plan, planOf, left, right}
 use Rattle.wiring.specs.Wiring.{planCheck}
+use Rattle.wiring.proofs.Plans.{plan-few, plan-entries, plan-permuted}
+use Rattle.sweeps.proofs.Visiting.{side-preparable}
 use Rattle.single_sweep.proofs.Answers.{check-accepted}
-use Rattle.single_sweep.proofs.TurnedBits.{prepared, across-left}
+use Rattle.single_sweep.proofs.TurnedBits.{across-left}
 use Rattle.single_sweep.proofs.once.sweep_left.Statement.{statement}
 use Rattle.single_sweep.proofs.once.sweep_left.Tie as tie
 
@@ -23,7 +26,9 @@ slice-aggregate-prepare-finder : tie.Need-slice-aggregate-prepare-finder
 slice-aggregate-prepare-finder c = search needs
 
 prepare-finder-requires : tie.Need-prepare-finder-requires
-prepare-finder-requires c κs = search needs
+prepare-finder-requires c κs =
+    let first = c .before .before .before .before .before .before .before in
+    side-preparable (planIn first) (accepted first) left (first .pre .1 .0) refl
 
 slice-aggregate-note-places : tie.Need-slice-aggregate-note-places
 slice-aggregate-note-places c = search needs
@@ -31,7 +36,9 @@ slice-aggregate-note-places c = search needs
 note-places-requires : tie.Need-note-places-requires
 note-places-requires c κs =
     let first = c .before .before .before .before .before .before .before .before .before .before in
-    (accepted first, length-replicate {A = ℕ} 32768 0)
+    let entries = plan-entries (planIn first) (accepted first) in
+    let few = plan-few (planIn first) (accepted first) in
+    (plan-permuted (planIn first) (accepted first), (omega (arith, entries, few), omega (arith, entries, few, length-replicate {A = ℕ} 32768 0)))
 
 slice-aggregate-sweep-told : tie.Need-slice-aggregate-sweep-told
 slice-aggregate-sweep-told c = search needs
@@ -50,7 +57,7 @@ sweep-told-requires c κs =
         (
           first .pre .1 .1,
           (
-            prepared (planIn first) (accepted first) left (first .pre .1 .0) (prepares .prepare-finder .ensures) refl,
+            prepares .prepare-finder .ensures,
             across-left (planIn first) (accepted first) (notes .note-places .ensures),
           ),
         ),

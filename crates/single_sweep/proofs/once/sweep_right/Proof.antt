@@ -6,8 +6,9 @@ use denote.Ref.{now}
 use Rattle.inner_code.specs.Reply.{done}
 use Rattle.wiring.specs.Plan.{Plan, planOf, left, right}
 use Rattle.wiring.specs.Wiring.{planCheck}
+use Rattle.sweeps.proofs.Visiting.{side-preparable}
 use Rattle.single_sweep.proofs.Answers.{check-accepted}
-use Rattle.single_sweep.proofs.TurnedBits.{prepared, across-right}
+use Rattle.single_sweep.proofs.TurnedBits.{across-right}
 use Rattle.single_sweep.proofs.once.sweep_right.Statement.{statement}
 use Rattle.single_sweep.proofs.once.sweep_right.Tie as tie
 
@@ -21,7 +22,9 @@ slice-aggregate-prepare-finder : tie.Need-slice-aggregate-prepare-finder
 slice-aggregate-prepare-finder c = search needs
 
 prepare-finder-requires : tie.Need-prepare-finder-requires
-prepare-finder-requires c κs = search needs
+prepare-finder-requires c κs =
+    let first = c .before .before .before .before .before .before .before in
+    side-preparable (planIn first) (accepted first) right (first .pre .1 .1) refl
 
 slice-aggregate-sweep-told : tie.Need-slice-aggregate-sweep-told
 slice-aggregate-sweep-told c = search needs
@@ -39,7 +42,7 @@ sweep-told-requires c κs =
         (
           first .pre .1 .1,
           (
-            prepared (planIn first) (accepted first) right (first .pre .1 .1) (prepares .prepare-finder .ensures) refl,
+            prepares .prepare-finder .ensures,
             across-right (planIn first) (accepted first),
           ),
         ),

@@ -11,20 +11,19 @@ use lib.Dec.{eqb}
 use lib.ListN.{length}
 use Rattle.inner_code.specs.Reply.{done}
 use Rattle.inner_code.specs.Code.{isCodeword}
-use Rattle.tables.specs.Finding.{Finds, Found}
-use Rattle.tables.proofs.Finding.{found-means, member-means}
-use Rattle.wiring.specs.Plan.{Plan, planOf, sheetOf, countOf, sideOf, edgeCount}
+use Rattle.finder.specs.Finding.{Finds, Found}
+use Rattle.finder.proofs.Finding.{member-means}
+use Rattle.wiring.specs.Plan.{Plan, planOf, sheetOf, countOf, sideOf, edgeCount, other}
 use Rattle.wiring.specs.Wiring.{planCheck}
 use Rattle.wiring.specs.Block.{vertexWord}
 use Rattle.wiring.specs.Checking.{codeOf}
 use Rattle.wiring.specs.declared.side.SideCode.{SideCode}
-use Rattle.wiring.proofs.VertexAccess.{read-inside}
-use Rattle.decoder.specs.Sweep.{other}
-use Rattle.decoder.specs.Visiting.{SideReady}
-use Rattle.decoder.proofs.RightWords.{plan-fits}
-use Rattle.decoder.proofs.Visiting.{word-stays, word-found, word-counted, word-put, found-lt, pattern-lt, ready-side}
-use Rattle.decoder.specs.News.{sheetFor}
-use Rattle.decoder.proofs.Rounds.{sheet-for}
+use Rattle.wiring.proofs.VertexAccess.{read-vertex, plan-readable}
+use Rattle.sweeps.specs.Sweeping.{SideReady}
+use Rattle.wiring.proofs.Plans.{plan-fits}
+use Rattle.sweeps.proofs.Visiting.{word-stays, word-found, word-counted, word-put, found-lt, pattern-lt, ready-side}
+use Rattle.wiring.proofs.Sides.{sheet-for}
+use Rattle.sweeps.proofs.Rounds.{nearest-asked}
 use Rattle.single_sweep.specs.Telling.{Visited}
 use Rattle.single_sweep.proofs.Answers.{check-accepted, check-room}
 use Rattle.single_sweep.proofs.TurnedBits.{code-named}
@@ -86,22 +85,29 @@ read-is : (c : tie.After-read-word Inv-loop μ-loop)
 read-is c =
     let first = begin c in
     rw (ap (λ (x : SideCode). x .d) (held (head c .before))) at (c .read-word .ensures)
-    ∙ read-inside (sheetOf (planIn first) (first .args .side)) (plan-fits (planIn first) (accepted first) (first .args .side)) (first .args .side) _ _
-    (below c)
+    ∙ read-vertex (sheetOf (planIn first) (first .args .side)) _ _ (first .args .side) _ _
 
-room : (c : tie.After-read-word Inv-loop μ-loop) → edgeCount (planIn (begin c)) ≤ length (head c .loop .block) * 8
+-- the block has room for all bits
+room : (c : tie.At-loop Inv-loop μ-loop) → edgeCount (planIn (start (c .before))) ≤ length (c .loop .block) * 8
 room c =
+    let first = start (c .before) in
     omega (
       arith,
-      visited-length (planIn (begin c)) (accepted (begin c)) (begin c .args .side) (head c .loop .inv .1),
-      check-room (planIn (begin c)) _ (begin c .pre .0),
+      visited-length (planIn first) (accepted first) (first .args .side) (c .loop .inv .1),
+      check-room (planIn first) _ (first .pre .0),
     )
 
 read-word-requires : tie.Need-read-word-requires Inv-loop μ-loop
-read-word-requires c κs = search needs
+read-word-requires c κs =
+    let turn = c .before .before in
+    let first = start (turn .before) in
+    let side = first .args .side in
+    let is = held (turn .before) in
+    let below : turn .loop .v < countOf (planIn first) side = omega (arith, ap (λ (x : SideCode). x .n) is) in
+    rw (ap (λ (x : SideCode). x .d) is) (plan-readable (planIn first) (accepted first) (turn .loop .block) (room turn) side (turn .loop .v) below)
 
 is-codeword-requires : tie.Need-is-codeword-requires Inv-loop μ-loop
-is-codeword-requires c κs = search needs
+is-codeword-requires c κs = head (c .before) .loop .inv .2 .sized
 
 add-v : tie.Need-add-v Inv-loop μ-loop
 add-v c = search needs
@@ -122,7 +128,10 @@ loop-again c =
     )
 
 nearest-on-requires : tie.Need-nearest-on-requires Inv-loop μ-loop
-nearest-on-requires c κs = search needs
+nearest-on-requires c κs =
+    let read = c .before .before .before .before in
+    let first = begin read in
+    nearest-asked (planIn first) (first .args .side) (head read .loop .inv .2) (head read .loop .block) (head read .loop .v) (read-is read)
 
 -- ---- a word that is no codeword
 
@@ -133,14 +142,10 @@ abbrev stepped : tie.After-nearest-on Inv-loop μ-loop → List ℕ
 stepped c = c .nearest-on .last .1 .1 .1 .0
 
 found : (c : tie.After-nearest-on Inv-loop μ-loop)
-    → Found (sheetOf (planIn (begin (word c))) (begin (word c) .args .side)) (head (word c) .loop .finder) (word c .read-word .result)
-    (c .nearest-on .result) (stepped c)
+    → Found (sheetOf (planIn (begin (word c))) (begin (word c) .args .side)) (word c .read-word .result) (c .nearest-on .result) (stepped c)
 found c =
     let first = begin (word c) in
-    let sheet : List ℕ = sheetFor (first .args .side) (now (first .args .left)) (now (first .args .right)) in
-    let told : Found sheet (head (word c) .loop .finder) (word c .read-word .result) (c .nearest-on .result) (stepped c) =
-    found-means _ _ _ (c .nearest-on .ensures .0) (c .nearest-on .ensures .1) in
-    rw (sheet-for (planIn first) (first .args .side)) at told
+    rw (sheet-for (planIn first) (first .args .side)) at (c .nearest-on .ensures)
 
 missed : (c : tie.After-nearest-on Inv-loop μ-loop)
     → isCodeword (sideOf (planIn (begin (word c))) (begin (word c) .args .side) .row) (sideOf (planIn (begin (word c))) (begin (word c) .args .side) .k)
@@ -166,7 +171,7 @@ put-told-requires c κs =
             below read,
             (
               pattern-lt (ready read) (first .args .side) (head read .loop .block) (below read) (read-is read) (found last),
-              (first .pre .1 .1 .1 .1, room read),
+              (first .pre .1 .1 .1 .1, room (head read)),
             ),
           ),
         ),
@@ -195,7 +200,7 @@ mends c settled told =
     let puts = word-put (ready read) side (turn .block) (below read) (read-is read) (last c .nearest-on .result .word) (c .put-told .ensures .1) in
     let low = found-lt (ready read) side (turn .block) (below read) (read-is read) (found (last c)) in
     visited-mended (planIn first) (accepted first) side (turn .inv .1) (c .put-told .result) settled (below read) mapped puts (c .put-told .ensures .0)
-    (rw told (word-mended (planIn first) (accepted first) side (turn .block) (room read) (below read) (missed (last c)) mapped counted puts low))
+    (rw told (word-mended (planIn first) (accepted first) side (turn .block) (room (head read)) (below read) (missed (last c)) mapped counted puts low))
 
 add-change : tie.Need-add-change Inv-loop μ-loop
 add-change c =
@@ -229,7 +234,7 @@ loop-less-2 c = omega (arith, more (word (last (c .before .before .before))))
 loop-again-2 : tie.Need-loop-again-2 Inv-loop μ-loop
 loop-again-2 c =
     let put = c .before .before .before in
-    (omega (arith, more (word (last put))), mends put _ (c .mended .ensures) .1, found (last put) .finds (head (word (last put)) .loop .inv .2))
+    (omega (arith, more (word (last put))), mends put _ (c .mended .ensures) .1, found (last put) .finds)
 
 same-length : tie.Need-same-length Inv-loop μ-loop
 same-length c = c .before .loop .inv .2 .sized ∙ sym (start (c .before .before) .pre .1 .1 .1 .0 .sized)

@@ -11,14 +11,13 @@ use lib.Pow.{pow-pos}
 use Rattle.bits.specs.Window.{turned}
 use Rattle.inner_code.specs.Reply.{done}
 use Rattle.inner_code.specs.Sheet.{degree}
-use Rattle.wiring.specs.Plan.{Plan, planOf, sheetOf, sideOf, sideBit, edgeCount}
+use Rattle.wiring.specs.Plan.{Plan, planOf, sheetOf, sideOf, sideBit, edgeCount, other}
 use Rattle.wiring.specs.Wiring.{planCheck}
 use Rattle.wiring.specs.declared.side.SideCode.{SideCode}
 use Rattle.unsatisfied.specs.Count.{unsatisfiedAt}
-use Rattle.decoder.specs.Sweep.{other}
-use Rattle.decoder.specs.Visiting.{patternPut}
-use Rattle.decoder.proofs.Patterns.{Rest, rest-sized, rest-none, rest-high, rest-more, length-pattern}
-use Rattle.decoder.proofs.RightWords.{plan-fits, plan-whole, plan-few}
+use Rattle.words.specs.Words.{patternPut}
+use Rattle.words.proofs.Patterns.{Rest, rest-sized, rest-none, rest-high, rest-more, length-pattern}
+use Rattle.wiring.proofs.Plans.{plan-fits, plan-whole, plan-few, plan-entries}
 use Rattle.single_sweep.specs.Telling.{acrossFrom}
 use Rattle.single_sweep.proofs.TurnedBits.{code-named, across-meets}
 use Rattle.single_sweep.proofs.Visits.{side-few}
@@ -85,7 +84,7 @@ degreeIn c = degree (sheetOf (planIn (begin c)) (begin c .args .side))
 
 -- the highest one is within the word
 within : (c : tie.After-highest Inv-loop μ-loop) → c .highest .result < degreeIn c
-within c = rest-high (head c .loop .inv .0) _ (c .highest .ensures .0) (c .highest .ensures .1)
+within c = rest-high (head c .loop .inv .0) _ (c .highest .ensures .0) (c .highest .ensures .1 .0)
 
 abbrev entryIn : tie.After-highest Inv-loop μ-loop → ℕ
 entryIn c = begin c .args .v * degreeIn c + (degreeIn c - 1 - c .highest .result)
@@ -107,7 +106,7 @@ add-place-across c = rw (degree-is (named c)) (omega (arith, entry-few c .1))
 place-across-requires : tie.Need-place-across-requires Inv-loop μ-loop
 place-across-requires c κs =
     rw (degree-is (named c))
-    (entry-few c .1, λ is-left. omega (arith, entry-few c .0, begin c .pre .1 .1 .1 .1 .1 .0 .noted is-left .sized))
+    (entry-few c .1, λ is-left. omega (arith, entry-few c .0, plan-entries (planIn (begin c)) (accepted (begin c)), begin c .pre .1 .1 .1 .1 .1 .0 .noted is-left .sized))
 
 -- the entry of the other side that has the bit
 placed : (c : tie.After-place-across Inv-loop μ-loop)
@@ -197,7 +196,7 @@ loop-again : tie.Need-loop-again Inv-loop μ-loop
 loop-again c =
     let one = c .before .before .before in
     let high = top one in (
-      rest-more (head high .loop .inv .0) _ (high .highest .ensures .0) (high .highest .ensures .1) refl (c .power .ensures) (told-one one .1),
+      rest-more (head high .loop .inv .0) _ (high .highest .ensures .0) (high .highest .ensures .1 .0) refl (c .power .ensures) (told-one one .1),
       omega (arith, head high .loop .inv .1, told-one one .0, few high (now (begin high .args .block))),
     )
 

@@ -10,13 +10,13 @@ use denote.Ref.{now}
 use lib.Bits.{bitXor}
 use Rattle.bits.specs.Window.{turned}
 use Rattle.inner_code.specs.Reply.{done}
-use Rattle.wiring.specs.Plan.{Plan, planOf}
+use Rattle.wiring.specs.Plan.{Plan, planOf, left}
 use Rattle.wiring.specs.Wiring.{planCheck}
 use Rattle.wiring.specs.Checking.{codeOf}
 use Rattle.wiring.specs.declared.side.SideCode.{SideCode}
 use Rattle.unsatisfied.specs.Answer.{missedOf}
-use Rattle.decoder.proofs.RightWords.{plan-fits, plan-few}
-use Rattle.single_sweep.proofs.TurnedBits.{code-named, told-turned}
+use Rattle.wiring.proofs.Plans.{plan-fits}
+use Rattle.single_sweep.proofs.TurnedBits.{code-named, told-readable, told-turned}
 use Rattle.single_sweep.proofs.telling.turn_told.Statement.{statement}
 use Rattle.single_sweep.proofs.telling.turn_told.Tie as tie
 
@@ -46,7 +46,11 @@ div-read-word : tie.Need-div-read-word
 div-read-word c = omega (arith, degree-range (c .before) .0)
 
 read-word-requires : tie.Need-read-word-requires
-read-word-requires c κs = search needs
+read-word-requires c κs =
+    let named = c .before in
+    let first = start named in
+    let given = first .pre .1 .1 .1 in
+    told-readable (planIn first) (accepted first) (first .args .side) (held named) _ (given .1) _ (given .0)
 
 missed-word-requires : tie.Need-missed-word-requires
 missed-word-requires c κs = search needs
@@ -72,7 +76,7 @@ missed-word-requires-2 c κs = search needs
 bit-of-requires : tie.Need-bit-of-requires
 bit-of-requires c κs =
     let first = c .before .before .before .before .before .before .before .before .before .before .before in
-    omega (arith, first .pre .1 .1 .1 .0, plan-few (planIn first) (accepted first))
+    omega (arith, first .pre .1 .1 .1 .0, plan-fits (planIn first) (accepted first) left .sized)
 
 turn-bit-requires : tie.Need-turn-bit-requires
 turn-bit-requires c κs = search needs

@@ -12,7 +12,7 @@ use Rattle.bits.specs.Window.{at}
 use Rattle.bits.proofs.Windows.{shifted-one}
 use Rattle.inner_code.specs.Reduction.{reduced, reducedBy}
 use Rattle.inner_code.specs.Sheet.{degree, rowCount, rowOf}
-use Rattle.inner_code.proofs.SheetChecks.{Sound, sound}
+use Rattle.inner_code.proofs.SheetChecks.{Sound, sound, degree-byte, count-byte}
 use Rattle.tables.specs.Answer.{tableBytes}
 use Rattle.tables.specs.Numbering.{freeMask, squeezedBy, numberOf}
 use Rattle.tables.specs.Folding.{Filled}
@@ -38,15 +38,7 @@ Inv-loop sheet basis table₀ costs₀ d k mask count₀ b₀ table costs count 
 abbrev μ-loop : tie.MeasureT-loop
 μ-loop sheet basis table₀ costs₀ d k mask count₀ b₀ table costs count b = d - b
 
--- ---- the sheet's d and k
-
-d-is : (sheet : List ℕ) → getD sheet 0 0 ≡ degree sheet
-unfolding degree
-d-is sheet = refl
-
-k-is : (sheet : List ℕ) → getD sheet 1 0 ≡ rowCount sheet
-unfolding rowCount
-k-is sheet = refl
+-- ---- the sheet
 
 fine : (c : tie.Start Inv-loop μ-loop) → Sound (now (c .args .sheet))
 fine c = sound (now (c .args .sheet)) [] (c .pre .0 .accepted)
@@ -105,7 +97,7 @@ abbrev start : tie.At-loop Inv-loop μ-loop → tie.Start Inv-loop μ-loop
 start c = c .before .before .before .before .before .before .before .before .before .before .before .before .before .before
 
 b-lt : (c : tie.In-loop Inv-loop μ-loop) → c .before .loop .b < degree (now (start (c .before) .args .sheet))
-b-lt c = omega (arith, d-is (now (start (c .before) .args .sheet)))
+b-lt c = omega (arith, degree-byte (now (start (c .before) .args .sheet)))
 
 b-low : (c : tie.In-loop Inv-loop μ-loop) → c .before .loop .b < 16
 b-low c = omega (arith, b-lt c, fine (start (c .before)) .degree-high)
@@ -129,7 +121,7 @@ count-le : (c : tie.At-loop Inv-loop μ-loop) → c .loop .count ≤ classes (st
 unfolding classes
 count-le c =
     let sheet = now (start c .args .sheet) in
-    omega (arith, c .loop .inv .4 .counted, classes-le sheet (fine (start c)) (c .loop .b) (omega (arith, d-is sheet)))
+    omega (arith, c .loop .inv .4 .counted, classes-le sheet (fine (start c)) (c .loop .b) (omega (arith, degree-byte sheet)))
 
 few-classes : (c : tie.At-loop Inv-loop μ-loop) → classes (start c) ≤ 32768
 unfolding classes
@@ -147,7 +139,7 @@ left c =
     let turn = c .before .before in
     let args = start turn .args in
     c .residue .ensures
-    ∙ ap₂ (λ (k w : ℕ). reducedBy (at (now (args .basis))) (min k 11) w) (k-is (now (args .sheet))) (digit-is (c .before))
+    ∙ ap₂ (λ (k w : ℕ). reducedBy (at (now (args .basis))) (min k 11) w) (count-byte (now (args .sheet))) (digit-is (c .before))
 
 left-is-reduced : (c : tie.After-residue Inv-loop μ-loop)
     → let turn = c .before .before in
@@ -181,7 +173,7 @@ apart c r e =
     let basis = now (begun .args .basis) in
     e
     ∙ ap (λ (m : ℕ). squeezedBy m 16 (c .residue .result))
-    (turn .loop .inv .1 ∙ ap (λ (k : ℕ). freeMask (at basis) (min k 11)) (k-is (now (begun .args .sheet))))
+    (turn .loop .inv .1 ∙ ap (λ (k : ℕ). freeMask (at basis) (min k 11)) (count-byte (now (begun .args .sheet))))
     ∙ number-is (now (begun .args .sheet)) (fine begun) basis (begun .pre .0 .echelon) (2 ^ turn .loop .b) (c .residue .result) (left c)
 
 doubled : (c : tie.Then1 Inv-loop μ-loop) → 2 * c .before .before .before .loop .count ≤ classes (start (c .before .before .before))
@@ -274,7 +266,7 @@ returns c =
     let sheet = now (start turn .args .sheet) in
     let end : turn .loop .b ≡ getD sheet 0 0 = omega arith in
     filled-table sheet (fine (start turn)) (turn .loop .count) (turn .loop .table) (turn .loop .costs) _
-    (subst (λ (b : ℕ). Filled sheet b (turn .loop .count) (turn .loop .table) (turn .loop .costs)) (end ∙ d-is sheet) (turn .loop .inv .4))
+    (subst (λ (b : ℕ). Filled sheet b (turn .loop .count) (turn .loop .table) (turn .loop .costs)) (end ∙ degree-byte sheet) (turn .loop .inv .4))
     (c .before .before .mark-ties .ensures) (turn .loop .inv .5) (λ i. c .slice-known9 .given i .fits)
     (c .before .before .mark-ties .ensures .sized ∙ table-kept turn ∙ sym (table-size (start turn)) ∙ start turn .pre .0 .sized)
 

@@ -11,7 +11,8 @@ use Rattle.bits.specs.Sum.{sum}
 use Rattle.bits.proofs.Sums.{sum-one-more}
 use Rattle.inner_code.specs.Code.{combination}
 use Rattle.tables.specs.Numbering.{squeezedBy}
-use Rattle.tables.proofs.Numbers.{squeezed-one-more, digits-product, free-few}
+use Rattle.tables.proofs.Numbers.{squeezed-one-more, free-few}
+use Rattle.bits.proofs.Xor.{digits-product}
 use Rattle.tables.proofs.numbering.squeeze.Statement.{statement}
 use Rattle.tables.proofs.numbering.squeeze.Tie as tie
 use Rattle.tables.proofs.numbering.squeeze.Reads as reads

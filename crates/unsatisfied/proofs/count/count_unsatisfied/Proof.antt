@@ -1,15 +1,17 @@
 -- `unsatisfied::count_unsatisfied` meets its contract: each return is the outcome of the first of plan and block that refuses, and by an
 -- accepted plan's bases the vertices that fail the test are those that read no inner codeword.
 use mathlib.Core.Path.{sym, ap, _∙_}
-use Prim.Native.Nat.{_≤_}
+use Prim.Native.Nat.{ℕ, _≤_, _<_}
 use native.Mathlib.Omega.{arith}
 use borrow.Author.Needs.{needs}
 use denote.Ref.{now}
+use Rattle.wiring.specs.Access.{Readable}
 use Rattle.wiring.specs.Checking.{checkReply, codeIn}
 use Rattle.wiring.specs.Plan.{Plan, planOf, left, right}
 use Rattle.wiring.specs.declared.side.SideName.{SideName}
 use Rattle.wiring.proofs.Permutation.{side-fits, fitted-edges}
 use Rattle.wiring.proofs.Plans.{PlanAccepted, plan-accepted, plan-refused, accepted-edges}
+use Rattle.wiring.proofs.VertexAccess.{plan-readable, block-room}
 use Rattle.unsatisfied.proofs.Answers.{count-plan-refused, count-block-refused, count-told}
 use Rattle.unsatisfied.proofs.count.count_unsatisfied.Statement.{statement}
 use Rattle.unsatisfied.proofs.count.count_unsatisfied.Tie as tie
@@ -49,11 +51,23 @@ enum-known-r c = search needs
 enum-told-2 : tie.Need-enum-told-2
 enum-told-2 c = search needs
 
+-- every vertex of a side can be read
+readable : (c : tie.After-enum-told2) (name : SideName) (v : ℕ)
+    → let block = c .before .before in
+    let told = block .before .before in
+    v < codeIn (checked told .check-plan .result) name .n
+    → Readable name (now (start told .args .wiring)) (codeIn (checked told .check-plan .result) name .d) (now (start told .args .block)) v
+readable c name v below =
+    let block = c .before .before in
+    let p = plan (block .before .before) in
+    let pass = sym (block .check-block .ensures) ∙ ap checkReply (c .enum-told2 .given .1) in
+    rw (p .code-is name) (plan-readable _ (p .plan-done) _ (rw (accepted-edges p) at (block-room _ _ pass)) name v (rw (p .code-is name) at below))
+
 missed-on-requires : tie.Need-missed-on-requires
-missed-on-requires c κs = search needs
+missed-on-requires c κs = readable c left
 
 missed-on-requires-2 : tie.Need-missed-on-requires-2
-missed-on-requires-2 c κs = search needs
+missed-on-requires-2 c κs = readable (c .before) right
 
 -- a side of an accepted plan has few vertices
 few : (c : tie.After-enum-told) (name : SideName) → codeIn (checked c .check-plan .result) name .n ≤ 2048

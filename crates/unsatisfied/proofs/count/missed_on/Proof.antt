@@ -18,7 +18,9 @@ loop-holds : tie.Need-loop-holds Inv-loop μ-loop
 loop-holds c = (omega arith, omega arith, up-to-none _ _ _ _)
 
 missed-at-requires : tie.Need-missed-at-requires Inv-loop μ-loop
-missed-at-requires c κs = search needs
+missed-at-requires c κs =
+    let loop = c .before .before in
+    loop .before .before .before .pre (loop .loop .v) (omega arith)
 
 add-count : tie.Need-add-count Inv-loop μ-loop
 add-count c = search needs

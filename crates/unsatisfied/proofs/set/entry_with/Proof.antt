@@ -20,20 +20,13 @@ abbrev μ-loop : tie.MeasureT-loop
 loop-holds : tie.Need-loop-holds Inv-loop μ-loop
 loop-holds c = (omega arith, λ j l. absurd (omega arith))
 
-mul-pair : tie.Need-mul-pair Inv-loop μ-loop
-mul-pair c = search needs
-
-pair-requires : tie.Need-pair-requires Inv-loop μ-loop
-pair-requires c κs = search needs
-
-cast-if1 : tie.Need-cast-if1 Inv-loop μ-loop
-cast-if1 c = search needs
+edge-at-requires : tie.Need-edge-at-requires Inv-loop μ-loop
+edge-at-requires c κs = search needs
 
 returns : tie.Need-returns Inv-loop μ-loop
-unfolding edgeOf
 returns c =
     let read = c .before in
-    entry-found _ _ _ (read .before .before .loop .inv .1) (omega arith) (sym (read .pair .ensures) ∙ c .if1 .taken)
+    entry-found _ _ _ (read .before .before .loop .inv .1) (omega arith) (sym (read .edge-at .ensures) ∙ c .if1 .taken)
 
 add-i : tie.Need-add-i Inv-loop μ-loop
 add-i c = search needs
@@ -42,10 +35,9 @@ loop-less : tie.Need-loop-less Inv-loop μ-loop
 loop-less c = search needs
 
 loop-again : tie.Need-loop-again Inv-loop μ-loop
-unfolding edgeOf
 loop-again c =
     let read = c .before in
-    (search needs, below-more _ _ (read .before .before .loop .inv .1) (λ e. c .if1 .left (read .pair .ensures ∙ e)))
+    (search needs, below-more _ _ (read .before .before .loop .inv .1) (λ e. c .if1 .left (read .edge-at .ensures ∙ e)))
 
 returns-2 : tie.Need-returns-2 Inv-loop μ-loop
 returns-2 c =
@@ -59,9 +51,7 @@ entry-with-spec =
     Inv-loop
     μ-loop
     loop-holds
-    mul-pair
-    pair-requires
-    cast-if1
+    edge-at-requires
     returns
     add-i
     loop-less

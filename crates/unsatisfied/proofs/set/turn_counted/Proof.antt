@@ -1,6 +1,9 @@
 -- `unsatisfied::turn_counted` meets its contract: all but the two vertices that read the bit read the same word before and after.
+use mathlib.Core.Path.{refl, ap, _∙_}
 use borrow.Author.Needs.{needs}
-use Rattle.unsatisfied.proofs.BitChange.{degree-left, degree-right, change-turned}
+use lib.ListN.{length}
+use Rattle.bits.proofs.Turning.{length-turned}
+use Rattle.unsatisfied.proofs.BitChange.{degree-left, degree-right, left-readable, right-readable, change-turned}
 use Rattle.unsatisfied.proofs.set.turn_counted.Statement.{statement}
 use Rattle.unsatisfied.proofs.set.turn_counted.Tie as tie
 
@@ -14,19 +17,26 @@ div-v : tie.Need-div-v
 div-v c = degree-right (c .before .before .before .before .before .before .before .pre)
 
 missed-at-requires : tie.Need-missed-at-requires
-missed-at-requires c κs = search needs
+missed-at-requires c κs = left-readable (c .before .before .before .before .before .before .before .before .pre) _ refl
 
 missed-at-requires-2 : tie.Need-missed-at-requires-2
-missed-at-requires-2 c κs = search needs
+missed-at-requires-2 c κs =
+    let entry = c .before .before .before .before in
+    right-readable (entry .before .before .before .before .before .before .pre) (entry .entry-with .ensures) _ refl
 
 turn-bit-requires : tie.Need-turn-bit-requires
 turn-bit-requires c κs = search needs
 
 missed-at-requires-3 : tie.Need-missed-at-requires-3
-missed-at-requires-3 c κs = search needs
+missed-at-requires-3 c κs =
+    let turns = c .before .before .before in
+    left-readable (turns .before .before .before .before .before .before .before .before .before .before .before .before .before .pre) _ (ap length (turns .turn-bit .ensures) ∙ length-turned _ _ _)
 
 missed-at-requires-4 : tie.Need-missed-at-requires-4
-missed-at-requires-4 c κs = search needs
+missed-at-requires-4 c κs =
+    let turns = c .before .before .before .before .before in
+    let entry = turns .before .before .before .before .before .before .before in
+    right-readable (entry .before .before .before .before .before .before .pre) (entry .entry-with .ensures) _ (ap length (turns .turn-bit .ensures) ∙ length-turned _ _ _)
 
 add-result : tie.Need-add-result
 add-result c = search needs

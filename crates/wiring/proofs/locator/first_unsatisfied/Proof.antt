@@ -1,7 +1,7 @@
 -- `wiring::first_unsatisfied` meets its contract: within a side all vertices before v pass the test, and on the right side all of the left did.
 use mathlib.Core.Path.{_≡_, sym, ap, ap₂, _∙_}
 use mathlib.Core.List.{List}
-use Prim.Native.Nat.{ℕ, _-_, _≤_}
+use Prim.Native.Nat.{ℕ, _-_, _≤_, _<_}
 use native.Mathlib.Omega.{arith}
 use borrow.Author.Needs.{needs}
 use Rattle.inner_code.specs.Reply.{done}
@@ -55,17 +55,23 @@ code-of-requires c κs = search needs
 loop-holds : tie.Need-loop-holds Inv-loop μ-loop Inv-search μ-search
 loop-holds c = (search needs, by-none _ _ _ _)
 
-read-word-requires : tie.Need-read-word-requires Inv-loop μ-loop Inv-search μ-search
-read-word-requires c κs = search needs
-
-residue-requires : tie.Need-residue-requires Inv-loop μ-loop Inv-search μ-search
-residue-requires c κs = search needs
-
 abbrev start : tie.At-loop Inv-loop μ-loop Inv-search μ-search → tie.Start Inv-loop μ-loop Inv-search μ-search
 start c = c .before .before .before .before .before .before
 
 abbrev codesIn : tie.Start Inv-loop μ-loop Inv-search μ-search → SideName → SideCode
 codesIn c = bothCodes (c .args .left) (c .args .right)
+
+read-word-requires : tie.Need-read-word-requires Inv-loop μ-loop Inv-search μ-search
+read-word-requires c κs =
+    let loop = c .before in
+    let told = loop .before .before in
+    let side = told .before .search .side in
+    let held = told .code-of .ensures in
+    let below : loop .loop .v < codesIn (start loop) side .n = omega (arith, ap (λ (x : SideCode). x .n) held) in
+    rw held (start loop .pre .each side (loop .loop .v) below)
+
+residue-requires : tie.Need-residue-requires Inv-loop μ-loop Inv-search μ-search
+residue-requires c κs = search needs
 
 abbrev turn : tie.After-residue Inv-loop μ-loop Inv-search μ-search → tie.At-loop Inv-loop μ-loop Inv-search μ-search
 turn c = c .before .before .before .before

@@ -5,10 +5,11 @@ use native.Mathlib.Omega.{arith}
 use borrow.Author.Needs.{needs}
 use denote.Ref.{now}
 use Rattle.wiring.specs.Checking.{checkReply}
-use Rattle.wiring.specs.Plan.{Plan, planOf}
+use Rattle.wiring.specs.Plan.{Plan, planOf, left, right}
 use Rattle.wiring.proofs.Permutation.{fitted-edges}
 use Rattle.wiring.proofs.Plans.{PlanAccepted, plan-accepted, plan-refused, accepted-edges}
 use Rattle.wiring.proofs.Locating.{answer-plan-refused, answer-block-refused, answer-located}
+use Rattle.wiring.proofs.VertexAccess.{codes-readable, block-room}
 use Rattle.wiring.proofs.locator.locate.Statement.{statement}
 use Rattle.wiring.proofs.locator.locate.Tie as tie
 
@@ -48,7 +49,11 @@ enum-told-2 : tie.Need-enum-told-2
 enum-told-2 c = search needs
 
 first-unsatisfied-requires : tie.Need-first-unsatisfied-requires
-first-unsatisfied-requires c κs = search needs
+first-unsatisfied-requires c κs =
+    let block = c .before .before in
+    let p = plan (block .before .before) in
+    let pass = sym (block .check-block .ensures) ∙ ap checkReply (c .enum-told2 .given .1) in
+    codes-readable _ (p .plan-done) _ (rw (accepted-edges p) at (block-room _ _ pass)) (p .code-is left) (p .code-is right)
 
 returns : tie.Need-returns
 returns c =

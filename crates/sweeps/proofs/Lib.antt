@@ -1,0 +1,3 @@
+pub mod Sweeping
+pub mod Visiting
+pub mod Rounds

@@ -1,0 +1,4 @@
+pub mod Patterns
+pub mod RightWords
+pub mod Marks
+pub mod Putting
