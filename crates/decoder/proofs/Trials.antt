@@ -40,7 +40,7 @@ use Rattle.wiring.proofs.Blocks.{block-sized, block-clear, block-back}
 use Rattle.wiring.proofs.CodewordBlocks.{located-some}
 use Rattle.wiring.proofs.Locating.{located-by}
 use Rattle.wiring.proofs.Permutation.{fitted-edges}
-use Rattle.wiring.proofs.Plans.{plan-sound, plan-back}
+use Rattle.wiring.proofs.Plans.{plan-sound, plan-back, plan-entries}
 use Rattle.spans.specs.Spans.{flipsOutside, filled}
 use Rattle.spans.specs.Walking.{flipsAround}
 use Rattle.spans.proofs.Filling.{filled-none, length-filled}
@@ -81,10 +81,6 @@ check-means plan received lost output H {values} e =
     }
 
 module _ {plan : Plan} {received lost output : List ℕ} {H : ℕ} (p : Passed plan received lost output H) where
-  -- the number of edges as the code has it
-  passed-edges : length (plan .wiring) / 2 ≡ edgeCount plan
-  passed-edges = let w = plan-sound plan (p .plan-done) .1 in omega (arith, w .left-fits .sized)
-
   -- the largest block is one of 4,096 bytes
   pub passed-fits : length received ≤ 4096
   unfolding blockBytes
@@ -228,7 +224,7 @@ module _ (plan : Plan) (received lost output : List ℕ) (H : ℕ) (checked : de
       → changed ≡ changedFrom plan received lost H b
   changed-from b t l same e =
       let passed = check-means plan received lost output H checked in
-      e ∙ ap₂ (λ (N : ℕ) (block : List ℕ). flipsAround N lost received block) (passed-edges passed) same
+      e ∙ ap₂ (λ (N : ℕ) (block : List ℕ). flipsAround N lost received block) (plan-entries plan (passed .plan-done)) same
       ∙ flips-around (edgeCount plan) lost received _ (passed .listed)
       ∙ ap (flipsOutside (edgeCount plan) lost received)
       (t .leaves l ∙ ap (λ (i : ℕ). sweptBlock plan i (filled b lost received)) (sym (t .counted)))

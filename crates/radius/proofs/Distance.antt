@@ -17,6 +17,7 @@ use native.Mathlib.Decide.{decLe, ℕ-discrete}
 use native.Mathlib.Omega.{arith}
 use lib.Bits.{bitXor, xor-self, xor-comm}
 use lib.ListN.{length, getD}
+use Rattle.wiring.proofs.Blocks.{block-room}
 use Rattle.bits.specs.Bit.{bitAt, withBit, flips}
 use Rattle.bits.proofs.Sums.{sum-add, sum-ext, sum-none, sum-none-each}
 use Rattle.bits.proofs.Xor.{xor-zero-eq}
@@ -25,7 +26,7 @@ use Rattle.bits.proofs.Flips.{flips-none, flips-one}
 use Rattle.inner_code.specs.Reply.{done}
 use Rattle.wiring.specs.Plan.{Plan, edgeCount}
 use Rattle.wiring.specs.Block.{Block, Codeword}
-use Rattle.wiring.proofs.Blocks.{bytes-hold, block-sized, block-clear, block-back, block-ext}
+use Rattle.wiring.proofs.Blocks.{block-sized, block-clear, block-back, block-ext}
 use Rattle.radius.specs.Answer.{marginAnswer}
 use Rattle.radius.proofs.Guarantee.{demand3-alone}
 
@@ -86,7 +87,7 @@ module _ (plan : Plan) (a b : List ℕ) (F q : ℕ) (code-a : Codeword plan a) (
   N = edgeCount plan
 
   fits : N ≤ length a * 8
-  fits = omega (arith, bytes-hold N, block-sized N a (code-a .block-of .checked))
+  fits = block-room N a (code-a .block-of .checked)
 
   mixed-block : (t : ℕ) → t ≤ N → Block N (mixed a b t)
   mixed-block t l =

@@ -22,11 +22,11 @@ use native.Mathlib.Nat.{le-trans}
 use native.Mathlib.Decide.{decLe}
 use native.Mathlib.Omega.{arith}
 use lib.ListN.{length, getD}
+use Rattle.wiring.proofs.Blocks.{block-room}
 use Rattle.bits.specs.Bit.{written, flips}
 use Rattle.inner_code.specs.Reply.{done}
 use Rattle.wiring.specs.Plan.{Plan, edgeCount, sideOf}
 use Rattle.wiring.specs.Block.{Block, Codeword}
-use Rattle.wiring.proofs.Blocks.{bytes-hold, block-sized}
 use Rattle.wiring.proofs.Plans.{plan-sound, plan-joined}
 use Rattle.spans.specs.Spans.{spansCheck, lostBits, flipsOutside, filled}
 use Rattle.spans.proofs.Filling.{filled-bytes}
@@ -143,7 +143,7 @@ module _ (plan : Plan) (sent received lost output : List ℕ) (F q H : ℕ) (cod
     -- the two trials begin with 2e + f flips together, so one of them begins with at most F
     kept-restored : Mended plan sent received lost output H
     kept-restored =
-        let fits : N ≤ length received * 8 = omega (arith, bytes-hold N, block-sized N received (block .checked)) in
+        let fits : N ≤ length received * 8 = block-room N received (block .checked) in
         let together = outside-sum N lost sent received fits in
         elim (decLe (flips N sent (trialOf 0)) F) [
           | yes near ↦ let (in-time, home) = trial-home 0 (omega arith) near in kept-zeros in-time home

@@ -6,13 +6,13 @@ use Prim.Native.Nat.{ℕ, _*_, _≤_}
 use mathlib.Core.List.{List, [], _∷_}
 use mathlib.Core.Path.{_≡_, sym, ap, _∙_}
 use lib.ListN.{length}
+use Rattle.wiring.proofs.Blocks.{block-room}
 use Rattle.inner_code.specs.Reply.{Reply, done, refused}
 use Rattle.inner_code.proofs.Replies.{andThen-passed, andThen-refused, andThen-done, ifDone-done, ifDone-refused}
 use Rattle.wiring.specs.Plan.{Plan, edgeCount, sideOf}
 use Rattle.wiring.specs.Wiring.{planCheck}
 use Rattle.wiring.specs.Block.{blockCheck}
 use Rattle.wiring.specs.declared.side.SideName.{SideName}
-use Rattle.wiring.proofs.Blocks.{bytes-hold, block-sized}
 use Rattle.wiring.proofs.Plans.{plan-done}
 use Rattle.unsatisfied.specs.Count.{countChange}
 use Rattle.sweeps.specs.Sweep.{sweep}
@@ -37,7 +37,7 @@ module _ (plan : Plan) (block : List ℕ) where
     unfolding onceCheck
     check-room =
         let (first, rest) = andThen-done (planCheck plan) _ [] pass in
-        rw (block-sized (edgeCount plan) block rest) (bytes-hold (edgeCount plan))
+        block-room (edgeCount plan) block rest
 
   -- what a call answers and leaves
   abbrev pub Once : SideName → Reply → List ℕ → Type 0

@@ -28,6 +28,7 @@ use lib.Count.{ones}
 use lib.Dec.{eqb}
 use lib.ListN.{length, getD}
 use borrow.Author.Tests.{eq-eqb}
+use Rattle.wiring.proofs.Blocks.{block-room}
 use Rattle.bits.specs.Bit.{bitAt, flips}
 use Rattle.bits.proofs.Sums.{sum-ext}
 use Rattle.bits.proofs.Searches.{first-all}
@@ -39,7 +40,7 @@ use Rattle.wiring.specs.Plan.{Plan, Side, sheetOf, sideOf, other}
 use Rattle.wiring.specs.Block.{vertexWord, withWord, satisfied, firstUnsatisfied, isCodewordBlock, blockCheck}
 use Rattle.wiring.specs.declared.side.SideName.{SideName}
 use Rattle.wiring.proofs.Permutation.{Whole}
-use Rattle.wiring.proofs.Blocks.{bytes-hold, block-sized, block-clear, block-back}
+use Rattle.wiring.proofs.Blocks.{block-sized, block-clear, block-back}
 use Rattle.wiring.proofs.VertexWords.{vertex-lt, length-scattered, scattered-bytes, scattered-other, withWord-same, withWord-fixed, withWord-other}
 use Rattle.wiring.proofs.VertexWords.{flips-words}
 use Rattle.wiring.proofs.CodewordBlocks.{codeword-block-each}
@@ -152,7 +153,7 @@ module _ {N : ℕ} {side : Side} (whole : Whole N side) (block : List ℕ) (pass
   sweep-word mends = visited-word (nearestOf side) side whole (mends .map-lt) (side .n) block room (le-refl (side .n))
     where
       room : N ≤ length block * 8
-      room = rw (block-sized N block pass) (bytes-hold N)
+      room = block-room N block pass
 
   pub sweep-block : blockCheck N (sweep side block) ≡ done []
   unfolding sweep

@@ -30,8 +30,9 @@ use Rattle.wiring.specs.Checking.{codeOf}
 use Rattle.wiring.specs.declared.side.SideCode.{SideCode}
 use Rattle.wiring.specs.declared.side.SideName.{SideName}
 use Rattle.wiring.proofs.Permutation.{Whole, placeOf, place-lt, bit-place}
-use Rattle.wiring.proofs.Plans.{plan-sound, plan-joined}
-use Rattle.wiring.proofs.VertexAccess.{plan-readable, block-room}
+use Rattle.wiring.proofs.Plans.{plan-joined, plan-entries}
+use Rattle.wiring.proofs.VertexAccess.{plan-readable}
+use Rattle.wiring.proofs.Blocks.{block-room}
 use Rattle.unsatisfied.specs.Count.{unsatisfiedAt, unsatisfiedCount, countChange}
 use Rattle.unsatisfied.specs.Answer.{CheckedBit, entryWith, missedBy}
 use Rattle.unsatisfied.proofs.Counting.{missed, at-turned, change-is}
@@ -57,8 +58,7 @@ module _ (plan : Plan) (accepted : planCheck plan ≡ done []) (e : ℕ) (below 
   entry-place : entryWith (plan .wiring) e ≡ placeOf (edgeCount plan) (sideOf plan right) e
   unfolding entryWith placeOf sideBit
   entry-place =
-      let entries : length (plan .wiring) / 2 ≡ edgeCount plan = omega (arith, plan-sound plan accepted .1 .left-fits .sized) in
-      ap (λ (n : ℕ). firstFailing n (λ i. not (eqb (edgeOf (plan .wiring) i) e))) entries
+      ap (λ (n : ℕ). firstFailing n (λ i. not (eqb (edgeOf (plan .wiring) i) e))) (plan-entries plan accepted)
 
   entry-lt : entryWith (plan .wiring) e < edgeCount plan
   entry-lt = rw entry-place (place-lt (plan-joined plan accepted .whole right) e below)

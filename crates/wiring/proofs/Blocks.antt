@@ -137,6 +137,10 @@ module _ (N : ℕ) (block : List ℕ) where
   pub block-sized : {values : List ℕ} → blockCheck N block ≡ done values → length block ≡ blockBytes N
   block-sized = bits-sized 11 12 N block
 
+  -- it has room for every bit
+  pub block-room : {values : List ℕ} → blockCheck N block ≡ done values → N ≤ length block * 8
+  block-room pass = rw (block-sized pass) (bytes-hold N)
+
   pub block-clear : {values : List ℕ} → blockCheck N block ≡ done values → (i : ℕ) → N ≤ i → bitAt block i ≡ 0
   block-clear = bits-clear 11 12 N block
 

@@ -21,12 +21,11 @@ use Rattle.inner_code.specs.Reply.{done}
 use Rattle.inner_code.specs.Sheet.{degree}
 use Rattle.wiring.specs.Plan.{Plan, edgeOf, edgeCount, sheetOf, countOf, left, right, sideBit, sideBy}
 use Rattle.wiring.specs.Wiring.{planCheck}
-use Rattle.wiring.specs.Block.{vertexWord, blockCheck}
+use Rattle.wiring.specs.Block.{vertexWord}
 use Rattle.wiring.specs.Access.{wordFrom, readWord, bothCodes, Readable, AllReadable}
 use Rattle.wiring.specs.Checking.{codeOf}
 use Rattle.wiring.specs.declared.side.SideCode.{SideCode}
 use Rattle.wiring.specs.declared.side.SideName.{SideName}
-use Rattle.wiring.proofs.Blocks.{bytes-hold, block-sized}
 use Rattle.wiring.proofs.Permutation.{fitted-vertex, entry-lt}
 use Rattle.wiring.proofs.Plans.{plan-fits, plan-whole}
 
@@ -92,7 +91,3 @@ module _ (plan : Plan) (accepted : planCheck plan ≡ done []) (block : List ℕ
       each : (name : SideName) (v : ℕ) → v < bothCodes l r name .n → Readable name (plan .wiring) (bothCodes l r name .d) block v
       each SideName.Left v below = rw left-is (plan-readable left v (rw left-is at below))
       each SideName.Right v below = rw right-is (plan-readable right v (rw right-is at below))
-
--- a checked block has room for every bit
-pub block-room : (N : ℕ) (block : List ℕ) {values : List ℕ} → blockCheck N block ≡ done values → N ≤ length block * 8
-block-room N block pass = rw (block-sized N block pass) (bytes-hold N)

@@ -1,5 +1,6 @@
 // The two ends of every edge: its left vertex and its right vertex.
 use crate::access::edge_at;
+ghost use Rattle.bits.specs.Window.{KeptFrom};
 ghost use Rattle.wiring.specs.Plan.{edgeOf};
 ghost use Rattle.wiring.specs.Ends.{Notable, Noted};
 
@@ -15,6 +16,8 @@ pub fn note_ends(
 )
     requires { ⌜ Notable edges dl dr (now wiring) (now lefts) (now rights) ⌝ }
     ensures { λ _. ⌜ Noted (edgeOf (now (wiring .entry))) dl dr edges (now (lefts .exit)) (now (rights .exit)) ⌝ }
+    ensures { λ _. ⌜ KeptFrom edges (now (lefts .entry)) (now (lefts .exit)) ⌝ }
+    ensures { λ _. ⌜ KeptFrom edges (now (rights .entry)) (now (rights .exit)) ⌝ }
 {
     let mut i = 0;
     while i < edges {

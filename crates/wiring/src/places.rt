@@ -2,6 +2,7 @@
 use crate::access::edge_at;
 ghost use Prim.Native.Nat.{_/_, _≤_};
 ghost use lib.ListN.{length};
+ghost use Rattle.bits.specs.Window.{KeptFrom};
 ghost use Rattle.wiring.specs.Checking.{Permuted};
 ghost use Rattle.wiring.specs.Places.{PlacesNoted};
 
@@ -11,6 +12,7 @@ pub fn note_places(wiring: &[u8], places: &mut [u16])
     requires { ⌜ length (now wiring) / 2 ≤ 32768 ⌝ }
     requires { ⌜ length (now wiring) / 2 ≤ length (now places) ⌝ }
     ensures { λ _. ⌜ PlacesNoted (now (wiring .entry)) (now (places .exit)) ⌝ }
+    ensures { λ _. ⌜ KeptFrom (length (now (wiring .entry)) / 2) (now (places .entry)) (now (places .exit)) ⌝ }
 {
     let edges = wiring.len() / 2;
     let mut i = 0;

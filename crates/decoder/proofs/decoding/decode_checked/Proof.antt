@@ -8,7 +8,8 @@ use denote.Ref.{now}
 use Rattle.inner_code.specs.Reply.{done}
 use Rattle.wiring.specs.Plan.{Plan, planOf, left, right}
 use Rattle.wiring.specs.Wiring.{planCheck}
-use Rattle.wiring.proofs.VertexAccess.{codes-readable, block-room}
+use Rattle.wiring.proofs.VertexAccess.{codes-readable}
+use Rattle.wiring.proofs.Blocks.{block-room}
 use Rattle.sweeps.proofs.Visiting.{side-preparable}
 use Rattle.decoder.proofs.Trials.{check-means, none-lost, check-none, answers-none, copy-codeword}
 use Rattle.decoder.proofs.decoding.decode_checked.Statement.{statement}

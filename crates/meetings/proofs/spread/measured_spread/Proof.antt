@@ -72,7 +72,7 @@ noted : (c : tie.After-note-ends)
     Noted (edgeOf (plan .wiring)) (degree (plan .leftSheet)) (degree (plan .rightSheet)) (edgeCount plan)
     (c .note-ends .last .1 .1 .1 .1 .0) (c .note-ends .last .1 .1 .1 .1 .1 .0)
 unfolding degree
-noted c = c .note-ends .ensures
+noted c = c .note-ends .ensures .0
 
 abbrev ends : tie.After-rights3 → tie.After-note-ends
 ends c = c .before .before .before .before

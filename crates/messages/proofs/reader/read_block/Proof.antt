@@ -13,7 +13,8 @@ use Rattle.wiring.specs.Checking.{checkReply}
 use Rattle.wiring.specs.Answer.{locateReply}
 use Rattle.wiring.proofs.Permutation.{fitted-edges}
 use Rattle.wiring.proofs.Plans.{PlanAccepted, plan-accepted, plan-refused, accepted-edges}
-use Rattle.wiring.proofs.VertexAccess.{codes-readable, block-room}
+use Rattle.wiring.proofs.VertexAccess.{codes-readable}
+use Rattle.wiring.proofs.Blocks.{block-room}
 use Rattle.messages.specs.Columns.{noColumns}
 use Rattle.messages.proofs.Answers.{read-plan, read-long, read-block, read-stranger}
 use Rattle.messages.proofs.Solving.{plan-wired-by, plan-stored}

@@ -58,7 +58,7 @@ sweep-told-requires c κs =
           first .pre .1 .1,
           (
             prepares .prepare-finder .ensures,
-            across-left (planIn first) (accepted first) (notes .note-places .ensures),
+            across-left (planIn first) (accepted first) (notes .note-places .ensures .0),
           ),
         ),
       ),

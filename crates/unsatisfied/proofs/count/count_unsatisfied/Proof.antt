@@ -11,7 +11,8 @@ use Rattle.wiring.specs.Plan.{Plan, planOf, left, right}
 use Rattle.wiring.specs.declared.side.SideName.{SideName}
 use Rattle.wiring.proofs.Permutation.{side-fits, fitted-edges}
 use Rattle.wiring.proofs.Plans.{PlanAccepted, plan-accepted, plan-refused, accepted-edges}
-use Rattle.wiring.proofs.VertexAccess.{plan-readable, block-room}
+use Rattle.wiring.proofs.VertexAccess.{plan-readable}
+use Rattle.wiring.proofs.Blocks.{block-room}
 use Rattle.unsatisfied.proofs.Answers.{count-plan-refused, count-block-refused, count-told}
 use Rattle.unsatisfied.proofs.count.count_unsatisfied.Statement.{statement}
 use Rattle.unsatisfied.proofs.count.count_unsatisfied.Tie as tie

@@ -6,6 +6,8 @@ use borrow.Author.Needs.{needs}
 use native.Mathlib.Nat.{div-le-self}
 use native.Mathlib.Omega.{arith}
 use lib.ListN.{length, length-set}
+use Rattle.bits.specs.Window.{KeptFrom}
+use Rattle.bits.proofs.Lists.{kept-start, kept-set}
 use Rattle.wiring.specs.Plan.{edgeOf}
 use Rattle.wiring.specs.Ends.{Noted}
 use Rattle.wiring.proofs.EdgeEnds.{noted-none, noted-one-more}
@@ -15,12 +17,13 @@ use Rattle.wiring.proofs.ends.note_ends.Tie as tie
 abbrev Inv-loop : tie.InvT-loop
 Inv-loop wiring edges dl dr lefts₀ rights₀ i₀ lefts rights i =
     (i ≤ edges) × (length lefts ≡ length lefts₀) × (length rights ≡ length rights₀) × Noted (edgeOf wiring) dl dr i lefts rights
+    × KeptFrom edges lefts₀ lefts × KeptFrom edges rights₀ rights
 
 abbrev μ-loop : tie.MeasureT-loop
 μ-loop wiring edges dl dr lefts₀ rights₀ i₀ lefts rights i = edges - i
 
 loop-holds : tie.Need-loop-holds Inv-loop μ-loop
-loop-holds c = (search needs, search needs, search needs, noted-none _ _ _ _ _)
+loop-holds c = (search needs, search needs, search needs, noted-none _ _ _ _ _, kept-start _ _, kept-start _ _)
 
 abbrev turn : tie.After-edge-at Inv-loop μ-loop → tie.At-loop Inv-loop μ-loop
 turn c = c .before .before
@@ -73,6 +76,8 @@ loop-again c =
       simp length-set (before .inv .2),
       noted-one-more (start (turn c) .pre .permuted) (omega arith) (omega arith) (before .i) (c .edge-at .result) (omega arith) (c .edge-at .ensures)
           (before .inv .3),
+      kept-set (before .inv .4) (before .i) _ (omega arith),
+      kept-set (before .inv .5) (c .edge-at .result) _ (edge-lt c),
     )
 
 same-length : tie.Need-same-length Inv-loop μ-loop
@@ -84,7 +89,7 @@ same-length-2 c = search needs
 returns : tie.Need-returns Inv-loop μ-loop
 returns c =
     let end : c .before .loop .i ≡ start (c .before) .args .edges = omega arith in
-    rw end at (c .before .loop .inv .3)
+    (rw end at (c .before .loop .inv .3), (c .before .loop .inv .4, c .before .loop .inv .5))
 
 pub note-ends-spec : {M : Type 1} → statement M
 note-ends-spec =

@@ -9,7 +9,8 @@ use Rattle.wiring.specs.Plan.{Plan, planOf, left, right}
 use Rattle.wiring.proofs.Permutation.{fitted-edges}
 use Rattle.wiring.proofs.Plans.{PlanAccepted, plan-accepted, plan-refused, accepted-edges}
 use Rattle.wiring.proofs.Locating.{answer-plan-refused, answer-block-refused, answer-located}
-use Rattle.wiring.proofs.VertexAccess.{codes-readable, block-room}
+use Rattle.wiring.proofs.VertexAccess.{codes-readable}
+use Rattle.wiring.proofs.Blocks.{block-room}
 use Rattle.wiring.proofs.locator.locate.Statement.{statement}
 use Rattle.wiring.proofs.locator.locate.Tie as tie
 

@@ -5,7 +5,8 @@ use native.Mathlib.Omega.{arith}
 use borrow.Author.Needs.{needs}
 use denote.Ref.{now}
 use lib.ListN.{length, length-set}
-use Rattle.bits.specs.Window.{at}
+use Rattle.bits.specs.Window.{at, KeptFrom}
+use Rattle.bits.proofs.Lists.{kept-start, kept-set}
 use Rattle.wiring.specs.Plan.{edgeOf}
 use Rattle.wiring.specs.Checking.{Permuted}
 use Rattle.wiring.proofs.EdgePlaces.{places-more}
@@ -14,7 +15,7 @@ use Rattle.wiring.proofs.places.note_places.Tie as tie
 
 abbrev Inv-loop : tie.InvT-loop
 Inv-loop wiring places₀ edges i₀ places i =
-    (i ≤ edges) × (length places ≡ length places₀) × ((j : ℕ) → j < i → at places (edgeOf wiring j) ≡ j)
+    (i ≤ edges) × (length places ≡ length places₀) × ((j : ℕ) → j < i → at places (edgeOf wiring j) ≡ j) × KeptFrom edges places₀ places
 
 abbrev μ-loop : tie.MeasureT-loop
 μ-loop wiring places₀ edges i₀ places i = edges - i
@@ -27,7 +28,7 @@ abbrev stand : (c : tie.At-loop Inv-loop μ-loop) → Permuted (length (now (sta
 stand c = start c .pre .0
 
 loop-holds : tie.Need-loop-holds Inv-loop μ-loop
-loop-holds c = (search needs, refl, λ j l. absurd (omega arith))
+loop-holds c = (search needs, refl, λ j l. absurd (omega arith), kept-start _ _)
 
 cast-places : tie.Need-cast-places Inv-loop μ-loop
 cast-places c = search needs
@@ -60,6 +61,7 @@ loop-again c =
           (omega (arith, edge-lt c, c .edge-at .ensures, start (c .before .before) .pre .1 .1, turn .inv .1))
           (λ j l e. let same = once j (turn .i) (omega arith) (omega arith) e in omega arith)
           (turn .inv .2) refl,
+      kept-set (turn .inv .3) (c .edge-at .result) (turn .i) (edge-lt c),
     )
 
 same-length : tie.Need-same-length Inv-loop μ-loop
@@ -68,8 +70,10 @@ same-length c = c .before .loop .inv .1
 returns : tie.Need-returns Inv-loop μ-loop
 returns c =
     let first = start (c .before) in
-    let end : c .before .loop .i ≡ length (now (first .args .wiring)) / 2 = omega arith in
-    record { sized = omega (arith, first .pre .1 .1, c .before .loop .inv .1); each = rw end at (c .before .loop .inv .2) }
+    let end : c .before .loop .i ≡ length (now (first .args .wiring)) / 2 = omega arith in (
+      record { sized = omega (arith, first .pre .1 .1, c .before .loop .inv .1); each = rw end at (c .before .loop .inv .2) },
+      c .before .loop .inv .3,
+    )
 
 pub note-places-spec : {M : Type 1} → statement M
 note-places-spec =

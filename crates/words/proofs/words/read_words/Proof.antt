@@ -7,6 +7,7 @@ use native.Mathlib.Omega.{arith}
 use borrow.Author.Needs.{needs}
 use denote.Ref.{now}
 use lib.ListN.{length, length-set}
+use Rattle.wiring.proofs.Blocks.{block-room}
 use Rattle.bits.specs.Window.{at}
 use Rattle.inner_code.specs.Reply.{done}
 use Rattle.inner_code.specs.Sheet.{degree}
@@ -15,7 +16,6 @@ use Rattle.wiring.specs.Block.{vertexWord}
 use Rattle.wiring.specs.Plan.{Plan, planOf, sideOf, sideBit, edgeCount, right}
 use Rattle.wiring.specs.Wiring.{planCheck}
 use Rattle.wiring.specs.declared.side.SideName.{SideName}
-use Rattle.wiring.proofs.Blocks.{bytes-hold, block-sized}
 use Rattle.wiring.proofs.Permutation.{entry-lt, fitted-vertex}
 use Rattle.bits.proofs.Lists.{at-set-other}
 use Rattle.wiring.proofs.Plans.{fitted-sheet, plan-fits, plan-whole, plan-few}
@@ -43,7 +43,7 @@ accepted c = c .pre .0
 
 -- the block holds every bit
 room : (c : tie.Start Inv-loop μ-loop) → edgeCount (planIn c) ≤ length (now (c .args .block)) * 8
-room c = rw (block-sized (edgeCount (planIn c)) (now (c .args .block)) (c .pre .1 .0)) (bytes-hold (edgeCount (planIn c)))
+room c = block-room (edgeCount (planIn c)) (now (c .args .block)) (c .pre .1 .0)
 
 shared-slice-read-d : tie.Need-shared-slice-read-d Inv-loop μ-loop
 shared-slice-read-d c = fitted-sheet _ (plan-fits (planIn (start c)) (accepted (start c)) right)
