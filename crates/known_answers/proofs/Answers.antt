@@ -34,8 +34,9 @@ use Rattle.panel.specs.Answer.{stateCheck, told, loadCheck, loadAnswer, loadOut
 use Rattle.meetings.specs.Spread.{meeting, unevenness, spread}
 use Rattle.radius.specs.Margin.{slack, stepCovered, nextBound, bound, chainEnd, sweepsNamed}
 use Rattle.radius.specs.Answer.{marginAnswer}
-use Rattle.messages.specs.Position.{bitsPut, blockOf, codewordNumber, isPosition, positionsBefore}
-use Rattle.messages.specs.Message.{carries, encodedNumber, encodedBlock}
+use Rattle.messages.specs.Position.{bitsPut, blockOf, codewordNumber, isPosition, positionsBefore, messageBits}
+use Rattle.messages.specs.Message.{carries, encodedNumber, encodedBlock, readBefore, readMessage}
+use Rattle.messages.specs.Answer.{encodeAnswer, encodeOutput, readAnswer, readOutput}
 use Rattle.known_answers.specs.Table.{built, holds, allHold, examples, table, sameList, sameReply, pairs, houseTable}
 
 -- the entries of the classes whose smallest word is below n, where w is a smallest word if the rows leave it as it is
@@ -74,7 +75,7 @@ unfolding
     isLost flipsOutside filledBelow filled keepsOnes decoding decodeCheck decodeAnswer decodeSums numberIfDone decodeVisits written values flips
     decodeOutput meeting unevenness largest spread slack
     stepCovered nextBound bound chainEnd sweepsNamed marginAnswer bitsPut blockOf codewordNumber isPosition positionsBefore carries
-    encodedNumber encodedBlock pairs houseTable smallestOf isSmallest classOf tieMark tableBytes buildAnswer buildOutput patternIn lookUpAnswer
+    messageBits encodedNumber encodedBlock readBefore readMessage encodeAnswer encodeOutput readAnswer readOutput pairs houseTable smallestOf isSmallest classOf tieMark tableBytes buildAnswer buildOutput patternIn lookUpAnswer
     unsatisfiedAt unsatisfiedCount countChange stateBytes countIn sweepsIn blockIn stateOf loadedState movedCount sweptState setTo setState stateCheck told
     loadCheck loadAnswer loadOutput sweepCheck sweepAnswer sweepOutput setCheck setAnswer setOutput
 examples-hold = refl

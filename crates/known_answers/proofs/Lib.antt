@@ -1,4 +1,8 @@
 pub mod Answers
+pub mod CallByCall
+pub mod Calls
 pub mod FirstSum
 pub mod PairPlan
 pub mod PanelRestored
+pub mod Promises
+pub mod Services

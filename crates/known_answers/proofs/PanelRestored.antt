@@ -5,20 +5,17 @@
 --   marginAnswer plan F                  what the margin answers for F flips: the sweeps named for them where F is covered (radius specs Answer)
 --   Covered plan F q                     the plan is accepted, F flips are covered, and q sweeps are named for them (radius proofs Answers)
 --   firstBound m F                       the first b of the margin's chain: 2F/D with the left D, rounded down (radius proofs MarginChain)
---   stoppedBefore15 reply                a row before 15 in the table stops the call (radius specs Demand)
 --   loadedState plan block               the state that loading gives (panel specs State)
 --   SweptHome plan state settled count   each of the first `count` sweep calls makes a sweep, none before the last of them settles the state,
 --                                        and from it on the state stays, with the settled block (panel specs Calls)
 -- and here
 --   zeros plan                           an output of a block's length: where the decoder call writes that the sweep calls are compared with
--- Laws are named by their subject, then by the fact: `first-` about the first b, `named-` about the
--- sweeps that are named, `call-` about that decoder call, whose H is 4,096.
+-- Laws are named by their subject, then by the fact: `first-` about the first b, `named-` about the sweeps that are named.
 -- The theorem is panel-restored. It sets no limit on q: by named-few no plan names more sweeps than the 4,096 that a state counts.
 use Prim.Native.Nat.{ℕ, _*_, _≤_, _<_}
-use mathlib.Core.Bool.{false}
 use mathlib.Core.List.{List, [], _∷_}
 use mathlib.Core.Logic.{inl, inr}
-use mathlib.Core.Path.{_≡_, refl, sym, ap, _∙_}
+use mathlib.Core.Path.{_≡_, sym, ap, _∙_}
 use native.Mathlib.Decide.{decLe}
 use native.Mathlib.Nat.{eq-zero-or-pos, le-refl, mul-le-mul-left, mul-le-mul-right}
 use native.Mathlib.Omega.{arith}
@@ -28,18 +25,14 @@ use Rattle.bits.proofs.Fronts.{written-part}
 use Rattle.inner_code.specs.Reply.{done}
 use Rattle.inner_code.specs.Sheet.{degree}
 use Rattle.wiring.specs.Plan.{Plan, edgeCount, right}
-use Rattle.wiring.specs.Wiring.{planCheck}
 use Rattle.wiring.specs.Block.{blockBytes, Block, Codeword}
 use Rattle.wiring.proofs.Blocks.{block-sized}
 use Rattle.wiring.proofs.Permutation.{wired-even}
 use Rattle.wiring.proofs.Plans.{plan-sound}
 use Rattle.spans.proofs.Checking.{spans-none}
-use Rattle.decoder.specs.Decode.{settlesAt}
-use Rattle.decoder.specs.Answer.{decodeCheck, decodeAnswer, decodeOutput}
-use Rattle.decoder.proofs.Settling.{check-passed, decode-settled, decode-unsettled}
+use Rattle.decoder.specs.Answer.{decodeOutput}
 use Rattle.radius.specs.Margin.{Measures, slack}
 use Rattle.radius.specs.Answer.{measuresOf, marginAnswer}
-use Rattle.radius.specs.Demand.{stoppedBefore15}
 use Rattle.radius.proofs.Answers.{Covered, margin-means}
 use Rattle.radius.proofs.MarginChain.{firstBound, covered-slack, chain-next, named-is, named-le}
 use Rattle.radius.proofs.PlanRanges.{distance-most}
@@ -47,6 +40,7 @@ use Rattle.radius.proofs.Guarantee.{demand3}
 use Rattle.panel.specs.State.{loadedState}
 use Rattle.panel.specs.Calls.{SweptHome}
 use Rattle.panel.proofs.Stepping.{steps-settle}
+use Rattle.known_answers.proofs.Calls.{call-free}
 
 -- ---- the sweeps that are named are few
 
@@ -82,24 +76,10 @@ named-few plan F q margin =
     let covered = margin-means plan F q margin in
     omega (arith, covered .named, named-le (measuresOf plan) F, first-few plan F q covered)
 
--- ---- the decoder call that the sweep calls are compared with
+-- the decoder call that the sweep calls are compared with writes into as many bytes as a block has
 
 abbrev zeros : Plan → List ℕ
 zeros plan = replicate (blockBytes (edgeCount plan)) 0
-
-module _ (plan : Plan) (received : List ℕ) (accepted : planCheck plan ≡ done []) (block : Block (edgeCount plan) received) where
-  call-passed : decodeCheck plan received [] (zeros plan) 4096 ≡ done []
-  call-passed =
-      check-passed plan received [] (zeros plan) 4096 accepted (block .checked) (spans-none (edgeCount plan)) (rw length-replicate (le-refl _))
-      (le-refl 4096)
-
-  call-free : stoppedBefore15 (decodeAnswer plan received [] (zeros plan) 4096) ≡ false
-  unfolding stoppedBefore15
-  call-free =
-      elim (decLe (settlesAt plan received 4096) 4096) [
-        | yes in-time ↦ ap stoppedBefore15 (decode-settled plan received (zeros plan) 4096 call-passed _ refl in-time .answer)
-        | no late ↦ ap stoppedBefore15 (decode-unsettled plan received (zeros plan) 4096 call-passed (omega arith) .answer)
-      ]
 
 -- ---- demand 3 for a panel
 
@@ -112,7 +92,9 @@ pub panel-restored : (plan : Plan) (sent received : List ℕ) (F q : ℕ)
 panel-restored plan sent received F q code block few margin =
     let size : ℕ = blockBytes (edgeCount plan) in
     let enough : q ≤ 4096 = omega (arith, named-few plan F q margin) in
-    let free = call-free plan received (margin-means plan F q margin .accepted) block in
+    let accepted = margin-means plan F q margin .accepted in
+    let room : size ≤ length (zeros plan) = rw length-replicate (le-refl _) in
+    let free = call-free plan received [] (zeros plan) 4096 accepted block (spans-none (edgeCount plan)) room (le-refl 4096) in
     let call = demand3 plan sent received (zeros plan) F q 4096 code (block .bytes) few margin enough free in
     let sized : size ≡ length sent = sym (block-sized (edgeCount plan) sent (code .block-of .checked)) in
     let home : take size (decodeOutput plan received [] (zeros plan) 4096) ≡ sent =
