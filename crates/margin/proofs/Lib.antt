@@ -1,2 +1,3 @@
 pub mod MarginInputs
 pub mod Outputs
+pub mod LongInputs

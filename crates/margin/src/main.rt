@@ -13,6 +13,7 @@ use radius::Numbers;
 use radius::PlanNumbers;
 use wiring::MAX_VERTICES;
 ghost use mathlib.Core.Path.{_≡_};
+ghost use lib.ListN.{length};
 ghost use Prim.Native.Nat.{_<_};
 ghost use Rattle.inner_code.specs.Reply.{done, refused};
 ghost use Rattle.radius.specs.Margin.{beyond};
@@ -22,13 +23,20 @@ ghost use Rattle.margin.specs.Output.{planPart};
 // The largest accepted input, of 65,588 bytes: for each side d and k, 11 rows of two bytes and n, and 2,048 · 16 entries of two bytes.
 const LARGEST_INPUT: usize = 2 * (2 + 2 * MAX_ROWS + 2) + 2 * MAX_VERTICES * MAX_DEGREE;
 
-// What is read must be able to exceed it: an input that is longer is refused by its first 65,589 bytes, at the latest because its wiring
-// is too long, so no byte behind them matters.
+// What is read must be able to exceed it. No byte behind the first 65,589 matters (proofs/LongInputs): they have the answer of the whole
+// input (`read-answer`), and where it is accepted they are all of it (`read-accepted`).
 const SPACE: usize = LARGEST_INPUT + 1;
 
 fn main() {
     let mut space = [0u8; SPACE];
-    let got = io::read_full(STDIN_FILENO, &mut space);
+    read_margins(&mut space);
+}
+
+// Reads an input, or its first bytes, into the space, and writes its margin sheet.
+fn read_margins(space: &mut [u8])
+    requires { ⌜ length (now space) ≡ 65589 ⌝ }
+{
+    let got = io::read_full(STDIN_FILENO, space);
     write_margins(&space[..got]);
 }
 
