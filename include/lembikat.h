@@ -3,8 +3,9 @@
  * A plan is two sheets (the inner codes of the left and the right side), two counts of vertices and a wiring (the bipartite
  * graph). The sides may be unequal in all of it. Every call takes the plan, or the one sheet that it needs, anew and keeps
  * nothing.
- * Link with -llembikat; of the host it needs nothing but memset and memcpy, which every C host has. The calls are proved: for
- * whatever bytes and numbers they are given they answer what this header says, end, and write no byte but those named here.
+ * Link with -llembikat; of the host it needs nothing but memset and memcpy, which every hosted C has. The source of the calls
+ * is proved to meet its contracts: for whatever bytes and numbers a call is given, they say what it answers, that it ends, and
+ * which bytes it writes. This header describes the contracts.
  *
  * THE PLAN
  *   left_sheet, right_sheet
@@ -97,7 +98,10 @@
  *   A buffer of no bytes, such as an empty list of lost spans, may be NULL. A buffer may be longer than needed where it is
  *   written: bytes beyond stay untouched. Only the state of a sweep or set call must have its exact length. The table of a
  *   look-up may be longer too: bytes beyond do not matter. A table, once built, may serve any number of threads.
- *   No call takes memory from the heap. Stack use is given with each call.
+ *   No call takes memory from the heap. Stack use is given with each call. The figures are worked out from the archive's own
+ *   instructions, for the deepest chain of calls, and hold whatever the input; they begin with the return address. On top come
+ *   the arguments and the room for the answer, which are the caller's, what the host's memset and memcpy take, and what its
+ *   dynamic linker takes where it looks for them at their first call.
  */
 #ifndef LEMBIKAT_H
 #define LEMBIKAT_H
@@ -113,10 +117,10 @@ extern "C" {
  * rises with every version, the first number where a caller must change its code, or must be compiled anew since an answer has
  * another size. A host asks for a version or a later one so:
  *   #if LEMBIKAT_VERSION_AT_LEAST(5, 0, 0) */
-#define LEMBIKAT_VERSION "5.0"
+#define LEMBIKAT_VERSION "5.0.1"
 #define LEMBIKAT_VERSION_MAJOR 5
 #define LEMBIKAT_VERSION_MINOR 0
-#define LEMBIKAT_VERSION_PATCH 0
+#define LEMBIKAT_VERSION_PATCH 1
 #define LEMBIKAT_VERSION_AS_NUMBER(major, minor, patch) (1000000L * (major) + 1000L * (minor) + (patch))
 #define LEMBIKAT_VERSION_NUMBER                                                                                                \
     LEMBIKAT_VERSION_AS_NUMBER(LEMBIKAT_VERSION_MAJOR, LEMBIKAT_VERSION_MINOR, LEMBIKAT_VERSION_PATCH)
@@ -219,17 +223,19 @@ typedef struct {
  *   sums     how hard the decoder worked, sweep by sweep: sums[i] is how many bits sweep i + 1 changed, those in which the
  *            block after i sweeps and the block after i + 1 sweeps differ. Each sum is one sweep's own, not a running total;
  *            a sweep changes at most 32,768 bits, so 16 bits hold it.
- *            Sweeps that were not made have 0. A block that settled had `value` sweeps; with LEMBIKAT_UNSETTLED `limit` sweeps
- *            were made, and their sums are told too. With any other refusal all sums are 0. Sweeps after the 64th are not told.
+ *            Sweeps that are not counted have 0. A block that settled had `value` sweeps; with LEMBIKAT_UNSETTLED `limit`
+ *            sweeps are counted, and their sums are told too. With any other refusal all sums are 0. Sweeps after the 64th are
+ *            not told.
  *            With lost spans they are those of one trial: the one kept, and with LEMBIKAT_UNSETTLED the one with zeros.
  *   visits   how many vertices the decoder visited, in all sweeps together: the nl vertices of the left side in sweep 1, the nr
  *            of the right side in sweep 2, and in each later sweep those vertices of its side that have a bit which the sweep
  *            before changed. A vertex is visited at most once in a sweep, however many of its bits were changed; it counts
  *            whether or not the visit changes anything. To visit the others too would change no bit: block, sweeps and sums are
  *            those of visiting the whole side in every sweep.
- *            Only sweeps that were made count: `value` of them where the block settled, `limit` with LEMBIKAT_UNSETTLED, those
- *            after the 64th too. So it is 0 where no sweep was made, nl after one sweep, nl + nr after two, and at most
- *            4,096 * 2,048. With any other refusal it is 0. With lost spans it is that of the trial whose sums are told.
+ *            The visits are those of the sweeps that are counted: `value` of them where the block settled, `limit` with
+ *            LEMBIKAT_UNSETTLED, those after the 64th too. Up to two more may be made to test the block; they are not told.
+ *            So it is 0 where no sweep is counted, nl after one sweep, nl + nr after two, and at most 4,096 * 2,048. With any
+ *            other refusal it is 0. With lost spans it is that of the trial whose sums are told.
  * What one sweep changed a later one may change back; lembikat_report tells how the settled block differs from the received.
  * The sums are no part of the guarantee, nor are the visits but for a bound. Let lembikat_margin cover F flips and name q
  * sweeps; call the b that it begins with b_1, the next one b_2, and so on. A codeword of which at most F bits are flipped and
@@ -305,8 +311,9 @@ lembikat_answer lembikat_locate(const uint8_t *left_sheet, size_t left_sheet_byt
 /* Decodes a received block, of which `lost` lists the lost spans. Sweep 1 puts the nearest word of the left code at every left
  * vertex, sweep 2 the nearest word of the right code at every right vertex, and so on. Where more than one pattern has the
  * fewest ones a vertex's word stays as it is for that sweep: it is no codeword, 0 of its bits are changed, and it waits for its
- * neighbours. The block settles at the first count from 0 to `limit` after which it is a codeword, on both sides. A block that
- * differs from a codeword in no more bits than lembikat_margin covers settles at that codeword within the sweeps that it names.
+ * neighbours. The block settles at the first count from 0 to `limit` after which it is a codeword, on both sides.
+ * Let lembikat_margin name q sweeps for F flips. With no bit lost and a limit of at least q, a block that differs from a
+ * codeword in at most F bits settles at that codeword, after at most q sweeps.
  * From sweep 3 on only the vertices that heard news are visited, those with a bit which the sweep before changed: the others
  * would put the word that they have.
  * Where bits are lost the block is tried twice, each time with the whole limit: with all lost bits 0, and with all lost bits 1.
@@ -316,10 +323,11 @@ lembikat_answer lembikat_locate(const uint8_t *left_sheet, size_t left_sheet_byt
  * A sent codeword with f bits lost and e others flipped comes back where lembikat_margin covers some F with 2 * e + f at most
  * 2 * F and the limit is not below the sweeps that it names for F. The sweeps counted may be more than those: where both trials
  * settle at the sent codeword, the one with zeros is kept, and it may be the other one that has no more than F wrong bits.
+ * Not in place: the output must not overlap the received block, nor any other buffer of the call.
  *   output: the settled block at the front; with LEMBIKAT_UNSETTLED the received block, lost bits as they were received; else
  *   untouched.  value: the sweeps.  sums, visits: the bits that each of the first 64 sweeps changed and the vertices that all
  *   sweeps visited, with LEMBIKAT_UNSETTLED too.
- *   Refusals: the plan's, 11, 12, 24, then 25 and 26 for each span in turn, 13, 14, 15.  Stack: at most 100 KiB. */
+ *   Refusals: the plan's, 11, 12, 24, then 25 and 26 for each span in turn, 13, 14, 15.  Stack: at most 101 KiB. */
 lembikat_decode_answer lembikat_decode(const uint8_t *left_sheet, size_t left_sheet_bytes, const uint8_t *right_sheet,
                                        size_t right_sheet_bytes, size_t nl, size_t nr, const uint8_t *wiring,
                                        size_t wiring_bytes, const uint8_t *received, size_t received_bytes, const uint8_t *lost,
@@ -328,7 +336,7 @@ lembikat_decode_answer lembikat_decode(const uint8_t *left_sheet, size_t left_sh
 /* Makes a state of a block: the number of vertices that read no codeword, left and right, sweep number 0, and the block. What
  * stood in the state before does not matter. A block that is a codeword gives a settled state.
  *   state: the state at the front, LEMBIKAT_STATE_BYTES(N) bytes.  value, sweeps: the count, and 0.
- *   Refusals: the plan's, then 11 and 12 for the block, 13.  Stack: at most 40 KiB. */
+ *   Refusals: the plan's, then 11 and 12 for the block, 13.  Stack: at most 38 KiB. */
 lembikat_state_answer lembikat_load_state(const uint8_t *left_sheet, size_t left_sheet_bytes, const uint8_t *right_sheet,
                                           size_t right_sheet_bytes, size_t nl, size_t nr, const uint8_t *wiring,
                                           size_t wiring_bytes, const uint8_t *block, size_t block_bytes, uint8_t *state,
@@ -340,7 +348,8 @@ lembikat_state_answer lembikat_load_state(const uint8_t *left_sheet, size_t left
  * block are.
  * From a loaded state on, calls made one by one on the same plan come to the block and the sweep count of lembikat_decode with
  * an empty list of lost spans and a limit of 4,096, and stay there. Where that is LEMBIKAT_UNSETTLED the count never becomes 0,
- * and the call at sweep number 4,096 is LEMBIKAT_SWEEPS_SPENT. From a set bit on the same holds of the block as it then is.
+ * and the call at sweep number 4,096 is LEMBIKAT_SWEEPS_SPENT. From a bit set in a state whose count is true the same holds of
+ * the block as it then is.
  *   state: count, sweep number and block after the sweep; untouched with a refusal.  value, sweeps: its count and sweep number.
  *   Refusals: the plan's, then 11 for the state's length and 12 for its block, 28.  Stack: at most 112 KiB. */
 lembikat_state_answer lembikat_sweep_state(const uint8_t *left_sheet, size_t left_sheet_bytes, const uint8_t *right_sheet,
@@ -351,7 +360,7 @@ lembikat_state_answer lembikat_sweep_state(const uint8_t *left_sheet, size_t lef
  * also where the bit had that value already, and on a settled state too: the next sweep is one of the left side.
  *   state: count, sweep number and block, in which the one bit may have changed; untouched with a refusal.  value, sweeps: its
  *   count, and 0.
- *   Refusals: the plan's, then 11 for the state's length and 12 for its block, 27.  Stack: at most 40 KiB. */
+ *   Refusals: the plan's, then 11 for the state's length and 12 for its block, 27.  Stack: at most 38 KiB. */
 lembikat_state_answer lembikat_set_bit(const uint8_t *left_sheet, size_t left_sheet_bytes, const uint8_t *right_sheet,
                                        size_t right_sheet_bytes, size_t nl, size_t nr, const uint8_t *wiring,
                                        size_t wiring_bytes, size_t bit, uint64_t value, uint8_t *state, size_t state_bytes);

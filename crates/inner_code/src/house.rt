@@ -293,11 +293,25 @@ impl HouseCode {
         }
     }
 
-    // Its sheet, as the services take it.
+    // Its sheet, as the services take it. Its d is 8, so the high byte of each row is 0.
     pub fn sheet() -> [u8; 10]
         ensures { λ r. ⌜ r ≡ houseSheet ⌝ }
     {
-        [8, 4, 0, 0xFF, 0, 0x0F, 0, 0x33, 0, 0x55]
+        let rows = HouseCode::ROWS;
+        let d = HouseCode::D as u8;
+        let k = HouseCode::K as u8;
+        [
+            d,
+            k,
+            0,
+            rows[0] as u8,
+            0,
+            rows[1] as u8,
+            0,
+            rows[2] as u8,
+            0,
+            rows[3] as u8,
+        ]
     }
 
     // All its nearest words, for a caller that keeps them.
