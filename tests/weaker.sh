@@ -17,8 +17,8 @@ if [ $# -gt 0 ]; then
     edits=("${edits[@]/%/.edit}")
 fi
 
-# make EDIT: the edit is made on the copy
-make() {
+# apply EDIT: the edit is made on the copy
+apply() {
     local file='' old='' line
     while IFS= read -r line; do
         case $line in
@@ -44,7 +44,7 @@ make() {
 mkdir "$copy/target"
 cp -R crates crates.txt "$copy"
 cp -R target/rlib target/stamp "$copy/target"
-for edit in "${edits[@]}"; do make "$edit" || { echo "0 passed, ${#edits[@]} failed"; exit 1; }; done
+for edit in "${edits[@]}"; do apply "$edit" || { echo "0 passed, ${#edits[@]} failed"; exit 1; }; done
 (cd "$copy" && RT_CUT=0 rt check "$user") >"$copy/log" 2>&1
 [ $# -eq 0 ] || cat "$copy/log"
 

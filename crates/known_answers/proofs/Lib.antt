@@ -1,6 +1,5 @@
 pub mod Answers
 pub mod CallByCall
-pub mod Calls
 pub mod FirstSum
 pub mod PairPlan
 pub mod PanelRestored

@@ -33,6 +33,7 @@ use Rattle.spans.proofs.Checking.{spans-none}
 use Rattle.decoder.specs.Answer.{decodeOutput}
 use Rattle.radius.specs.Margin.{Measures, slack}
 use Rattle.radius.specs.Answer.{measuresOf, marginAnswer}
+use Rattle.radius.proofs.Calls.{call-free}
 use Rattle.radius.proofs.Answers.{Covered, margin-means}
 use Rattle.radius.proofs.MarginChain.{firstBound, covered-slack, chain-next, named-is, named-le}
 use Rattle.radius.proofs.PlanRanges.{distance-most}
@@ -40,7 +41,6 @@ use Rattle.radius.proofs.Guarantee.{demand3}
 use Rattle.panel.specs.State.{loadedState}
 use Rattle.panel.specs.Calls.{SweptHome}
 use Rattle.panel.proofs.Stepping.{steps-settle}
-use Rattle.known_answers.proofs.Calls.{call-free}
 
 -- ---- the sweeps that are named are few
 

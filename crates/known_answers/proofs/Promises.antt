@@ -39,13 +39,13 @@ use Rattle.meetings.specs.Spread.{meeting, unevenness, spread}
 use Rattle.radius.specs.Margin.{slack, stepCovered, nextBound, bound, chainEnd, sweepsNamed}
 use Rattle.radius.specs.Answer.{distanceOf, measuresOf, marginAnswer}
 use Rattle.radius.specs.Demand.{Restored, Mended, visitsBound}
+use Rattle.radius.proofs.Calls.{call-free}
 use Rattle.radius.proofs.Answers.{margin-means}
 use Rattle.radius.proofs.Guarantee.{demand3, demand3-alone}
 use Rattle.radius.proofs.Distance.{codewords-apart}
 use Rattle.radius.proofs.LostSpans.{lost-restored}
 use Rattle.radius.proofs.VisitsBound.{visits-promised}
 use Rattle.known_answers.specs.Table.{triplePlan}
-use Rattle.known_answers.proofs.Calls.{call-free}
 use Rattle.known_answers.proofs.PanelRestored.{named-few}
 
 abbrev pub Returned : Plan → List ℕ → List ℕ → List ℕ → List ℕ → ℕ → Type 0

@@ -10,3 +10,4 @@ pub mod PlanRanges
 pub mod ChainWalk
 pub mod Uncovered
 pub mod PlanNumbers
+pub mod Calls

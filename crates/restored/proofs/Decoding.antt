@@ -5,23 +5,23 @@
 --   sweepsOf, isUnsettled            how a call ended (specs Outcome)
 -- Names: `decode-` is about a call: its tests pass (-passed), and no row before 15 stops it (-free), so the guarantee holds of it
 -- (-restored); the limit is the count at which the block settles (-at), or one less (-before). `outcome-` reads an answer of the code.
-use mathlib.Core.Path.{_≡_, refl, ap}
+use mathlib.Core.Path.{_≡_}
 use mathlib.Core.List.{List, [], _∷_}
 use mathlib.Core.Bool.{true, false}
 use Prim.Native.Nat.{ℕ, _-_, _≤_, _<_}
 use native.Mathlib.Nat.{le-refl}
-use native.Mathlib.Decide.{decLe}
 use native.Mathlib.Omega.{arith}
 use borrow.Author.Tests.{eq-eqb}
 use lib.ListN.{length}
 use Rattle.inner_code.specs.Reply.{done, refused}
 use Rattle.wiring.specs.Square.{squarePlan}
 use Rattle.spans.proofs.Checking.{spans-none}
-use Rattle.decoder.specs.Decode.{settledAfter, settlesAt}
+use Rattle.decoder.specs.Decode.{settledAfter}
 use Rattle.decoder.specs.Answer.{decodeCheck, decodeAnswer, decodeReply}
 use Rattle.decoder.specs.declared.decoding.Decoded.{Decoded}
-use Rattle.decoder.proofs.Settling.{settles-at, settles-none, decode-settled, decode-unsettled, check-passed}
+use Rattle.decoder.proofs.Settling.{settles-at, settles-none, decode-settled, decode-unsettled}
 use Rattle.radius.specs.Demand.{stoppedBefore15, Restored}
+use Rattle.radius.proofs.Calls.{call-passed, call-free}
 use Rattle.radius.proofs.Guarantee.{demand3}
 use Rattle.restored.specs.Sent.{sentBlock, Received}
 use Rattle.restored.specs.Outcome.{sweepsOf, isUnsettled}
@@ -29,17 +29,10 @@ use Rattle.restored.proofs.SquarePlan.{square-accepted, square-margin, 
 
 module _ {received : List ℕ} (r : Received received) (output : List ℕ) (room : length output ≡ 8) where
   decode-passed : (H : ℕ) → H ≤ 4096 → decodeCheck squarePlan received [] output H ≡ done []
-  decode-passed H l =
-      check-passed squarePlan received [] output H square-accepted (received-block r .checked) (spans-none _) (square-room output room) l
+  decode-passed H l = call-passed squarePlan received [] output H square-accepted (received-block r) (spans-none _) (square-room output room) l
 
   decode-free : (H : ℕ) → H ≤ 4096 → stoppedBefore15 (decodeAnswer squarePlan received [] output H) ≡ false
-  unfolding stoppedBefore15
-  decode-free H l =
-      elim (decLe (settlesAt squarePlan received H) H) [
-        | yes in-time ↦
-            ap stoppedBefore15 (decode-settled squarePlan received output H (decode-passed H l) _ refl in-time .answer)
-        | no late ↦ ap stoppedBefore15 (decode-unsettled squarePlan received output H (decode-passed H l) (omega arith) .answer)
-      ]
+  decode-free H l = call-free squarePlan received [] output H square-accepted (received-block r) (spans-none _) (square-room output room) l
 
   pub decode-restored : (H : ℕ) → 2 ≤ H → H ≤ 4096 → Restored squarePlan sentBlock received output H 2
   decode-restored H enough l =

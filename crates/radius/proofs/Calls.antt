@@ -1,7 +1,8 @@
 -- A decoder call that nothing stops before it decodes: an accepted plan, a block of it, a list of spans that passes, room for a block in the
--- output, and a limit of at most 4,096. It settles or is 15.
+-- output, and a limit of at most 4,096. It settles or is 15. So the condition of demand3 and lost-restored on a call holds of every call that a
+-- host means.
 --   decodeCheck ..           what stops a call before it decodes (decoder specs Answer)
---   stoppedBefore15 reply    a row before 15 in the table stops the call (radius specs Demand)
+--   stoppedBefore15 reply    a row before 15 in the table stops the call (specs Demand)
 use Prim.Native.Nat.{ℕ, _≤_}
 use mathlib.Core.Bool.{Bool, true, false, not}
 use mathlib.Core.List.{List, [], _∷_}
