@@ -1,4 +1,6 @@
 // Bits of byte strings and two-byte numbers, with the laws that every other crate cites.
+#![tactic(auto)]
+
 ghost use Rattle.std.specs.Prelude.{true, false, ◌≡◌, ℕ, ◌+◌, ◌%◌, ◌^◌, ◌<◌, ◌≤◌, length};
 ghost use Rattle.bits.specs.Window.{at, word_at, turned};
 ghost use Rattle.bits.specs.Bit.{bit_at, with_bit, pair_at, written};

@@ -1,5 +1,7 @@
 // The services as a C host calls them: numbers and byte slices in, one struct out by value. A slice is a pointer and a length in C;
 // include/lembikat.h is the other side. Nothing is kept between calls.
+#![tactic(auto)]
+
 ghost use Rattle.std.specs.Prelude.{[], ◌∷◌, ◌≡◌};
 ghost use Rattle.inner_code.specs.Reply.{done, refused};
 ghost use Rattle.inner_code.specs.Answer.{nearest_answer};
@@ -28,7 +30,7 @@ use wiring::{Located, SideName};
 // row or entry at fault. The locator alone uses both fields of a call that is done: `place` is 0 for none, 1 for left and 2 for right, and
 // `value` the vertex.
 #[repr(C)]
-#[derive(Drop)]
+#[derive(Clone, Copy)]
 pub struct Answer {
     pub number: u32,
     pub place: u32,
@@ -37,7 +39,7 @@ pub struct Answer {
 
 // What the nearest word and the look-up answer: as above, and how many bits it changed, 0 with a refusal.
 #[repr(C)]
-#[derive(Drop)]
+#[derive(Clone, Copy)]
 pub struct WordAnswer {
     pub number: u32,
     pub place: u32,
@@ -48,7 +50,7 @@ pub struct WordAnswer {
 // What the decoder answers: as above, and how many bits each of the first sweeps changed, 0 for a sweep that was not made, and how many vertices the
 // sweeps visited.
 #[repr(C)]
-#[derive(Drop)]
+#[derive(Clone, Copy)]
 pub struct DecodeAnswer {
     pub number: u32,
     pub place: u32,
@@ -60,7 +62,7 @@ pub struct DecodeAnswer {
 // What a call on a state answers: as above, the value being the number of unsatisfied vertices that the state has after the call, and beside it
 // its sweep number; both are 0 with a refusal.
 #[repr(C)]
-#[derive(Drop)]
+#[derive(Clone, Copy)]
 pub struct StateAnswer {
     pub number: u32,
     pub place: u32,

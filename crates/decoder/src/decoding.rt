@@ -32,7 +32,7 @@ const FEW_EDGES: usize = 1024;
 const SMALL_BLOCK: usize = 32;
 
 // What the decoder answers: the sweeps after which the block settled, or the refusal.
-#[derive(Drop)]
+#[derive(Clone, Copy)]
 pub enum Decoded {
     Settled(usize),
     Refused(Refusal),
@@ -40,7 +40,7 @@ pub enum Decoded {
 
 // The whole answer of a decoder call: with what is answered, how many bits each of the first sweeps changed, 0 for a sweep that was not made, and
 // how many vertices the sweeps visited.
-#[derive(Drop)]
+#[derive(Clone, Copy)]
 pub struct Decoding {
     pub outcome: Decoded,
     pub sums: [u16; SUMS],
@@ -394,7 +394,7 @@ fn decode_placed(
 
 // What a trial comes to: how many received bits outside the spans it changes is counted where some are lost. With it, whether the places of the edges
 // are noted.
-#[derive(Drop)]
+#[derive(Clone, Copy)]
 struct Attempt {
     settling: Settling,
     changed: usize,

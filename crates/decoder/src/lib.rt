@@ -1,4 +1,6 @@
 // Sweeps in turn, and the decoder.
+#![tactic(auto)]
+
 mod decoding;
 mod settle;
 

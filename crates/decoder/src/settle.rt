@@ -17,7 +17,7 @@ pub const SUMS: usize = 64;
 
 // After how many sweeps a block settled, one more than the limit where it did not, how many bits each sweep up to there changed, and how many
 // vertices they visited.
-#[derive(Drop)]
+#[derive(Clone, Copy)]
 pub(crate) struct Settling {
     pub count: usize,
     pub sums: [u16; SUMS],
@@ -25,7 +25,7 @@ pub(crate) struct Settling {
 }
 
 // What the first two sweeps come to: where `ended` is set the same as above, and else what stands after both, a third one being needed.
-#[derive(Drop)]
+#[derive(Clone, Copy)]
 pub(crate) struct Opening {
     pub limit: usize,
     pub ended: bool,
@@ -145,7 +145,7 @@ fn ended(
 }
 
 // What a left sweep and the right one after it tell.
-#[derive(Drop)]
+#[derive(Clone, Copy)]
 struct Tallies {
     left: Tally,
     right: Tally,

@@ -1,4 +1,6 @@
 // The finder of nearest words: what finds those of a whole side.
+#![tactic(auto)]
+
 mod finder;
 
 pub use finder::FINDER_WORDS;

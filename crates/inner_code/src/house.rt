@@ -23,7 +23,7 @@ const NEAREST: [u8; 256] = [
 ];
 
 // The house code's own values.
-#[derive(Drop)]
+#[derive(Clone, Copy)]
 pub struct HouseCode {
     pub d: usize,
     pub k: usize,

@@ -1,4 +1,6 @@
 // The inner code: the sheet's check, codewords, distance, the nearest word and the house code.
+#![tactic(auto)]
+
 mod codewords;
 mod house;
 mod membership;

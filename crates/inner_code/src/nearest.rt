@@ -19,14 +19,14 @@ const FEW_ROWS: usize = 5;
 const FEW_CODEWORDS: usize = 32;
 
 // The nearest word and how many bits it changes, or the refusal.
-#[derive(Drop)]
+#[derive(Clone, Copy)]
 pub enum Nearest {
     Word { word: u64, changed: u64 },
     Refused(Refusal),
 }
 
 // One step of the nearest word: the word that takes another's place, and how many bits that changes.
-#[derive(Drop)]
+#[derive(Clone, Copy)]
 pub struct Step {
     pub word: u16,
     pub changed: u32,

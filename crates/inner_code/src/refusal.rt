@@ -1,7 +1,7 @@
 // Refusals: what a call that is turned back tells, and the paper's numbers by name.
 
 // Why a call is turned back: its number in the table of refusals, and the row or entry at fault (0 where none is).
-#[derive(Drop)]
+#[derive(Clone, Copy)]
 pub struct Refusal {
     pub number: u32,
     pub place: u32,

@@ -12,7 +12,7 @@ pub const MAX_DEGREE: usize = 16;
 pub const MAX_ROWS: usize = 11;
 
 // An accepted sheet's values, or its refusal.
-#[derive(Drop)]
+#[derive(Clone, Copy)]
 pub enum Sheet {
     Accepted { d: usize, k: usize },
     Refused(Refusal),
@@ -95,7 +95,7 @@ fn put_row(rows: &mut [u16], i: usize, row: u16)
 
 // A checked sheet: its values or its refusal, and an echelon form of its rows, as many as come before the first faulty one, all k
 // of an accepted sheet. The rest of `basis` is 0.
-#[derive(Drop)]
+#[derive(Clone, Copy)]
 pub struct CheckedSheet {
     pub sheet: Sheet,
     pub basis: [u16; 11],

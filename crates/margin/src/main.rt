@@ -2,6 +2,8 @@
 // or the refusal.
 // No contract can say what is written. So each function that writes numbers is lent the input, and requires that they are those which
 // are defined for it.
+#![tactic(auto)]
+
 mod margin_input;
 
 ghost use Rattle.std.specs.Prelude.{◌≡◌, length, ◌<◌};

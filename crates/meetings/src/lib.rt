@@ -1,4 +1,6 @@
 // The meeting numbers of a wiring's left vertices, and the spread, which says how evenly they meet.
+#![tactic(auto)]
+
 mod spread;
 
 pub use spread::{Spread, plan_spread};

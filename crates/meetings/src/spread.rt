@@ -12,7 +12,7 @@ use inner_code::Refusal;
 use wiring::{Checked, check_plan};
 
 // The spread of a plan, or the refusal.
-#[derive(Drop)]
+#[derive(Clone, Copy)]
 pub enum Spread {
     Value(u64),
     Refused(Refusal),

@@ -12,7 +12,7 @@ use inner_code::{Refusal, refusal};
 use wiring::{Checked, check_bits, check_plan};
 
 // The message is encoded, or turned back.
-#[derive(Drop)]
+#[derive(Clone, Copy)]
 pub enum Encoded {
     Done,
     Refused(Refusal),

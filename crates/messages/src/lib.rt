@@ -1,4 +1,6 @@
 // Messages: the encoder and the reader, for blocks of up to 512 bits.
+#![tactic(auto)]
+
 mod columns;
 mod encoder;
 mod output;

@@ -12,7 +12,7 @@ use inner_code::{Refusal, refusal};
 use wiring::{Checked, Located, check_block, check_plan, first_unsatisfied};
 
 // The message is read, or the block is turned back.
-#[derive(Drop)]
+#[derive(Clone, Copy)]
 pub enum Taken {
     Done,
     Refused(Refusal),

@@ -7,7 +7,7 @@ use crate::columns::{add_column, row_bit, unit_columns};
 use wiring::{SideCode, SideName};
 
 // One check: a digit of what the reduction leaves at a vertex, of which `base` is the first entry on its side.
-#[derive(Drop)]
+#[derive(Clone, Copy)]
 struct Check {
     side: SideName,
     base: usize,

@@ -15,7 +15,7 @@ use wiring::Checked;
 pub(crate) const HEAD: usize = 4;
 
 // The numbers before a block.
-#[derive(Drop)]
+#[derive(Clone, Copy)]
 pub(crate) struct Head {
     pub count: usize,
     pub sweeps: usize,

@@ -1,4 +1,6 @@
 // The margin: how many flipped bits a plan is promised to mend, and in how many sweeps.
+#![tactic(auto)]
+
 mod chain;
 mod margins;
 mod numbers;

@@ -11,7 +11,7 @@ use inner_code::{Refusal, refusal};
 use wiring::{Checked, check_plan};
 
 // The sweeps named for a number of flips, or the refusal.
-#[derive(Drop)]
+#[derive(Clone, Copy)]
 pub enum Margin {
     Sweeps(u64),
     Refused(Refusal),

@@ -13,7 +13,7 @@ use wiring::{Checked, check_plan};
 
 // A plan's numbers, in the order in which the program `margin` writes them: the sides' vertex counts n, degrees d, row counts k and inner
 // distances, left before right, and the spread of the wiring.
-#[derive(Drop)]
+#[derive(Clone, Copy)]
 pub struct PlanNumbers {
     pub nl: u64,
     pub nr: u64,
@@ -27,7 +27,7 @@ pub struct PlanNumbers {
 }
 
 // An accepted plan's numbers, or the refusal.
-#[derive(Drop)]
+#[derive(Clone, Copy)]
 pub enum Numbers {
     Plan(PlanNumbers),
     Refused(Refusal),

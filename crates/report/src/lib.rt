@@ -1,4 +1,6 @@
 // The correction report: the maximal runs of bits at which a received and a settled block differ.
+#![tactic(auto)]
+
 ghost use Rattle.std.specs.Prelude.{◌≡◌, ◌+◌, ◌*◌, ◌≤◌, ◌<◌, length};
 ghost use Rattle.std.proofs.lemmas.List.Edits.{sets};
 ghost use Rattle.bits.specs.Bit.{written};
@@ -11,7 +13,7 @@ use inner_code::{Refusal, refusal};
 use wiring::Checked;
 
 // The number of pairs in the list, or the refusal.
-#[derive(Drop)]
+#[derive(Clone, Copy)]
 pub enum Reported {
     Pairs(usize),
     Refused(Refusal),

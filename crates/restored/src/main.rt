@@ -3,6 +3,8 @@
 // decoder settles within the sweeps named, however many it may take, on the codeword; it settles at the count that it answers and at
 // none before; and another codeword is further away than the flips that are covered. Every call of `expect` is proved for every input,
 // so this program cannot fail.
+#![tactic(auto)]
+
 mod flip;
 mod outcome;
 mod plan;

@@ -1,5 +1,7 @@
 // Lost spans: pairs of bit offset and length, two bytes each, high byte first. Refusals 24 to 26, the lost bits of a block all made 0 or 1, and
 // the bits outside the spans in which two blocks differ.
+#![tactic(auto)]
+
 ghost use Rattle.std.specs.Prelude.{◌≡◌, ℕ, ◌+◌, ◌-◌, ◌*◌, ◌%◌, ◌^◌, ◌≤◌, ◌<◌, length, get_or};
 ghost use Rattle.inner_code.specs.Reply.{refused};
 ghost use Rattle.wiring.specs.Checking.{check_reply};

@@ -1,4 +1,6 @@
 // One sweep of a checked plan. No service stands here.
+#![tactic(auto)]
+
 mod sweep;
 
 pub use sweep::{News, Tally};

@@ -22,7 +22,7 @@ use wiring::SideName;
 use words::{KEPT, Vertex, left_word, news_of, numbers_of, put_pattern, put_told};
 
 // What a sweep tells: how many bits it changed, and at how many vertices it left a tie. Every other vertex of its side now reads a codeword.
-#[derive(Drop)]
+#[derive(Clone, Copy)]
 pub struct Tally {
     pub changed: usize,
     pub ties: usize,
@@ -61,7 +61,7 @@ pub fn sweep_first(
 }
 
 // What a sweep by news tells: how many bits it changed, and how many vertices it visited.
-#[derive(Drop)]
+#[derive(Clone, Copy)]
 pub struct News {
     pub changed: usize,
     pub visits: u64,

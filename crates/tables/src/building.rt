@@ -11,7 +11,7 @@ use crate::numbering::{free_digits, squeeze};
 use inner_code::{Refusal, Sheet, check_into, refusal, residue};
 
 // What building answers: done, or the refusal.
-#[derive(Drop)]
+#[derive(Clone, Copy)]
 pub enum Built {
     Done,
     Refused(Refusal),

@@ -1,4 +1,6 @@
 // Tables of nearest patterns, one for each class of words that differ by a codeword: building one, and looking words up there.
+#![tactic(auto)]
+
 mod building;
 mod looking;
 mod numbering;

@@ -8,7 +8,7 @@ use inner_code::Refusal;
 use wiring::{Checked, SideCode, SideName};
 
 // A count or its change, or the refusal.
-#[derive(Drop)]
+#[derive(Clone, Copy)]
 pub enum Counted {
     Told(usize),
     Refused(Refusal),

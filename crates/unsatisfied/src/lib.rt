@@ -1,4 +1,6 @@
 // How many vertices of a block are unsatisfied, and by how much that changes where a bit is set.
+#![tactic(auto)]
+
 mod count;
 mod set;
 

@@ -1,4 +1,6 @@
 // Runs a stream of calls through the library and writes one line for each: standard input to standard output.
+#![tactic(auto)]
+
 mod answers;
 mod input;
 mod output;

@@ -6,7 +6,7 @@ ghost use Rattle.wiring.specs.Checking.{check_reply};
 use inner_code::{Refusal, refusal};
 
 // What a check finds.
-#[derive(Drop)]
+#[derive(Clone, Copy)]
 pub enum Checked {
     Passed,
     Refused(Refusal),

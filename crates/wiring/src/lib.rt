@@ -1,4 +1,6 @@
 // The bipartite graph: the wiring's check, a right vertex's piece, the ends of edges, the word of a vertex, blocks and the locator.
+#![tactic(auto)]
+
 mod access;
 mod block;
 mod ends;

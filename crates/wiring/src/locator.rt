@@ -12,7 +12,7 @@ use crate::side::{SideCode, SideName, code_of};
 use inner_code::Refusal;
 
 // Where a block breaks the code, or the refusal.
-#[derive(Drop)]
+#[derive(Clone, Copy)]
 pub enum Located {
     Nowhere,
     At { side: SideName, vertex: usize },

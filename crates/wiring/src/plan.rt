@@ -22,7 +22,7 @@ pub const MAX_EDGES: usize = MAX_VERTICES * inner_code::MAX_DEGREE;
 const FEW_EDGES: usize = 1024;
 
 // A checked plan: that it is accepted, with its sides, or its refusal. With a refusal both sides are 0.
-#[derive(Drop)]
+#[derive(Clone, Copy)]
 pub struct CheckedPlan {
     pub checked: Checked,
     pub left: SideCode,

@@ -4,7 +4,7 @@ ghost use Rattle.wiring.specs.Access.{both_codes, count_for};
 ghost use Rattle.wiring.specs.Plan.{other};
 
 // The left side or the right side.
-#[derive(Drop)]
+#[derive(Clone, Copy)]
 pub enum SideName {
     Left,
     Right,
@@ -12,7 +12,7 @@ pub enum SideName {
 
 // A side: n vertices that read d bits each. The first k rows of the basis, an echelon form of the sheet's rows, leave nothing of a word
 // exactly if it is a codeword; the rest of `basis` is 0.
-#[derive(Drop)]
+#[derive(Clone, Copy)]
 pub struct SideCode {
     pub n: usize,
     pub d: usize,

@@ -1,4 +1,6 @@
 // The words that the vertices of a checked plan read, kept as numbers beside a block, and the marks of vertices with news. No service stands here.
+#![tactic(auto)]
+
 mod news;
 mod pattern;
 mod words;

@@ -13,7 +13,7 @@ use crate::news::{KEPT, mark, news_of};
 use wiring::SideName;
 
 // A vertex: its side and its number there.
-#[derive(Drop)]
+#[derive(Clone, Copy)]
 pub struct Vertex {
     pub side: SideName,
     pub v: usize,
