@@ -55,8 +55,8 @@ pub fn pair(bytes: &[u8], at: usize) -> u16
 
 // Whether two byte strings are the same.
 pub fn same(a: &[u8], b: &[u8]) -> bool
-    ensures a_value { result ≡ true → a.now ≡ b.now }
-    ensures fact { result ≡ false → a.now ≡ b.now → ⊥ }
+    ensures when_true { result ≡ true → a.now ≡ b.now }
+    ensures when_false { result ≡ false → a.now ≡ b.now → ⊥ }
 {
     if a.len() != b.len() {
         return false;
@@ -73,8 +73,8 @@ pub fn same(a: &[u8], b: &[u8]) -> bool
 
 // Whether every byte of a byte string is 0. Every byte is looked at: with no way out of the loop the compiler takes sixteen of them in a step.
 pub fn is_zero(bytes: &[u8]) -> bool
-    ensures i_value { result ≡ true → (i : ℕ) → at bytes.now i ≡ 0 }
-    ensures fact { result ≡ false → ((i : ℕ) → at bytes.now i ≡ 0) → ⊥ }
+    ensures when_true { result ≡ true → (i : ℕ) → at bytes.now i ≡ 0 }
+    ensures when_false { result ≡ false → ((i : ℕ) → at bytes.now i ≡ 0) → ⊥ }
 {
     let mut largest = 0u8;
     let mut i = 0;
@@ -116,9 +116,9 @@ pub fn word_at(bytes: &[u8], i: usize, d: usize) -> u16
 // The number of the highest digit of a number that is set.
 pub fn highest(x: u16) -> usize
     requires { 0 < x }
-    ensures result_bound { 2 ^ result ≤ x }
-    ensures x_bound { x < 2 ^ (result + 1) }
-    ensures upper_bound { result < 16 }
+    ensures power_low { 2 ^ result ≤ x }
+    ensures power_high { x < 2 ^ (result + 1) }
+    ensures fits_word { result < 16 }
 {
     15 - u16::leading_zeros(x) as usize
 }

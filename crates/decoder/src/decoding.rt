@@ -425,10 +425,10 @@ fn finish_trial(
     requires opened_some { OpenedSome plan opening kept.old (take (length received.now) room.old) }
     requires plan_in_bounds { edge_count plan ≤ length places.old }
     requires places_noted { noted ≡ true → PlacesNoted wiring.now places.old }
-    ensures ready_2 { Ready plan left_finder.new right_finder.new }
-    ensures places_noted_2 { result.noted ≡ true → PlacesNoted wiring.now places.new }
+    ensures still_ready { Ready plan left_finder.new right_finder.new }
+    ensures places_noted_after { result.noted ≡ true → PlacesNoted wiring.now places.new }
     ensures room_after { room.new ≡ written (take (length received.now) room.new) room.old }
-    ensures by_index { (block : List ℕ) → Opened plan block opening.limit opening kept.old (take (length received.now) room.old)
+    ensures settles { (block : List ℕ) → Opened plan block opening.limit opening kept.old (take (length received.now) room.old)
         → Tried plan block opening.limit result.settling.count result.settling.sums result.settling.visits (take (length received.now) room.new) }
     ensures changed_value { (length lost.now ≡ 0 → ⊥) → result.changed ≡ flips_around (length wiring.now / 2) lost.now received.now (take (length received.now) room.new) }
 {
@@ -468,7 +468,7 @@ fn places_for(wiring: &[u8], ended: bool, noted: bool, places: &mut [u16]) -> bo
     requires wiring_len_bound { length wiring.now / 2 ≤ 32768 }
     requires wiring_in_bounds { length wiring.now / 2 ≤ length places.old }
     requires places_noted { noted ≡ true → PlacesNoted wiring.now places.old }
-    ensures places_noted_2 { result ≡ true → PlacesNoted wiring.now places.new }
+    ensures places_noted_after { result ≡ true → PlacesNoted wiring.now places.new }
     ensures value { ended ≡ false → result ≡ true }
 {
     if ended {
@@ -483,8 +483,8 @@ fn places_for(wiring: &[u8], ended: bool, noted: bool, places: &mut [u16]) -> bo
 
 // Whether the trial with zeros is kept whatever the one with ones gives: no bit is lost, or it settles and changes no bit outside the spans.
 fn keeps_zeros(lost_bytes: usize, limit: usize, zeros: usize, changed: usize) -> bool
-    ensures zeros_le_limit { result ≡ true → (lost_bytes ≡ 0 → ⊥) → (zeros ≤ limit) × (changed ≡ 0) }
-    ensures fact { result ≡ false → lost_bytes ≡ 0 → ⊥ }
+    ensures when_true { result ≡ true → (lost_bytes ≡ 0 → ⊥) → (zeros ≤ limit) × (changed ≡ 0) }
+    ensures when_false { result ≡ false → lost_bytes ≡ 0 → ⊥ }
 {
     if lost_bytes == 0 {
         return true;
@@ -503,8 +503,8 @@ fn keeps_ones(
     ones: usize,
     ones_changed: usize,
 ) -> bool
-    ensures ones_le_limit { result ≡ true → (ones ≤ limit) × (zeros ≤ limit → ones_changed < zeros_changed) }
-    ensures zeros_le_limit { result ≡ false → ones ≤ limit → (zeros ≤ limit) × (zeros_changed ≤ ones_changed) }
+    ensures when_true { result ≡ true → (ones ≤ limit) × (zeros ≤ limit → ones_changed < zeros_changed) }
+    ensures when_false { result ≡ false → ones ≤ limit → (zeros ≤ limit) × (zeros_changed ≤ ones_changed) }
 {
     if limit < ones {
         return false;

@@ -57,7 +57,7 @@ pub(crate) fn open(
     requires kept_len { length kept.old ≡ 2304 }
     requires ready { Ready plan left_finder.old right_finder.old }
     requires block_value { block_check (edge_count plan) block.old ≡ done [] }
-    ensures ready_2 { Ready plan left_finder.new right_finder.new }
+    ensures still_ready { Ready plan left_finder.new right_finder.new }
     ensures opened { Opened plan block.old limit result kept.new block.new }
 {
     let firsts = sweep_firsts(
@@ -169,7 +169,7 @@ fn sweep_firsts(
     requires block_value { block_check (edge_count plan) block.old ≡ done [] }
     requires kept_len { length kept.old ≡ 2304 }
     ensures both_swept { BothSwept plan block.old result.left result.right block.new kept.new }
-    ensures ready_2 { Ready plan left_finder.new right_finder.new }
+    ensures still_ready { Ready plan left_finder.new right_finder.new }
 {
     let first = sweep_first(left, nl, wiring, left_finder, block);
     clear_marks(kept);
@@ -212,8 +212,8 @@ pub(crate) fn finish(
     requires ready { Ready plan left_finder.old right_finder.old }
     requires opened_some { OpenedSome plan opening kept.old block.old }
     requires places_noted { opening.ended ≡ false → PlacesNoted wiring.now places.now }
-    ensures ready_2 { Ready plan left_finder.new right_finder.new }
-    ensures by_index { (received : List ℕ) → Opened plan received opening.limit opening kept.old block.old
+    ensures still_ready { Ready plan left_finder.new right_finder.new }
+    ensures settles { (received : List ℕ) → Opened plan received opening.limit opening kept.old block.old
         → Tried plan received opening.limit result.count result.sums result.visits block.new }
 {
     let limit = opening.limit;

@@ -192,8 +192,8 @@ fn make_entries(
     entries: &mut [u16],
 )
     requires sized { Sized sheet.now basis.now table.old }
-    requires table_len_bound { length table.old ≤ 2 * length costs.old }
-    requires table_len_bound_2 { length table.old ≤ 2 * length entries.old }
+    requires costs_room { length table.old ≤ 2 * length costs.old }
+    requires entries_room { length table.old ≤ 2 * length entries.old }
     ensures { entries.new ≡ sheet_entries sheet.now entries.old }
 {
     let d = sheet[0] as usize;

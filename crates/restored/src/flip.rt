@@ -22,7 +22,7 @@ pub fn flip_some(positions: &[u8], most: u64, sent: &[u8], block: &mut [u8])
 // Flips one bit of a block if it equals the sent one, and answers how many bits it flipped.
 fn flip_one(sent: &[u8], block: &mut [u8], place: usize) -> u64
     requires { place < 64 }
-    ensures upper_bound { result ≤ 1 }
+    ensures at_most_one { result ≤ 1 }
     ensures flipped { Flipped sent.now block.old block.new result }
 {
     let bit = bits::bit(block, place);

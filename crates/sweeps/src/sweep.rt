@@ -84,8 +84,8 @@ fn sweep_second(
     requires finds { Finds right.now finder.old }
     requires listening { Listening plan SideName.Right block.old block.old kept.old }
     ensures side_swept { SideSwept (side_of plan SideName.Right) block.old result block.new }
-    ensures finds_2 { Finds right.now finder.new }
-    ensures listening_2 { Listening plan SideName.Left block.old block.new kept.new }
+    ensures still_finds { Finds right.now finder.new }
+    ensures listening_left { Listening plan SideName.Left block.old block.new kept.new }
 {
     let none = [0u16; 0];
     let mut changed = 0;
@@ -136,8 +136,8 @@ pub fn sweep_right(
     requires ready { Ready plan left_finder.old right_finder.old }
     requires listening { Listening plan SideName.Right block.old block.old kept.old }
     ensures side_swept { SideSwept (side_of plan SideName.Right) block.old result block.new }
-    ensures ready_2 { Ready plan left_finder.new right_finder.new }
-    ensures listening_2 { Listening plan SideName.Left block.old block.new kept.new }
+    ensures still_ready { Ready plan left_finder.new right_finder.new }
+    ensures listening_left { Listening plan SideName.Left block.old block.new kept.new }
 {
     if right_finder.len() == 0 {
         return sweep_second(left, right, nl, nr, wiring, left_finder, kept, block);
@@ -165,7 +165,7 @@ pub fn sweep_turn(
     requires across { Across wiring.now side places.now }
     requires hears { Hears plan side block.old kept.old }
     ensures news_swept { NewsSwept plan side block.old kept.old result block.new kept.new }
-    ensures ready_2 { Ready plan left_finder.new right_finder.new }
+    ensures still_ready { Ready plan left_finder.new right_finder.new }
 {
     match side {
         SideName::Left => {
@@ -233,7 +233,7 @@ fn sweep_news(
     requires across { Across wiring.now side places.now }
     requires hears { Hears plan side block.old kept.old }
     ensures news_swept { NewsSwept plan side block.old kept.old result block.new kept.new }
-    ensures finds_2 { Finds (sheet_of plan side) finder.new }
+    ensures still_finds { Finds (sheet_of plan side) finder.new }
 {
     let numbers = numbers_of(wiring::count_of(side, nl, nr));
     let from = news_of(side);
@@ -288,7 +288,7 @@ fn visit(
     requires across { Across wiring.now vertex.side places.now }
     requires words_read { WordsRead (side_of plan SideName.Right) block.old kept.old }
     ensures visited_at { VisitedAt plan vertex.side vertex.v result block.old kept.old block.new kept.new }
-    ensures finds_2 { Finds (sheet_of plan vertex.side) finder.new }
+    ensures still_finds { Finds (sheet_of plan vertex.side) finder.new }
 {
     let word = word_of(left, right, nl, nr, wiring, vertex, kept, block);
     if finder::is_codeword(finder, word) {
@@ -363,8 +363,8 @@ fn tie(changed: u32) -> usize
 pub fn all_codewords(sheet: &[u8], n: usize, finder: &[u16], block: &[u8]) -> bool
     requires n_bound { n ≤ 2048 }
     requires finds { Finds sheet.now finder.now }
-    ensures v_value { result ≡ true → (wiring : List ℕ) (v : ℕ) → v < n → satisfied (side_by sheet.now n wiring SideName.Left) block.now v ≡ true }
-    ensures by_index { result ≡ false → (wiring : List ℕ) → (v : ℕ) × (v < n) × (satisfied (side_by sheet.now n wiring SideName.Left) block.now v ≡ false) }
+    ensures when_true { result ≡ true → (wiring : List ℕ) (v : ℕ) → v < n → satisfied (side_by sheet.now n wiring SideName.Left) block.now v ≡ true }
+    ensures when_false { result ≡ false → (wiring : List ℕ) → (v : ℕ) × (v < n) × (satisfied (side_by sheet.now n wiring SideName.Left) block.now v ≡ false) }
 {
     let d = sheet[0] as usize;
     let mut v = 0;
@@ -410,8 +410,8 @@ fn kept_codewords(n: usize, finder: &[u16], kept: &[u16; KEPT]) -> bool
     requires n_bound { n ≤ 2048 }
     requires kept_len { length kept.now ≡ 2304 }
     requires finder_len { length finder.now ≡ 4640 }
-    ensures v_value { result ≡ true → (v : ℕ) → v < n → codeword_by finder.now (at kept.now v) ≡ true }
-    ensures by_index { result ≡ false → (v : ℕ) × (v < n) × (codeword_by finder.now (at kept.now v) ≡ false) }
+    ensures when_true { result ≡ true → (v : ℕ) → v < n → codeword_by finder.now (at kept.now v) ≡ true }
+    ensures when_false { result ≡ false → (v : ℕ) × (v < n) × (codeword_by finder.now (at kept.now v) ≡ false) }
 {
     let mut v = 0;
     while v < n {

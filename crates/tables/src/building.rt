@@ -95,7 +95,7 @@ pub fn fill(sheet: &[u8], basis: &[u16; 11], table: &mut [u8], costs: &mut [u8])
 // The keys of the first classes again, with a digit put on their patterns, behind themselves.
 fn copy_with(table: &mut [u8], costs: &mut [u8], count: usize, digit: u16)
     requires room { Room (2 * count) table.old costs.old }
-    requires by_index { (c : ℕ) → c < count → at costs.old c < 254 }
+    requires costs_low { (c : ℕ) → c < count → at costs.old c < 254 }
     ensures { Copied count digit count table.old costs.old table.new costs.new }
 {
     let high = (digit / 256) as u8;
@@ -113,7 +113,7 @@ fn copy_with(table: &mut [u8], costs: &mut [u8], count: usize, digit: u16)
 // classes are apart from each other, and one turn serves both.
 fn fold(table: &mut [u8], costs: &mut [u8], count: usize, apart: u16, digit: u16)
     requires room { Room count table.old costs.old }
-    requires by_index { (c : ℕ) → c < count → bit_xor c apart < count }
+    requires apart_low { (c : ℕ) → c < count → bit_xor c apart < count }
     ensures { Folded count apart digit count table.old costs.old table.new costs.new }
 {
     let mut c = 0;
@@ -186,8 +186,8 @@ fn marked_byte(cost: u8, byte: u8) -> u8
 
 // The key of a class.
 fn key_at(table: &[u8], costs: &[u8], c: usize) -> u32
-    requires c_in_bounds { 2 * c + 2 ≤ length table.now }
-    requires c_in_bounds_2 { c + 1 ≤ length costs.now }
+    requires table_room { 2 * c + 2 ≤ length table.now }
+    requires costs_room { c + 1 ≤ length costs.now }
     ensures { (result ≡ key_at table.now costs.now c) × (result < 16777216) }
 {
     costs[c] as u32 * 65536 + table[2 * c] as u32 * 256 + table[2 * c + 1] as u32
@@ -195,8 +195,8 @@ fn key_at(table: &[u8], costs: &[u8], c: usize) -> u32
 
 // Puts the key of a class.
 fn put_key(table: &mut [u8], costs: &mut [u8], c: usize, key: u32)
-    requires c_in_bounds { 2 * c + 2 ≤ length table.old }
-    requires c_in_bounds_2 { c + 1 ≤ length costs.old }
+    requires table_room { 2 * c + 2 ≤ length table.old }
+    requires costs_room { c + 1 ≤ length costs.old }
     requires key_bound { key < 16777216 }
     ensures { Puts c key table.old costs.old table.new costs.new }
 {

@@ -23,7 +23,7 @@ pub fn read_word(side: SideName, wiring: &[u8], d: usize, block: &[u8], v: usize
 pub fn gathered(wiring: &[u8], base: usize, d: usize, block: &[u8]) -> u16
     requires d_bound { d ≤ 16 }
     requires d_in_bounds { 2 * (base + d) ≤ length wiring.now }
-    requires by_index { (j : ℕ) → j < d → edge_of wiring.now (base + j) < length block.now * 8 }
+    requires edges_in_block { (j : ℕ) → j < d → edge_of wiring.now (base + j) < length block.now * 8 }
     ensures { result ≡ word_from (edge_of wiring.now) block.now base d }
 {
     let mut scaled: u32 = 0;

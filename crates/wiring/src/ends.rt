@@ -17,8 +17,8 @@ pub fn note_ends(
 )
     requires { Notable edges dl dr wiring.now lefts.old rights.old }
     ensures noted { Noted (edge_of wiring.now) dl dr edges lefts.new rights.new }
-    ensures kept_from { KeptFrom edges lefts.old lefts.new }
-    ensures kept_from_2 { KeptFrom edges rights.old rights.new }
+    ensures lefts_kept { KeptFrom edges lefts.old lefts.new }
+    ensures rights_kept { KeptFrom edges rights.old rights.new }
 {
     let mut i = 0;
     while i < edges {

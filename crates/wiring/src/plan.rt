@@ -203,7 +203,7 @@ fn all_stand(edges: usize, wiring: &[u8]) -> bool
 fn every_edge_stands(edges: usize, wiring: &[u8], mask: usize, marks: &mut [u8]) -> bool
     requires edges_bound { edges ≤ mask + 1 }
     requires wiring_len { length wiring.now ≡ 2 * edges }
-    requires by_index { (k : ℕ) × (mask + 1 ≡ 2 ^ k) }
+    requires mask_is_power { (k : ℕ) × (mask + 1 ≡ 2 ^ k) }
     requires marks_value { marks.old ≡ none_marked (mask + 1) }
     ensures { result ≡ true → entries_check edges (edge_of wiring.now) edges ≡ done [] }
 {

@@ -47,7 +47,7 @@ pub fn read_words(
     requires block_value { block_check (edge_count plan) block.now ≡ done [] }
     requires cleared { Cleared kept.old }
     ensures words_read { WordsRead (side_of plan SideName.Right) block.now kept.new }
-    ensures cleared_2 { Cleared kept.new }
+    ensures still_cleared { Cleared kept.new }
 {
     let d = right[0] as usize;
     let mut v = 0;
