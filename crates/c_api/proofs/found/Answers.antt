@@ -1,0 +1,12 @@
+-- `c_api::found` meets its contract: each side is told by its number and one more.
+use borrow.Author.Rules.{rules}
+use Rattle.c_api.specs.Answer.{told_place}
+use Rattle.c_api.proofs.found.Goals as goal
+
+pub returns-in-Left : goal.returns-in-Left
+unfolding told_place
+returns-in-Left c = rw c.enum_told-1.given.1
+
+pub returns-in-Right : goal.returns-in-Right
+unfolding told_place
+returns-in-Right c = rw c.enum_told-in-Right-1.given.1

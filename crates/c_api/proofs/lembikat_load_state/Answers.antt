@@ -1,0 +1,13 @@
+-- `c_api::lembikat_load_state` meets its contract: what is told of the service's answer is told of the defined reply.
+use mathlib.Core.Path.{ap, ◌∙◌}
+use borrow.Author.Rules.{rules}
+use Rattle.c_api.specs.Answer.{told_state}
+use Rattle.c_api.proofs.lembikat_load_state.Goals as goal
+
+pub returns : goal.returns
+returns c =
+    let called = c.load_state.ensures in
+    record {
+      value = c.shown.ensures ∙ ap told_state called.0;
+      state_after = called.1;
+    }

@@ -1,0 +1,15 @@
+-- `c_api::lembikat_nearest_word` meets its contract: what is told of each case of the service's answer is told of the defined reply.
+use mathlib.Core.Path.{refl}
+use borrow.Author.Rules.{rules}
+use Rattle.inner_code.specs.Answer.{nearest_reply}
+use Rattle.c_api.specs.Answer.{told_word}
+use Rattle.c_api.proofs.Telling.{telling}
+use Rattle.c_api.proofs.lembikat_nearest_word.Goals as goal
+
+pub returns-in-Word : goal.returns-in-Word
+unfolding told_word
+returns-in-Word c = telling nearest_reply c.nearest.given.1 c.nearest_word.ensures told_word refl
+
+pub returns-in-Refused : goal.returns-in-Refused
+unfolding told_word
+returns-in-Refused c = telling nearest_reply c.refusal.given.1 c.nearest_word.ensures told_word refl

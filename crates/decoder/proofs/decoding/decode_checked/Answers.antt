@@ -1,0 +1,85 @@
+-- `decoder::decode_checked` meets its contract: a block that is a codeword at sight is copied; for any other block each finder is prepared for
+-- its side's sheet, and one for both where the sheets are the same.
+use mathlib.Core.List.{[]}
+use mathlib.Core.Path.{◌≡◌, refl}
+use native.Mathlib.Omega.{arith}
+use borrow.Author.Rules.{rules}
+use Rattle.inner_code.specs.Reply.{done}
+use Rattle.wiring.specs.Plan.{Plan, plan_of, left, right}
+use Rattle.wiring.specs.Wiring.{plan_check}
+use Rattle.wiring.proofs.VertexAccess.{codes-readable}
+use Rattle.wiring.proofs.Blocks.{block_room}
+use Rattle.sweeps.proofs.Visiting.{side-preparable}
+use Rattle.decoder.proofs.Trials.{check-means, none-lost, check-none, answers-none, copy-codeword}
+use Rattle.decoder.proofs.decoding.decode_checked.Goals as goal
+use Rattle.decoder.proofs.decoding.decode_checked.Goals.{After-prepare_finder, Start}
+
+abbrev plan_in : Start → Plan
+plan_in c = plan_of c.args.left.now c.args.right.now c.args.nl c.args.nr c.args.wiring.now
+
+accepted : (c : Start) → plan_check (plan_in c) ≡ done []
+accepted c = (check-means _ _ _ _ _ c.requires.1.1).plan-done
+
+pub is_codeword_at_sight-requires : goal.is_codeword_at_sight-requires
+is_codeword_at_sight-requires c =
+    let s = c.before.before.before.before.before.before.before in
+    let passed = check-means _ _ _ _ _ s.requires.1.1 in
+    codes-readable (plan_in s) (accepted s) _ (block_room _ _ passed.block-done) s.requires.wiring_value s.requires.left_code_value
+
+-- ---- a block that is a codeword at sight
+
+pub copy_front-requires : goal.copy_front-requires
+copy_front-requires c = (check-means _ _ _ _ _ c.requires.1.1).fits
+
+pub returns-then-is_codeword_at_sight : goal.returns-then-is_codeword_at_sight
+returns-then-is_codeword_at_sight c =
+    let copied = c.before.before in
+    let sight = copied.before.before in
+    let s = c.before.before.before.before.before.before.before.before.before.before.before.before.before in
+    let none = none-lost _ c.if-lost-eq0.true in
+    answers-none (plan_in s) _ _ _ _ none
+    (copy-codeword (plan_in s) _ _ _ (check-none (plan_in s) _ _ _ _ none s.requires.1.1) s.args.left-code s.args.right-code s.requires.wiring_value
+    s.requires.left_code_value (sight.is_codeword_at_sight.ensures sight.if-is_codeword_at_sight.true) copied.copy_front.ensures)
+
+-- ---- any other
+
+abbrev start : After-prepare_finder → Start
+start c = c.before.before.before.before.before.before.before.before.before.before.before
+
+pub prepare_finder-requires : goal.prepare_finder-requires
+prepare_finder-requires c =
+    let s = c.before.before.before.before.before.before.before.before.before.before in
+    side-preparable (plan_in s) (accepted s) left s.requires.wiring_value refl
+
+pub decode_trials-requires : goal.decode_trials-requires
+decode_trials-requires c =
+    let first = c.before.before.before.before.before.before in
+    let s = start first in (
+      record {
+        plan-done = accepted s;
+        left-finds = first.prepare_finder.ensures;
+        right-finds = λ some. absurd (some refl);
+        shared = λ _. c.same.ensures.when_true c.if-same.true;
+      },
+      s.requires.1.1,
+    )
+
+pub prepare_finder-requires-2 : goal.prepare_finder-requires-2
+prepare_finder-requires-2 c =
+    let s = start c.before.before.before.before.before.before in
+    side-preparable (plan_in s) (accepted s) right s.requires.left_code_value refl
+
+pub decode_trials-requires-2 : goal.decode_trials-requires-2
+decode_trials-requires-2 c =
+    let first = c.before.before.before.before.before.before.before.before.before.before.before in
+    let second = c.before.before.before.before in
+    let s = start first in
+    let finds = second.prepare_finder-2.ensures in (
+      record {
+        plan-done = accepted s;
+        left-finds = first.prepare_finder.ensures;
+        right-finds = λ _. finds;
+        shared = λ none. absurd (omega (arith, finds.sized));
+      },
+      s.requires.1.1,
+    )

@@ -1,0 +1,36 @@
+-- `decoder::decode_on` meets its contract: a plan has no more edges than there is room for.
+use mathlib.Core.Path.{◌≡◌}
+use Prim.Native.Nat.{ℕ, ◌*◌, ◌≤◌}
+use native.Mathlib.Omega.{arith}
+use lib.ListN.{length, replicate, length-replicate}
+use borrow.Author.Rules.{rules}
+use Rattle.wiring.specs.Plan.{Plan, plan_of, edge_count, left}
+use Rattle.wiring.proofs.Plans.{plan-fits, plan-few}
+use Rattle.decoder.proofs.Trials.{check-means}
+use Rattle.decoder.proofs.decoding.decode_on.Goals as goal
+use Rattle.decoder.proofs.decoding.decode_on.Goals.{Start}
+
+abbrev plan_in : Start → Plan
+plan_in c = plan_of c.args.left.now c.args.right.now c.args.nl c.args.nr c.args.wiring.now
+
+-- no more edges than there is room for
+edges : (c : Start) → length c.args.wiring.now ≡ 2 * edge_count (plan_in c)
+edges c = let p = check-means _ _ _ _ _ c.requires.ready in (plan-fits (plan_in c) p.plan-done left).sized
+
+few : (c : Start) → length c.args.wiring.now ≤ 2048 → edge_count (plan_in c) ≤ length (replicate {A = ℕ} 1024 0)
+few c l = omega (arith, edges c, length-replicate {A = ℕ} 1024 0)
+
+many : (c : Start) → edge_count (plan_in c) ≤ length (replicate {A = ℕ} 32768 0)
+many c =
+    let p = check-means _ _ _ _ _ c.requires.ready in
+    omega (arith, plan-few (plan_in c) p.plan-done, length-replicate {A = ℕ} 32768 0)
+
+pub decode_placed-requires : goal.decode_placed-requires
+decode_placed-requires c =
+    let s = c.before.before.before.before.before.before.before.before.before.before.before.before.before.before in
+    (s.requires.wiring_value, (s.requires.ready, (few s c.if-wiring.true, s.requires.1.1)))
+
+pub decode_placed-requires-2 : goal.decode_placed-requires-2
+decode_placed-requires-2 c =
+    let s = c.before.before.before.before.before.before.before.before.before.before.before.before.before.before in
+    (s.requires.wiring_value, (s.requires.ready, (many s, s.requires.1.1)))

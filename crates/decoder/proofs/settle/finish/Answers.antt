@@ -1,0 +1,225 @@
+-- `decoder::finish` meets its contract: each sweep of the vertices with news is a sweep of the definition, and its visits are those of the definition.
+-- The loop is left at the first sweep that changes nothing, where the block is tested, or past the limit.
+use mathlib.Core.List.{List}
+use mathlib.Core.Path.{◌≡◌, refl, sym, ◌∙◌}
+use Prim.Native.Nat.{ℕ, ◌+◌, ◌-◌, ◌≤◌, ◌<◌, min}
+use native.Mathlib.Omega.{arith}
+use borrow.Author.Rules.{rules}
+use lib.ListN.{length}
+use Rattle.wiring.specs.Plan.{Plan, plan_of, count_of}
+use Rattle.wiring.specs.declared.side.SideName.{SideName}
+use Rattle.sweeps.specs.Sweep.{turn}
+use Rattle.sweeps.specs.Sweeping.{Ready, NewsSwept}
+use Rattle.decoder.specs.Turns.{Midway, Opened}
+use Rattle.wiring.proofs.Plans.{plan-fits}
+use Rattle.decoder.proofs.VisitCounts.{visits-few, visits-in-few}
+use Rattle.decoder.proofs.Passes.{Begun, turn_two, turn_more, told-sized, midway-told, midway-hears, midway-visits, midway-few, midway-more}
+use Rattle.decoder.proofs.Passes.{midway-settled, midway-lost, midway-never}
+use Rattle.decoder.proofs.settle.finish.Goals as goal
+use Rattle.decoder.proofs.settle.finish.Goals.{After-sweep_turn-here, At-loop-count, Else-opening, Start}
+
+-- ---- the call and the loop's head
+
+abbrev plan_in : Start → Plan
+plan_in c = plan_of c.args.left.now c.args.right.now c.args.nl c.args.nr c.args.wiring.now
+
+abbrev H : Start → ℕ
+H c = c.args.opening.limit
+
+limited : (c : Start) → H c ≤ 4096
+limited c = c.requires.ready.limited
+
+abbrev start : Else-opening → Start
+start c = c.before.before.before.before.before.before.before.before.before
+
+abbrev origin : At-loop-count → Start
+origin c = start c.before
+
+ready : (c : At-loop-count) → Ready (plan_in (origin c)) c.loop-count.left-finder c.loop-count.right-finder
+ready c = c.loop-count.invariant.2 (origin c).requires.wiring_value
+
+-- where the trial of a received block stands
+abbrev At : At-loop-count → List ℕ → Type 0
+At c received =
+    Midway (plan_in (origin c)) received (H (origin c)) c.loop-count.count c.loop-count.sums c.loop-count.visits c.loop-count.kept c.loop-count.block
+
+midway : (c : At-loop-count) (received : List ℕ)
+    → Opened (plan_in (origin c)) received (H (origin c)) (origin c).args.opening (origin c).args.kept.now (origin c).args.block.now → At c received
+midway c received opened = c.loop-count.invariant.1 received (opened.going c.if-opening.false)
+
+abbrev some : At-loop-count → List ℕ
+some c = (origin c).requires.ready.received
+
+one : (c : At-loop-count) → At c (some c)
+one c = midway c (some c) (origin c).requires.ready.opened
+
+begun : (c : At-loop-count) {received : List ℕ} → At c received → Begun (plan_in (origin c)) received
+begun c m = record { plan-done = (ready c).plan-done; block-done = m.begun }
+
+few : (c : At-loop-count) (name : SideName) → count_of (plan_in (origin c)) name ≤ 2048
+few c name = (plan-fits (plan_in (origin c)) (ready c).plan-done name).n-high
+
+-- ---- one more sweep
+
+abbrev head : After-sweep_turn-here → At-loop-count
+head c = c.before.before.before.before.before.before
+
+abbrev block_left : After-sweep_turn-here → List ℕ
+block_left c = c.sweep_turn-here.new.block
+
+abbrev kept_left : After-sweep_turn-here → List ℕ
+kept_left c = c.sweep_turn-here.new.kept
+
+swept : (c : After-sweep_turn-here)
+    → NewsSwept (plan_in (origin (head c))) (turn (head c).loop-count.count) (head c).loop-count.block (head c).loop-count.kept c.sweep_turn-here.result (block_left c) (kept_left c)
+swept c = rw (head c).loop-count.invariant.0 at c.sweep_turn-here.ensures.news_swept
+
+within : (c : After-sweep_turn-here) → (head c).loop-count.count ≤ H (origin (head c))
+within c = c.loop-count-test.true
+
+-- what is lent keeps its length
+left-length : (c : After-sweep_turn-here)
+    → length c.sweep_turn-here.new.left_finder ≡ length (origin (head c)).args.left-finder.now
+left-length c = c.sweep_turn-here.auto.left_finder ∙ (head c).loop-count.invariant.3
+
+right-length : (c : After-sweep_turn-here)
+    → length c.sweep_turn-here.new.right_finder ≡ length (origin (head c)).args.right-finder.now
+right-length c = c.sweep_turn-here.auto.right_finder ∙ (head c).loop-count.invariant.4
+
+block-length : (c : After-sweep_turn-here) → length (block_left c) ≡ length (origin (head c)).args.block.now
+block-length c = c.sweep_turn-here.auto.block ∙ (head c).loop-count.invariant.5
+
+-- the visits so far, and those of one sweep more, are few
+visits-fit : (c : After-sweep_turn-here) → (head c).loop-count.visits + c.sweep_turn-here.result.visits < 18446744073709551616
+visits-fit c =
+    let turning = head c in
+    let m = one turning in
+    let plan = plan_in (origin turning) in
+    omega (
+      arith,
+      m.visited,
+      visits-few plan (some turning) (few turning) (min turning.loop-count.count (H (origin turning))),
+      limited (origin turning),
+      midway-visits (begun turning m) m (swept c),
+      visits-in-few plan (some turning) (few turning) turning.loop-count.count,
+    )
+
+pub returns-then-opening : goal.returns-then-opening
+returns-then-opening c = let s = c.before.before.before.before.before.before.before.before.before in record {
+      still_ready = s.requires.wiring_value;
+      settles = λ received opened. opened.closed c.if-opening.true;
+    }
+
+pub loop-count-init : goal.loop-count-init
+loop-count-init c = (turn_two, λ received m. m, λ r. r, refl, refl, refl)
+
+pub sweep_turn-here-requires : goal.sweep_turn-here-requires
+sweep_turn-here-requires c =
+    let turning = c.before.before.before.before.before in
+    let m = one turning in (
+      ready turning,
+      (record { noted = λ e. (origin turning).requires.1.1 turning.if-opening.false }, rw turning.loop-count.invariant.0 (midway-hears (begun turning m) m)),
+    )
+
+pub all_satisfied-requires : goal.all_satisfied-requires
+all_satisfied-requires c =
+    let sweep = c.before.before.before.before.before.before.before.before.before.before.before.before in
+    (sweep.sweep_turn-here.ensures.still_ready, sweep.sweep_turn-here.ensures.news_swept.listening.reads)
+
+pub shape_of-left_finder-then-all_satisfied : goal.shape_of-left_finder-then-all_satisfied
+shape_of-left_finder-then-all_satisfied c = left-length c.before.before.before.before.before.before.before.before.before.before.before.before.before.before
+
+pub shape_of-right_finder-then-all_satisfied : goal.shape_of-right_finder-then-all_satisfied
+shape_of-right_finder-then-all_satisfied c = right-length c.before.before.before.before.before.before.before.before.before.before.before.before.before.before
+
+pub shape_of-block-then-all_satisfied : goal.shape_of-block-then-all_satisfied
+shape_of-block-then-all_satisfied c = block-length c.before.before.before.before.before.before.before.before.before.before.before.before.before.before
+
+pub returns-then-all_satisfied : goal.returns-then-all_satisfied
+returns-then-all_satisfied c =
+    let sweep = c.before.before.before.before.before.before.before.before.before.before.before.before.before.before in
+    let turning = head sweep in record {
+      still_ready = sweep.sweep_turn-here.ensures.still_ready;
+      settles = λ received opened.
+          let m = midway turning received opened in
+          midway-settled (begun turning m) m (swept sweep) c.if-here-eq0.true (sym c.all_satisfied.ensures ∙ c.if-all_satisfied.true) (within sweep);
+    }
+
+pub overflow_add-result : goal.overflow_add-result
+overflow_add-result c = omega (arith, limited c.before.before.before.before.before.before.before.before.before.before.before.before.before.before.before.before.before.before.before.before.before.before.before.before.before.before.before.before.before.before)
+
+pub add_visits-requires : goal.add_visits-requires
+add_visits-requires c = visits-fit c.before.before.before.before.before.before.before.before.before.before.before.before.before.before
+
+pub shape_of-left_finder-then-here-eq0 : goal.shape_of-left_finder-then-here-eq0
+shape_of-left_finder-then-here-eq0 c = left-length c.before.before.before.before.before.before.before.before.before.before.before.before.before.before.before
+
+pub shape_of-right_finder-then-here-eq0 : goal.shape_of-right_finder-then-here-eq0
+shape_of-right_finder-then-here-eq0 c = right-length c.before.before.before.before.before.before.before.before.before.before.before.before.before.before.before
+
+pub shape_of-block-then-here-eq0 : goal.shape_of-block-then-here-eq0
+shape_of-block-then-here-eq0 c = block-length c.before.before.before.before.before.before.before.before.before.before.before.before.before.before.before
+
+pub returns-then-here-eq0 : goal.returns-then-here-eq0
+returns-then-here-eq0 c =
+    let sweep = c.before.before.before.before.before.before.before.before.before.before.before.before.before.before.before in
+    let turning = head sweep in
+    let test = c.before in record {
+      still_ready = sweep.sweep_turn-here.ensures.still_ready;
+      settles = λ received opened.
+          let m = midway turning received opened in
+          midway-lost (begun turning m) m (swept sweep) c.if-here-eq0.true (sym test.all_satisfied.ensures ∙ test.if-all_satisfied.false) (within sweep)
+          c.add_visits.ensures;
+    }
+
+pub note-requires : goal.note-requires
+note-requires c =
+    let sweep = c.before.before.before.before.before.before.before.before.before in
+    let turning = head sweep in
+    let m = one turning in
+    record {
+      sums_len = told-sized (begun turning m) (midway-told (begun turning m) m);
+      changed_bound = midway-few (begun turning m) m (swept sweep);
+    }
+
+pub add_visits-visits-requires : goal.add_visits-visits-requires
+add_visits-visits-requires c = visits-fit c.before.before.before.before.before.before.before.before.before.before
+
+pub overflow_add-count : goal.overflow_add-count
+overflow_add-count c = let sweep = c.before.before.before.before.before.before.before.before.before.before.before.before in omega (arith, within sweep, limited (origin (head sweep)))
+
+pub loop-count-smaller : goal.loop-count-smaller
+loop-count-smaller c = let sweep = c.before.before.before.before.before.before.before.before.before.before.before.before in omega (arith, within sweep)
+
+pub loop-count-preserved : goal.loop-count-preserved
+loop-count-preserved c =
+    let sweep = c.before.before.before.before.before.before.before.before.before.before.before.before in
+    let turning = head sweep in (
+      c.other_side-side.ensures ∙ turn_more turning.loop-count.count turning.loop-count.invariant.0,
+      λ received first.
+          let m = turning.loop-count.invariant.1 received first in
+          midway-more (begun turning m) m (swept sweep) c.if-here-eq0.false c.note.ensures c.add_visits-visits.ensures,
+      λ first. sweep.sweep_turn-here.ensures.still_ready,
+      left-length sweep,
+      right-length sweep,
+      block-length sweep,
+    )
+
+pub overflow_add-result-2 : goal.overflow_add-result-2
+overflow_add-result-2 c = omega (arith, limited c.before.before.before.before.before.before.before.before.before.before.before)
+
+pub shape_of-left_finder : goal.shape_of-left_finder
+shape_of-left_finder c = c.loop-count.invariant.3
+
+pub shape_of-right_finder : goal.shape_of-right_finder
+shape_of-right_finder c = c.loop-count.invariant.4
+
+pub shape_of-block : goal.shape_of-block
+shape_of-block c = c.loop-count.invariant.5
+
+pub returns : goal.returns
+returns c =
+    let turning = c.before in record {
+      still_ready = ready turning;
+      settles = λ received opened. let m = midway turning received opened in midway-never (begun turning m) m c.loop-count-test.false;
+    }

@@ -1,0 +1,15 @@
+-- `finder::search` meets its contract: the part that is lent on holds the listed codewords.
+use mathlib.Core.Path.{ap, ◌∙◌}
+use Prim.Native.Nat.{◌+◌, ◌-◌}
+use borrow.Author.Rules.{rules}
+use native.Mathlib.Omega.{arith}
+use Rattle.inner_code.specs.Reduction.{step_to}
+use Rattle.finder.proofs.Finding.{search-part}
+use Rattle.finder.proofs.finder.search.Goals as goal
+
+pub returns : goal.returns
+returns c =
+    let counted = c.before.before in
+    let args = counted.args in
+    c.nearest_listed.ensures
+    ∙ ap (step_to args.word) (search-part args.finder.now (2592 + counted.widened-end.result - 2592) args.word (omega arith) (omega arith))

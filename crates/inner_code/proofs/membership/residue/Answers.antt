@@ -1,0 +1,39 @@
+-- `inner_code::residue` meets its contract: after i turns `left` is the word reduced by the first i rows.
+use mathlib.Core.Path.{◌≡◌, ap, ◌∙◌}
+use mathlib.Core.Logic.{⊎_elim}
+use Prim.Native.Nat.{ℕ, ◌≤◌, ◌-◌, min}
+use borrow.Author.Rules.{rules}
+use native.Mathlib.Omega.{arith}
+use Rattle.bits.specs.Window.{at}
+use Rattle.inner_code.specs.Reduction.{reduced_by}
+use Rattle.inner_code.proofs.EchelonForm.{reduced_by-put, reduced_by-kept}
+use Rattle.inner_code.proofs.membership.residue.Reads as reads
+use Rattle.inner_code.proofs.membership.residue.Lts as lts
+use Rattle.inner_code.proofs.membership.residue.Goals as goal
+use Rattle.inner_code.proofs.membership.residue.Goals.{else-put-left, then-put-left}
+
+pub returns-then-i-eq11 : goal.returns-then-i-eq11
+returns-then-i-eq11 c =
+    let last : c.loop-i.i ≡ min c.args.count 11 = omega arith in
+    c.loop-i.invariant.2
+    ∙ ap (λ (n : ℕ). reduced_by (at c.args.basis.now) n c.args.word) last
+
+pub loop-i-preserved : goal.loop-i-preserved
+unfolding at
+loop-i-preserved c =
+    let turn = c.before.before.before.before in
+    let before = turn.loop-i in
+    let args = turn.args in
+    let basis = at args.basis.now in (
+      search rules,
+      search rules,
+      (elim c.if-put-left.branch [
+          | then-put-left w ↦ w.1 ∙ reduced_by-put basis before.i args.word before.left before.invariant.2 w.if-put-left.true
+          | else-put-left w ↦ w.1 ∙ reduced_by-kept basis before.i args.word before.left before.invariant.2 w.if-put-left.false
+        ]),
+    )
+
+pub returns : goal.returns
+returns c =
+    let last : c.loop-i.i ≡ min c.args.count 11 = omega arith in
+    c.loop-i.invariant.2 ∙ ap (λ (n : ℕ). reduced_by (at c.args.basis.now) n c.args.word) last

@@ -1,0 +1,28 @@
+-- `inner_code::list_and_search` meets its contract: the listed words are the codewords.
+use mathlib.Core.Path.{◌≡◌, ap, ◌∙◌}
+use Prim.Native.Nat.{ℕ, ◌-◌}
+use borrow.Author.Rules.{rules}
+use native.Mathlib.Omega.{arith}
+use lib.ListN.{length, take}
+use Rattle.bits.specs.Window.{at}
+use Rattle.inner_code.specs.Sheet.{row_of}
+use Rattle.inner_code.specs.Reduction.{searched, step_to}
+use Rattle.inner_code.proofs.Listings.{lists-fits, front-searched}
+use Rattle.inner_code.proofs.nearest.list_and_search.Goals as goal
+
+pub slice_bounds-nearest_listed-end : goal.slice_bounds-nearest_listed-end
+slice_bounds-nearest_listed-end c =
+    let listing = c.before.before.before in
+    omega (arith, lists-fits _ _ listing.list_codewords-count.ensures listing.requires)
+
+pub returns : goal.returns
+returns c =
+    let listing = c.before.before.before.before.before in
+    let start = listing.before.before.before.before in
+    let args = start.args in
+    let words = listing.list_codewords-count.new.words in
+    let all : listing.list_codewords-count.result - 0 ≡ listing.list_codewords-count.result = omega arith in
+    c.nearest_listed.ensures
+    ∙ ap (step_to args.word)
+    (ap (λ (n : ℕ). searched (at (take n words)) (length (take n words)) args.word) all
+    ∙ front-searched (row_of args.sheet.now) args.k listing.list_codewords-count.ensures start.requires args.word)

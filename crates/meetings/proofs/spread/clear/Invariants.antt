@@ -1,0 +1,14 @@
+use mathlib.Core.Path.{◌≡◌}
+use Prim.Native.Nat.{◌-◌, ◌≤◌}
+use borrow.Author.Rules.{rules}
+use native.Mathlib.Omega.{arith}
+use lib.ListN.{length, length-set}
+use Rattle.meetings.specs.Walk.{Fresh}
+use Rattle.meetings.proofs.Walks.{fresh-none, fresh-one-more}
+use Rattle.meetings.proofs.spread.clear.Given as goal
+
+abbrev pub invariant-loop-w : goal.invariant-loop-w
+invariant-loop-w l = (l.w ≤ l.n) × (length l.counts ≡ length l.initial.counts) × Fresh l.w l.counts
+
+abbrev pub decreases-loop-w : goal.decreases-loop-w
+decreases-loop-w l = l.n - l.w

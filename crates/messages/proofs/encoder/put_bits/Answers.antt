@@ -1,0 +1,25 @@
+-- `messages::put_bits` meets its contract: after e turns the first e bits are put.
+use borrow.Author.Rules.{rules}
+use mathlib.Core.Path.{◌≡◌, refl, ◌∙◌}
+use Prim.Native.Nat.{◌-◌, ◌≤◌}
+use native.Mathlib.Omega.{arith}
+use lib.ListN.{length}
+use Rattle.messages.specs.Columns.{BitsPut}
+use Rattle.messages.proofs.Written.{put-none, put-one-more, put_last}
+use Rattle.messages.proofs.encoder.put_bits.Goals as goal
+
+pub loop-e-init : goal.loop-e-init
+loop-e-init c = (search rules, refl, put-none _ _ _)
+
+pub loop-e-preserved : goal.loop-e-preserved
+loop-e-preserved c =
+    let put = c.before.before in
+    let turn = put.before.before.before.before in
+    let before = turn.loop-e in (
+      search rules,
+      put.put_bit.auto.bytes ∙ before.invariant.1,
+      put-one-more _ _ _ _ _ _ _ before.invariant.2 put.parity_of.ensures put.put_bit.ensures,
+    )
+
+pub returns : goal.returns
+returns c = put_last _ _ _ _ _ _ c.loop-e.invariant.2 (omega arith)

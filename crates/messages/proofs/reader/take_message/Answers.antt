@@ -1,0 +1,25 @@
+-- `messages::take_message` meets its contract: it refuses an output that is too short, or fills its front with the bits read.
+use borrow.Author.Rules.{rules}
+use mathlib.Core.Path.{ap}
+use Prim.Native.Nat.{ℕ, ◌+◌, ◌/◌}
+use native.Mathlib.Omega.{arith}
+use Rattle.wiring.specs.Block.{block_bytes}
+use Rattle.messages.proofs.LiveRows.{live-le}
+use Rattle.messages.proofs.Outcomes.{taken-short, taken-whole}
+use Rattle.messages.proofs.reader.take_message.Goals as goal
+
+pub overflow_add-bytes : goal.overflow_add-bytes
+overflow_add-bytes c = let args = c.args in omega (arith, c.count_live.ensures, live-le args.columns.now args.edges)
+
+pub returns-then-output-bytes : goal.returns-then-output-bytes
+unfolding block_bytes
+returns-then-output-bytes c = taken-short _ _ _ _ _ (ap (λ (x : ℕ). (x + 7) / 8) c.count_live.ensures) c.if-output-bytes.true
+
+pub returns : goal.returns
+unfolding block_bytes
+returns c =
+    let took = c.before.before in
+    let cleared = took.before.before.before.before in
+    let fits = cleared.before.before in
+    taken-whole _ _ _ _ _ (ap (λ (x : ℕ). (x + 7) / 8) fits.count_live.ensures) _ _ fits.if-output-bytes.false
+    cleared.clear.ensures took.take_bits.ensures

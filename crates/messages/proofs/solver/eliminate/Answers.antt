@@ -1,0 +1,69 @@
+-- `messages::eliminate` meets its contract: after m turns the first m checks of the side are done.
+use borrow.Author.Rules.{rules}
+use mathlib.Core.Logic.{⊎_elim}
+use mathlib.Core.Path.{◌≡◌, ap, ◌∙◌}
+use Prim.Native.Nat.{◌-◌, ◌≤◌}
+use native.Mathlib.Nat.{div-add-mod'}
+use native.Mathlib.Omega.{arith}
+use lib.ListN.{length}
+use Rattle.bits.specs.Bit.{digit}
+use Rattle.messages.specs.Columns.{Eliminated}
+use Rattle.messages.proofs.Pivots.{check-digit-lt, check-within, made-unused}
+use Rattle.messages.proofs.Solving.{eliminated-none, eliminated-one-more}
+use Rattle.messages.proofs.solver.eliminate.Goals as goal
+use Rattle.messages.proofs.solver.eliminate.Goals.{After-unit_residues, At-loop-m, Start, else-used-digit-eq1, then-used-digit-eq1}
+
+abbrev residued : At-loop-m → After-unit_residues
+residued c = c.before.before.before.before
+
+abbrev start : At-loop-m → Start
+start c = (residued c).before.before.before.before.before.before
+
+pub loop-m-init : goal.loop-m-init
+loop-m-init c = (search rules, search rules, eliminated-none _ _ _)
+
+pub overflow_cast-digit : goal.overflow_cast-digit
+overflow_cast-digit c = omega (arith, check-digit-lt (start c.before.before).requires.fitted c.loop-m.m)
+
+pub overflow_shr-used : goal.overflow_shr-used
+overflow_shr-used c = check-digit-lt (start c.before.before).requires.fitted c.loop-m.m
+
+pub overflow_mul-base : goal.overflow_mul-base
+overflow_mul-base c =
+    let turn = c.before.before.before.before.before in
+    omega (arith, div-add-mod' turn.loop-m.m (start turn).args.code.d)
+
+pub put_check-requires : goal.put_check-requires
+put_check-requires c =
+    let turn = c.before.before.before.before.before.before.before in
+    let (fits, (even, (permuted, (short, sized)))) = (start turn).requires in record {
+      within = check-within fits even permuted _ turn.loop-m.m (omega arith) short;
+      edges_bound = short;
+      residues_len = (residued turn).unit_residues.auto.residues;
+      columns_len = turn.loop-m.invariant.1;
+    }
+
+pub loop-m-preserved : goal.loop-m-preserved
+unfolding digit
+loop-m-preserved c =
+    let turn = c.before.before.before in
+    let before = turn.loop-m in
+    let (fits, (even, (permuted, (short, sized)))) = (start turn).requires in
+    let more = eliminated-one-more _ _ _ fits even permuted _ (residued turn).unit_residues.ensures before.m (omega arith) _ before.invariant.2 in
+    (elim c.if-used-digit-eq1.branch [
+          | then-used-digit-eq1 w ↦ (
+      omega arith,
+      ap length w.8 ∙ w.5.kept.1.1.1.1.1.0 ∙ before.invariant.1,
+      rw w.8 (more _ w.5.ensures),
+    )
+          | else-used-digit-eq1 w ↦ (
+      omega arith,
+      ap length w.1 ∙ before.invariant.1,
+      rw w.1 (more _ (made-unused _ short _ _ _ _ _ _ turn.used_digits-used.ensures w.if-used-digit-eq1.false)),
+    )
+        ])
+
+pub returns : goal.returns
+returns c =
+    let end : c.loop-m.m ≡ (start c.before).args.edges = omega arith in
+    rw end at c.loop-m.invariant.2

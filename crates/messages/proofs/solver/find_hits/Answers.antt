@@ -1,0 +1,67 @@
+-- `messages::find_hits` meets its contract: after i turns the set has the rows that fail the check on the first i edges of the vertex.
+use borrow.Author.Rules.{rules}
+use mathlib.Core.Logic.{⊎_elim}
+use mathlib.Core.Path.{◌≡◌, sym, ap, ◌∙◌}
+use Prim.Native.Nat.{◌-◌, ◌≤◌}
+use native.Mathlib.Omega.{arith}
+use lib.ListN.{length}
+use Rattle.bits.specs.Bit.{digit}
+use Rattle.messages.specs.Columns.{FailSet}
+use Rattle.messages.proofs.StoredRows.{length-no_rows}
+use Rattle.messages.proofs.Pivots.{hits-none, hits-put, hits-kept}
+use Rattle.messages.proofs.solver.find_hits.Goals as goal
+use Rattle.messages.proofs.solver.find_hits.Goals.{After-slice_known-1, At-loop-i, Start, else-residues-i-eq1, then-residues-i-eq1}
+
+abbrev called : After-slice_known-1 → Start
+called c = c.before.before.before.before
+
+abbrev start : At-loop-i → Start
+start c = called c.before
+
+pub loop-i-init : goal.loop-i-init
+loop-i-init c =
+    let empty = (called c).requires.hits_value in
+    (search rules, ap length empty ∙ length-no_rows, rw empty (hits-none _ _ _ _))
+
+pub overflow_cast-digit : goal.overflow_cast-digit
+overflow_cast-digit c = omega (arith, (start c.before.before).requires.within.digit_lt)
+
+pub overflow_shr-residues : goal.overflow_shr-residues
+overflow_shr-residues c = (start c.before.before).requires.within.digit_lt
+
+pub overflow_add-base : goal.overflow_add-base
+overflow_add-base c = omega (arith, (start c.before.before.before).requires.within.sized)
+
+pub bit_of-requires : goal.bit_of-requires
+bit_of-requires c = omega (arith, (start c.before.before.before).requires.within.sized)
+
+pub add_column-requires : goal.add_column-requires
+add_column-requires c =
+    let bit = c.before in
+    let turn = bit.before.before.before.before in
+    omega (arith, bit.bit_of.ensures, (start turn).requires.within.bit-lt turn.loop-i.i (omega arith))
+
+pub loop-i-preserved : goal.loop-i-preserved
+unfolding digit
+loop-i-preserved c =
+    let before = c.loop-i in
+    (elim c.if-residues-i-eq1.branch [
+          | then-residues-i-eq1 w ↦ (
+      omega arith,
+      ap length w.6 ∙ w.3.kept.1.1.0 ∙ before.invariant.1,
+      rw w.6 (hits-put _ _ _ _ _ _ before.invariant.2 _ _ w.if-residues-i-eq1.true w.1.ensures w.3.ensures),
+    )
+          | else-residues-i-eq1 w ↦ (
+      omega arith,
+      ap length w.1 ∙ before.invariant.1,
+      rw w.1 (hits-kept _ _ _ _ _ _ before.invariant.2 w.if-residues-i-eq1.false),
+    )
+        ])
+
+pub shape_of-hits : goal.shape_of-hits
+shape_of-hits c = c.loop-i.invariant.1 ∙ sym (ap length (start c.before).requires.hits_value ∙ length-no_rows)
+
+pub returns : goal.returns
+returns c =
+    let end : c.loop-i.i ≡ (start c.before).args.d = omega arith in
+    rw end at c.loop-i.invariant.2

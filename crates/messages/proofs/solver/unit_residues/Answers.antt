@@ -1,0 +1,24 @@
+-- `messages::unit_residues` meets its contract: after i turns the entries below i are filled.
+use mathlib.Core.Path.{◌≡◌}
+use Prim.Native.Nat.{ℕ, ◌-◌, ◌^◌, ◌≤◌, ◌<◌, min}
+use native.Mathlib.Omega.{arith}
+use borrow.Author.Rules.{rules}
+use lib.ListN.{length, get_or, length-set}
+use Rattle.bits.specs.Window.{at}
+use Rattle.inner_code.specs.Reduction.{reduced_by}
+use Rattle.bits.proofs.Windows.{shifted_one}
+use Rattle.messages.proofs.Solving.{residues-one-more, residues-last}
+use Rattle.messages.proofs.solver.unit_residues.Goals as goal
+
+pub loop-i-preserved : goal.loop-i-preserved
+loop-i-preserved c =
+    let before = c.loop-i in
+    let args = c.args in (
+      search rules,
+      simp length-set before.invariant.1,
+      residues-one-more args.basis.now args.k args.d before.i _ c.residue.result before.residues before.invariant.2 (omega arith)
+          (shifted_one (args.d - 1 - before.i) 16 (omega arith)) c.residue.ensures,
+    )
+
+pub returns : goal.returns
+returns c = residues-last _ _ _ _ _ c.loop-i.invariant.2 (omega arith)

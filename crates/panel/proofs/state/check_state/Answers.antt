@@ -1,0 +1,45 @@
+-- `panel::check_state` meets its contract: a state that has the bytes before a block is refused or passes as its plan and then its block are.
+use mathlib.Core.Path.{sym, ap₂, ◌∙◌}
+use native.Mathlib.Omega.{arith}
+use borrow.Author.Rules.{rules}
+use Rattle.inner_code.proofs.Replies.{and_then-passed, and_then-refused}
+use Rattle.wiring.specs.Block.{block_check}
+use Rattle.wiring.specs.Plan.{Plan, plan_of}
+use Rattle.wiring.proofs.Permutation.{fitted-edges}
+use Rattle.wiring.proofs.Plans.{PlanAccepted, plan-accepted, plan-refused, accepted-edges}
+use Rattle.panel.proofs.States.{block-lent}
+use Rattle.panel.proofs.Answers.{state-long}
+use Rattle.panel.proofs.state.check_state.Goals as goal
+use Rattle.panel.proofs.state.check_state.Goals.{After-check_plan-plan, After-struct_known-1, Start}
+
+abbrev checked : After-struct_known-1 → After-check_plan-plan
+checked c = c.before.before.before
+
+abbrev start : After-check_plan-plan → Start
+start c = c.before.before.before.before.before
+
+abbrev plan_in : Start → Plan
+plan_in c = plan_of c.args.left.now c.args.right.now c.args.nl c.args.nr c.args.wiring.now
+
+plan : (c : After-struct_known-1) → PlanAccepted (plan_in (start (checked c))) (checked c).check_plan-plan.result
+plan c = plan-accepted _ _ (checked c).check_plan-plan.ensures c.enum_told-1.given.1
+
+pub overflow_mul-plan : goal.overflow_mul-plan
+overflow_mul-plan c =
+    let p = plan c in
+    omega (arith, accepted-edges p, fitted-edges p.plan-wired.left-fits)
+
+pub returns-in-Refused : goal.returns-in-Refused
+returns-in-Refused c =
+    let asked = c.before.before.before in
+    let s = start asked in
+    let refuses = plan-refused (plan_in s) _ asked.check_plan-plan.ensures _ c.checked.given.1 in
+    sym (state-long (plan_in s) s.args.state.now s.requires ∙ and_then-refused _ _ _ _ refuses)
+
+pub returns-in-Passed : goal.returns-in-Passed
+returns-in-Passed c =
+    let told = c.before.before in
+    let p = plan told in
+    let s = start (checked told) in
+    c.check_block.ensures ∙ ap₂ block_check (accepted-edges p) (block-lent s.args.state.now)
+    ∙ sym (state-long (plan_in s) s.args.state.now s.requires ∙ and_then-passed _ _ _ p.plan-done)

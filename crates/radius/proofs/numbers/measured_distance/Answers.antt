@@ -1,0 +1,25 @@
+-- `radius::measured_distance` meets its contract: the listed words are the codewords, and the fewest ones of these are the distance.
+use mathlib.Core.Path.{◌≡◌, ap, ◌∙◌}
+use Prim.Native.Nat.{ℕ, ◌-◌}
+use borrow.Author.Rules.{rules}
+use native.Mathlib.Omega.{arith}
+use lib.ListN.{length, take}
+use Rattle.bits.specs.Window.{at}
+use Rattle.inner_code.specs.Reduction.{fewest_ones}
+use Rattle.inner_code.specs.Sheet.{row_of}
+use Rattle.inner_code.proofs.Listings.{words-most, lists-fits}
+use Rattle.radius.proofs.PlanNumbers.{listed-distance}
+use Rattle.radius.proofs.numbers.measured_distance.Goals as goal
+
+pub slice_bounds-distance-end : goal.slice_bounds-distance-end
+slice_bounds-distance-end c = omega (arith, lists-fits _ _ c.list_codewords-count.ensures (words-most _))
+
+pub returns : goal.returns
+returns c =
+    let listed = c.before.before.before.before in
+    let args = listed.args in
+    let words = listed.list_codewords-count.new.words in
+    let all : listed.list_codewords-count.result - 0 ≡ listed.list_codewords-count.result = omega arith in
+    c.distance.ensures
+    ∙ ap (λ (m : ℕ). fewest_ones (at (take m words)) (length (take m words))) all
+    ∙ listed-distance (row_of args.sheet.now) args.k listed.list_codewords-count.ensures (words-most args.k)

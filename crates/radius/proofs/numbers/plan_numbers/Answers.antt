@@ -1,0 +1,31 @@
+-- `radius::plan_numbers` meets its contract: a refusal of the plan's check is handed on, and an accepted plan's numbers are measured.
+use mathlib.Core.Path.{sym}
+use borrow.Author.Rules.{rules}
+use Rattle.wiring.specs.Plan.{Plan, plan_of}
+use Rattle.wiring.proofs.Plans.{PlanAccepted, plan-accepted, plan-refused}
+use Rattle.radius.proofs.PlanNumbers.{numbers-refused, numbers-answered}
+use Rattle.radius.proofs.numbers.plan_numbers.Goals as goal
+use Rattle.radius.proofs.numbers.plan_numbers.Goals.{After-check_plan-plan, In-Passed, Start}
+
+abbrev start : After-check_plan-plan → Start
+start c = c.before.before.before.before
+
+abbrev plan_in : After-check_plan-plan → Plan
+plan_in c =
+    let args = (start c).args in
+    plan_of args.left.now args.right.now args.nl args.nr args.wiring.now
+
+abbrev checked : In-Passed → After-check_plan-plan
+checked c = c.before.before
+
+plan : (c : In-Passed) → PlanAccepted (plan_in (checked c)) (checked c).check_plan-plan.result
+plan c = plan-accepted _ _ (checked c).check_plan-plan.ensures c.enum_told-1.given.1
+
+pub measured_numbers-requires : goal.measured_numbers-requires
+measured_numbers-requires c = (plan c).plan-done
+
+pub returns-in-Refused : goal.returns-in-Refused
+returns-in-Refused c = sym (numbers-refused _ _ _ (plan-refused _ _ c.check_plan-plan.ensures _ c.checked.given.1))
+
+pub returns-in-Passed : goal.returns-in-Passed
+returns-in-Passed c = numbers-answered _ (plan c.before).plan-done _ c.measured_numbers.ensures

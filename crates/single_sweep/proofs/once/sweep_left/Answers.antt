@@ -1,0 +1,56 @@
+-- `single_sweep::sweep_left` meets its contract: the finder is prepared for the side's sheet, and the places of all edges are noted.
+use mathlib.Core.List.{[]}
+use mathlib.Core.Path.{◌≡◌, refl}
+use Prim.Native.Nat.{ℕ}
+use native.Mathlib.Omega.{arith}
+use borrow.Author.Rules.{rules}
+use lib.ListN.{length-replicate}
+use Rattle.inner_code.specs.Reply.{done}
+use Rattle.wiring.specs.Plan.{Plan, plan_of, left, right}
+use Rattle.wiring.specs.Wiring.{plan_check}
+use Rattle.wiring.proofs.Plans.{plan-few, plan-entries, plan-permuted}
+use Rattle.sweeps.proofs.Visiting.{side-preparable}
+use Rattle.single_sweep.proofs.Answers.{check-accepted}
+use Rattle.single_sweep.proofs.TurnedBits.{across-left}
+use Rattle.single_sweep.proofs.once.sweep_left.Goals as goal
+use Rattle.single_sweep.proofs.once.sweep_left.Goals.{Start}
+
+abbrev plan_in : Start → Plan
+plan_in c = plan_of c.args.left.now c.args.right.now c.args.nl c.args.nr c.args.wiring.now
+
+accepted : (c : Start) → plan_check (plan_in c) ≡ done []
+accepted c = check-accepted (plan_in c) _ c.requires.wiring_value
+
+pub prepare_finder-requires : goal.prepare_finder-requires
+prepare_finder-requires c =
+    let first = c.before.before.before.before.before.before.before in
+    side-preparable (plan_in first) (accepted first) left first.requires.block_value refl
+
+pub note_places-requires : goal.note_places-requires
+note_places-requires c =
+    let first = c.before.before.before.before.before.before.before.before.before.before in
+    let entries = plan-entries (plan_in first) (accepted first) in
+    let few = plan-few (plan_in first) (accepted first) in
+    record {
+      permuted = plan-permuted (plan_in first) (accepted first);
+      wiring_len_bound = omega (arith, entries, few);
+      wiring_in_bounds = omega (arith, entries, few, length-replicate {A = ℕ} 32768 0);
+    }
+
+pub sweep_told-requires : goal.sweep_told-requires
+sweep_told-requires c =
+    let first = c.before.before.before.before.before.before.before.before.before.before.before.before.before.before.before in
+    let prepares = c.before.before.before.before.before.before.before in
+    let notes = c.before.before.before.before in (
+      first.requires.wiring_value,
+      (
+        first.requires.block_value,
+        (
+          first.requires.1.1,
+          (
+            prepares.prepare_finder.ensures,
+            across-left (plan_in first) (accepted first) notes.note_places.ensures.places_noted,
+          ),
+        ),
+      ),
+    )

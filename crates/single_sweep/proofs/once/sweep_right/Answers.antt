@@ -1,0 +1,40 @@
+-- `single_sweep::sweep_right` meets its contract: the finder is prepared for the side's sheet; no places are needed.
+use mathlib.Core.List.{[]}
+use mathlib.Core.Path.{◌≡◌, refl}
+use borrow.Author.Rules.{rules}
+use Rattle.inner_code.specs.Reply.{done}
+use Rattle.wiring.specs.Plan.{Plan, plan_of, left, right}
+use Rattle.wiring.specs.Wiring.{plan_check}
+use Rattle.sweeps.proofs.Visiting.{side-preparable}
+use Rattle.single_sweep.proofs.Answers.{check-accepted}
+use Rattle.single_sweep.proofs.TurnedBits.{across-right}
+use Rattle.single_sweep.proofs.once.sweep_right.Goals as goal
+use Rattle.single_sweep.proofs.once.sweep_right.Goals.{Start}
+
+abbrev plan_in : Start → Plan
+plan_in c = plan_of c.args.left.now c.args.right.now c.args.nl c.args.nr c.args.wiring.now
+
+accepted : (c : Start) → plan_check (plan_in c) ≡ done []
+accepted c = check-accepted (plan_in c) _ c.requires.wiring_value
+
+pub prepare_finder-requires : goal.prepare_finder-requires
+prepare_finder-requires c =
+    let first = c.before.before.before.before.before.before.before in
+    side-preparable (plan_in first) (accepted first) right first.requires.1.1 refl
+
+pub sweep_told-requires : goal.sweep_told-requires
+sweep_told-requires c =
+    let first = c.before.before.before.before.before.before.before.before.before.before.before.before in
+    let prepares = c.before.before.before.before in (
+      first.requires.wiring_value,
+      (
+        first.requires.block_value,
+        (
+          first.requires.1.1,
+          (
+            prepares.prepare_finder.ensures,
+            across-right (plan_in first) (accepted first),
+          ),
+        ),
+      ),
+    )

@@ -1,0 +1,15 @@
+use borrow.Author.Rules.{rules}
+use Prim.Native.Nat.{ℕ, ◌-◌, ◌%◌, ◌≤◌}
+use mathlib.Core.Path.{◌≡◌, sym, ap, ◌∙◌}
+use native.Mathlib.Omega.{arith}
+use lib.ListN.{length}
+use Rattle.spans.specs.Spans.{pair_count}
+use Rattle.spans.specs.Walking.{pairs_made}
+use Rattle.spans.proofs.Filling.{pairs_made-zero, pairs_made-next, pairs_made-filled, length-pairs_made}
+use Rattle.spans.proofs.fill.Given as goal
+
+abbrev pub invariant-loop-j : goal.invariant-loop-j
+invariant-loop-j l = (l.j ≤ l.pairs) × (l.block ≡ pairs_made (l.value % 2) l.lost l.j l.initial.block)
+
+abbrev pub decreases-loop-j : goal.decreases-loop-j
+decreases-loop-j l = l.pairs - l.j

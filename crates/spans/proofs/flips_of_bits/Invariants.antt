@@ -1,0 +1,14 @@
+use borrow.Author.Rules.{rules}
+use Prim.Native.Nat.{◌+◌, ◌-◌, ◌≤◌, max}
+use mathlib.Core.Path.{◌≡◌, sym, ap₂, ◌∙◌}
+use native.Mathlib.Omega.{arith}
+use lib.Bits.{bit_xor}
+use Rattle.spans.specs.Walking.{flips_between}
+use Rattle.spans.proofs.Gaps.{between_none, between-end, between_le, between-one-more}
+use Rattle.spans.proofs.flips_of_bits.Given as goal
+
+abbrev pub invariant-loop-i : goal.invariant-loop-i
+invariant-loop-i l = (l.from ≤ l.i) × (l.i ≤ max l.from l.to) × (l.count ≡ flips_between l.a l.b l.from l.i)
+
+abbrev pub decreases-loop-i : goal.decreases-loop-i
+decreases-loop-i l = l.to - l.i

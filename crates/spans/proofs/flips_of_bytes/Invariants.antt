@@ -1,0 +1,16 @@
+use borrow.Author.Rules.{rules}
+use Prim.Native.Nat.{ℕ, ◌+◌, ◌-◌, ◌*◌, ◌≤◌}
+use mathlib.Core.Path.{◌≡◌, sym, ap, ◌∙◌}
+use native.Mathlib.Omega.{arith}
+use lib.Bits.{bit_xor}
+use lib.Count.{ones}
+use lib.ListN.{get_or}
+use Rattle.spans.specs.Walking.{flips_between}
+use Rattle.spans.proofs.Gaps.{between_none, between_le, between-byte-more}
+use Rattle.spans.proofs.flips_of_bytes.Given as goal
+
+abbrev pub invariant-loop-i : goal.invariant-loop-i
+invariant-loop-i l = (l.first ≤ l.i) × (l.i ≤ l.last) × (l.count ≡ flips_between l.a l.b (8 * l.first) (8 * l.i))
+
+abbrev pub decreases-loop-i : goal.decreases-loop-i
+decreases-loop-i l = l.last - l.i

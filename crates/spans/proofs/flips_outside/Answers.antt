@@ -1,0 +1,88 @@
+-- `spans::flips_outside` meets its contract: after j turns the gaps before the first j pairs are counted, and `reach` is the farthest end of
+-- these pairs. The count is at most that end, so no sum wraps.
+use borrow.Author.Rules.{rules}
+use Prim.Native.Nat.{ℕ, ◌+◌, ◌-◌, ◌/◌, ◌≤◌, ◌<◌}
+use mathlib.Core.Logic.{⊎_elim}
+use mathlib.Core.Path.{◌≡◌, sym, ap, ap₂, ◌∙◌}
+use native.Mathlib.Omega.{arith}
+use lib.ListN.{length}
+use Rattle.spans.specs.Spans.{end_of}
+use Rattle.spans.specs.Walking.{flips_between, reach, flips_in_gaps}
+use Rattle.spans.proofs.Filling.{end_is}
+use Rattle.spans.proofs.Gaps.{between_le, reach-zero, reach-farther, reach-stays, gaps-zero, gaps-one-more, gaps-le, around-is}
+use Rattle.spans.proofs.flips_outside.Goals as goal
+use Rattle.spans.proofs.flips_outside.Goals.{After-flips_between-count, At-loop-j, Start, else-reach-end, then-reach-end}
+
+pub loop-j-init : goal.loop-j-init
+loop-j-init c =
+    let args = c.args in
+    (search rules, sym (reach-zero args.lost.now), search rules, sym (gaps-zero args.lost.now args.a.now args.b.now))
+
+abbrev start : At-loop-j → Start
+start c = c.before.before.before.before
+
+abbrev head : After-flips_between-count → At-loop-j
+head c = c.before.before.before.before
+
+-- the count with one more gap
+counted : (c : After-flips_between-count)
+    → let args = (start (head c)).args in
+    (head c).loop-j.count + c.flips_between-count.result ≡ flips_in_gaps args.lost.now args.a.now args.b.now ((head c).loop-j.j + 1)
+counted c =
+    let args = (start (head c)).args in
+    let lost = args.lost.now in
+    ap₂ ◌+◌ (head c).loop-j.invariant.3
+    (c.flips_between-count.ensures
+    ∙ ap₂ (flips_between args.a.now args.b.now) (head c).loop-j.invariant.1 c.start_of_lem.ensures.0)
+    ∙ sym (gaps-one-more lost args.a.now args.b.now (head c).loop-j.j)
+
+pub overflow_add-count : goal.overflow_add-count
+overflow_add-count c =
+    let args = (start (head c)).args in
+    let turn = (head c).loop-j in
+    omega (
+      arith,
+      gaps-le args.lost.now args.a.now args.b.now turn.j,
+      c.flips_between-count.ensures,
+      between_le args.a.now args.b.now turn.reach c.start_of_lem.result,
+    )
+
+pub loop-j-preserved : goal.loop-j-preserved
+loop-j-preserved c =
+    let read = c.before in
+    let turn = (head read).loop-j in
+    let lost = (start (head read)).args.lost.now in
+    let begins = read.start_of_lem.ensures in
+    let size = read.length_of.ensures in
+    let end : read.start_of_lem.result + read.length_of.result ≡ end_of lost turn.j =
+    omega (arith, begins.0, size.0, end_is lost turn.j) in (
+      search rules,
+      (elim c.if-reach-end.branch [
+          | then-reach-end t ↦ t.1 ∙ reach-farther lost turn.j turn.reach _ turn.inv.1 end t.if-reach-end.true
+          | else-reach-end t ↦ t.1 ∙ reach-stays lost turn.j turn.reach _ turn.inv.1 end t.if-reach-end.false
+        ]),
+      (elim c.if-reach-end.branch [
+          | then-reach-end t ↦ omega (arith, t.1, begins.1, size.1)
+          | else-reach-end t ↦ omega (arith, t.1, turn.inv.2)
+        ]),
+      counted read,
+    )
+
+pub overflow_add-result : goal.overflow_add-result
+overflow_add-result c =
+    let args = (start c.before.before).args in
+    let turn = c.loop-j in
+    omega (
+      arith,
+      gaps-le args.lost.now args.a.now args.b.now turn.j,
+      c.flips_between.ensures,
+      between_le args.a.now args.b.now turn.reach args.bits,
+    )
+
+pub returns : goal.returns
+returns c =
+    let args = (start c.before.before).args in
+    let turn = c.loop-j in
+    let all : turn.j ≡ length args.lost.now / 4 = omega arith in
+    ap₂ ◌+◌ turn.invariant.3 (c.flips_between.ensures ∙ ap (λ (r : ℕ). flips_between args.a.now args.b.now r args.bits) turn.invariant.1)
+    ∙ around-is args.bits args.lost.now args.a.now args.b.now turn.j all

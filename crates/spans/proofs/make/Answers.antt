@@ -1,0 +1,19 @@
+-- `spans::make` meets its contract: the bits before the first whole byte, the whole bytes, and the bits behind the last one are all the bits, in
+-- their order.
+use borrow.Author.Rules.{rules}
+use Prim.Native.Nat.{◌+◌, ◌/◌, ◌%◌}
+use native.Mathlib.Omega.{arith}
+use Rattle.spans.proofs.Filling.{made-parts}
+use Rattle.spans.proofs.make.Goals as goal
+
+pub make_bytes-requires : goal.make_bytes-requires
+make_bytes-requires c = (search rules, search rules, λ k. (c.type_inv.block k).fits)
+
+pub returns : goal.returns
+returns c =
+    let tail = c.before.before in
+    let bytes = tail.before.before.before.before in
+    let head = bytes.before.before.before.before in
+    let args = head.args in
+    made-parts (args.value % 2) args.from ((args.from + 7) / 8) (args.to / 8) args.to args.block.now
+    (omega arith) (omega arith) (omega arith) head.make_bits-2.ensures bytes.make_bytes.ensures tail.make_bits-3.ensures

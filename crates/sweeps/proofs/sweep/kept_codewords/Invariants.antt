@@ -1,0 +1,16 @@
+use mathlib.Core.Bool.{true, true≢false}
+use mathlib.Core.Path.{◌≡◌, sym, ◌∙◌}
+use Prim.Native.Nat.{ℕ, ◌-◌, ◌≤◌, ◌<◌}
+use native.Mathlib.Omega.{arith}
+use borrow.Author.Count.{below_more}
+use borrow.Author.Rules.{rules}
+use borrow.Author.Tests.{not-true, not-false}
+use Rattle.bits.specs.Window.{at}
+use Rattle.finder.specs.Finding.{codeword_by}
+use Rattle.sweeps.proofs.sweep.kept_codewords.Given as goal
+
+abbrev pub invariant-loop-v : goal.invariant-loop-v
+invariant-loop-v l = (l.v ≤ l.n) × ((u : ℕ) → u < l.v → codeword_by l.finder (at l.kept u) ≡ true)
+
+abbrev pub decreases-loop-v : goal.decreases-loop-v
+decreases-loop-v l = l.n - l.v

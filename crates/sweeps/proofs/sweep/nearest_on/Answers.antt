@@ -1,0 +1,20 @@
+-- `sweeps::nearest_on` meets its contract: each arm finds by the sheet of its side.
+use borrow.Author.Rules.{rules}
+use Rattle.wiring.specs.Access.{sheet_for}
+use Rattle.sweeps.proofs.sweep.nearest_on.Goals as goal
+
+pub find_nearest-requires : goal.find_nearest-requires
+unfolding sheet_for
+find_nearest-requires c = rw c.enum_told-1.given.1 at c.requires
+
+pub find_nearest-requires-in-Right : goal.find_nearest-requires-in-Right
+unfolding sheet_for
+find_nearest-requires-in-Right c = rw c.enum_told-in-Right-1.given.1 at c.requires
+
+pub returns-in-Left : goal.returns-in-Left
+unfolding sheet_for
+returns-in-Left c = rw c.enum_told-1.given.1 c.find_nearest.ensures
+
+pub returns-in-Right : goal.returns-in-Right
+unfolding sheet_for
+returns-in-Right c = rw c.enum_told-in-Right-1.given.1 c.find_nearest-in-Right.ensures

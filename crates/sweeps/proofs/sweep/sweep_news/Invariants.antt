@@ -1,0 +1,43 @@
+use mathlib.Core.List.{List}
+use mathlib.Core.Path.{◌≡◌, refl, sym, ap, ◌∙◌}
+use Prim.Native.Nat.{ℕ, ◌+◌, ◌-◌, ◌*◌, ◌≤◌, ◌<◌}
+use native.Mathlib.Decide.{ℕ_discrete}
+use native.Mathlib.Nat.{le_refl, le_trans, le_of_eq}
+use native.Mathlib.Omega.{arith}
+use borrow.Author.Rules.{rules}
+use lib.ListN.{length, get_or, set}
+use lib.Pow.{pow_pos}
+use Rattle.bits.specs.Window.{at}
+use Rattle.finder.specs.Finding.{Finds}
+use Rattle.wiring.specs.Plan.{Plan, plan_of, sheet_of, count_of}
+use Rattle.bits.proofs.Lists.{at_set_same, at_set_other}
+use Rattle.words.specs.Marks.{news_of}
+use Rattle.sweeps.specs.Sweeping.{Hears}
+use Rattle.words.proofs.Marks.{marks-high}
+use Rattle.wiring.proofs.Plans.{plan-fits}
+use Rattle.wiring.proofs.Sides.{count-for}
+use Rattle.sweeps.proofs.Rounds.{NewsRound, news-round-start, news-round-changed, news-round-few, news-round-end, news-round-clear}
+use Rattle.sweeps.proofs.Rounds.{NewsScan, news-scan-start, news-scan-end, news-scan-vertex, news-scan-more}
+use Rattle.sweeps.proofs.Visiting.{visits-length}
+use Rattle.sweeps.proofs.sweep.sweep_news.Given as goal
+
+abbrev pub invariant-loop-rest : goal.invariant-loop-rest
+invariant-loop-rest l =
+    let plan : Plan = plan_of l.left l.right l.nl l.nr l.wiring in
+    ((before marks : List ℕ) → Hears plan l.side before marks → NewsScan plan l.side before marks l.i l.initial.changed l.initial.visits l.initial.block l.initial.kept l.initial.rest
+    → NewsScan plan l.side before marks l.i l.changed l.visits l.block l.kept l.rest)
+    × (Finds (sheet_of plan l.side) l.initial.finder → Finds (sheet_of plan l.side) l.finder)
+    × ((j : ℕ) → j < 128 → at l.kept (news_of l.side + j) ≡ at l.initial.kept (news_of l.side + j))
+
+abbrev pub decreases-loop-rest : goal.decreases-loop-rest
+decreases-loop-rest l = l.rest
+
+abbrev pub invariant-loop-i : goal.invariant-loop-i
+invariant-loop-i l =
+    let plan : Plan = plan_of l.left l.right l.nl l.nr l.wiring in
+    (l.i ≤ l.numbers) × NewsRound plan l.side l.initial.block l.initial.kept (16 * l.i) l.changed l.visits l.block l.kept × Finds (sheet_of plan l.side) l.finder
+    × ((j : ℕ) → l.i ≤ j → j < 128 → at l.kept (news_of l.side + j) ≡ at l.initial.kept (news_of l.side + j))
+    × ((j : ℕ) → j < l.i → at l.kept (news_of l.side + j) ≡ 0)
+
+abbrev pub decreases-loop-i : goal.decreases-loop-i
+decreases-loop-i l = l.numbers - l.i

@@ -1,0 +1,57 @@
+-- `sweeps::word_of` meets its contract: the word of a left vertex is read from the block, that of a right vertex is kept.
+use mathlib.Core.Path.{refl}
+use Prim.Native.Nat.{◌<◌}
+use native.Mathlib.Omega.{arith}
+use Rattle.bits.specs.Window.{at}
+use Rattle.inner_code.specs.Sheet.{degree}
+use Rattle.wiring.specs.Plan.{Plan, plan_of, left}
+use Rattle.wiring.proofs.Plans.{fitted-sheet, plan-fits}
+use Rattle.sweeps.proofs.Visiting.{left-read}
+use borrow.Author.Rules.{rules}
+use Rattle.sweeps.proofs.sweep.word_of.Goals as goal
+use Rattle.sweeps.proofs.sweep.word_of.Goals.{Start}
+
+abbrev plan_in : Start → Plan
+plan_in c = plan_of c.args.left.now c.args.right.now c.args.nl c.args.nr c.args.wiring.now
+
+vertex-few : (c : Start) → c.args.vertex.v < 2048
+vertex-few c = omega (arith, c.requires.plan_value, (plan-fits (plan_in c) c.requires.wiring_value c.args.vertex.side).n-high)
+
+pub bounds-left-0 : goal.bounds-left-0
+bounds-left-0 c =
+    let s = c.before.before.before.before.before.before.before in
+    fitted-sheet _ (plan-fits (plan_in s) s.requires.wiring_value left)
+
+pub overflow_cast-left : goal.overflow_cast-left
+overflow_cast-left c = omega (arith, c.type_inv.left 0)
+
+pub left_word-requires : goal.left_word-requires
+unfolding degree
+left_word-requires c =
+    let s = c.before.before.before.before.before.before.before in
+    let fits = plan-fits (plan_in s) s.requires.wiring_value left in
+    let below : s.args.vertex.v < s.args.nl = rw c.enum_told-1.given.1 at s.requires.plan_value in
+    record {
+      v_bound = omega (arith, below, fits.n-high);
+      d_bound = fits.d-high;
+    }
+
+pub offset_bounds-kept-v : goal.offset_bounds-kept-v
+offset_bounds-kept-v c = let s = c.before.before.before.before.before.before in omega (arith, vertex-few s)
+
+pub bounds-kept-v : goal.bounds-kept-v
+bounds-kept-v c = let s = c.before.before.before.before.before.before in omega (arith, vertex-few s)
+
+pub returns-in-Left : goal.returns-in-Left
+unfolding degree
+returns-in-Left c =
+    let s = c.before.before.before.before.before.before.before.before in
+    rw c.enum_told-1.given.1 (left-read (plan_in s) _ _ refl c.left_word.ensures)
+
+pub returns-in-Right : goal.returns-in-Right
+unfolding at
+returns-in-Right c =
+    let s = c.before.before.before.before.before.before.before in
+    let is = c.enum_told-in-Right-1.given.1 in
+    let below : s.args.vertex.v < s.args.nr = rw is at s.requires.plan_value in
+    rw is (s.requires.1.1.each _ below)

@@ -1,0 +1,17 @@
+-- `tables::put_key` meets its contract: its three stores are those of the key's parts.
+use Prim.Native.Nat.{◌-◌}
+use native.Mathlib.Omega.{arith}
+use borrow.Author.Rules.{rules}
+use lib.ListN.{length-set}
+use Rattle.tables.proofs.Keys.{puts-key}
+use Rattle.tables.proofs.building.put_key.Reads as reads
+use Rattle.tables.proofs.building.put_key.Lts as lts
+use Rattle.tables.proofs.building.put_key.Goals as goal
+
+pub bounds-table-c-2 : goal.bounds-table-c-2
+bounds-table-c-2 c = simp length-set (omega arith)
+
+pub returns : goal.returns
+returns c =
+    let args = c.args in
+    puts-key args.table.now args.costs.now args.c args.key (omega arith) (omega arith) (omega arith)

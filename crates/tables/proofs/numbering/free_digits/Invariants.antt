@@ -1,0 +1,19 @@
+use borrow.Author.Rules.{rules}
+use mathlib.Core.Path.{◌≡◌, refl, sym, ap, ap₂, ◌∙◌}
+use Prim.Native.Nat.{◌-◌, ◌≤◌, min}
+use native.Mathlib.Omega.{arith}
+use Rattle.bits.specs.Window.{at}
+use Rattle.tables.specs.Numbering.{free_mask}
+use lib.Bits.{bit_xor}
+use Rattle.tables.proofs.Numbers.{mask-one-more}
+use Rattle.tables.proofs.numbering.free_digits.Reads as reads
+use Rattle.tables.proofs.numbering.free_digits.Lts as lts
+use Rattle.tables.proofs.numbering.top_digit.Reads as top-digit-reads
+use Rattle.tables.proofs.numbering.free_digits.Given as goal
+
+abbrev pub invariant-loop-i : goal.invariant-loop-i
+invariant-loop-i l =
+    (l.i ≤ l.k) × (l.i ≤ 11) × (l.mask ≡ free_mask (at l.basis) l.i)
+
+abbrev pub decreases-loop-i : goal.decreases-loop-i
+decreases-loop-i l = l.k - l.i

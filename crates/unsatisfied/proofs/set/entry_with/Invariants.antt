@@ -1,0 +1,15 @@
+use mathlib.Core.Path.{◌≡◌, sym, ◌∙◌}
+use Prim.Native.Nat.{ℕ, ◌-◌, ◌/◌, ◌≤◌, ◌<◌}
+use native.Mathlib.Omega.{arith}
+use borrow.Author.Count.{below_more}
+use borrow.Author.Rules.{rules}
+use lib.ListN.{length}
+use Rattle.wiring.specs.Plan.{edge_of}
+use Rattle.unsatisfied.proofs.BitChange.{entry_found, entry-nowhere}
+use Rattle.unsatisfied.proofs.set.entry_with.Given as goal
+
+abbrev pub invariant-loop-i : goal.invariant-loop-i
+invariant-loop-i l = (l.i ≤ l.entries) × ((j : ℕ) → j < l.i → edge_of l.wiring j ≡ l.edge → ⊥)
+
+abbrev pub decreases-loop-i : goal.decreases-loop-i
+decreases-loop-i l = l.entries - l.i

@@ -1,0 +1,66 @@
+-- `wiring::gathered` meets its contract: after j turns `scaled` is 128 times the bits of the first j entries, and every bit is in the block.
+use mathlib.Core.Path.{◌≡◌, refl, sym, ap, ◌∙◌}
+use Prim.Native.Nat.{ℕ, ◌-◌, ◌*◌, ◌/◌, ◌%◌, ◌≤◌, ◌<◌}
+use native.Mathlib.Omega.{arith}
+use borrow.Author.Rules.{rules}
+use lib.ListN.{get_or}
+use Rattle.bits.specs.Bit.{bit_at}
+use Rattle.bits.proofs.Windows.{digit-moved}
+use Rattle.wiring.specs.Plan.{edge_of}
+use Rattle.wiring.specs.Access.{word_from}
+use Rattle.wiring.proofs.VertexAccess.{word-from-none, word-from-one-more, word-from-lt}
+use Rattle.wiring.proofs.access.gathered.Goals as goal
+use Rattle.wiring.proofs.access.gathered.Goals.{At-loop-j}
+
+pub loop-j-init : goal.loop-j-init
+loop-j-init c = (search rules, ap (λ (x : ℕ). x * 128) (sym (word-from-none _ _ _)))
+
+-- the bits of the first j entries: a word of at most sixteen digits
+abbrev word : At-loop-j → ℕ
+word c =
+    let args = c.args in word_from (edge_of args.wiring.now) args.block.now args.base c.loop-j.j
+
+word_lt : (c : At-loop-j) → word c < 65536
+word_lt c = word-from-lt _ _ _ c.loop-j.j (word c) refl (omega arith)
+
+pub bounds-block-edge : goal.bounds-block-edge
+bounds-block-edge c =
+    let read = c.before in
+    let args = read.before.before.before.before.before in
+    omega (arith, read.edge_at-edge.ensures, args.requires.edges_in_block read.loop-j.j (omega arith))
+
+pub overflow_cast-moved : goal.overflow_cast-moved
+overflow_cast-moved c = omega (arith, c.type_inv.block (c.edge_at-edge.result / 8))
+
+pub overflow_mul-scaled : goal.overflow_mul-scaled
+overflow_mul-scaled c = let turn = c.before.before.before in omega (arith, turn.loop-j.invariant.1, word_lt turn)
+
+pub overflow_add-scaled : goal.overflow_add-scaled
+overflow_add-scaled c = let turn = c.before.before.before in omega (arith, turn.loop-j.invariant.1, word_lt turn)
+
+pub loop-j-preserved : goal.loop-j-preserved
+unfolding bit_at
+loop-j-preserved c =
+    let turn = c.before.before.before in
+    let edge = c.edge_at-edge in
+    let args = turn.args in
+    let block = args.block.now in
+    let byte = edge.result / 8 in
+    let small : get_or block byte 0 < 256 = omega (arith, c.type_inv.block byte) in (
+      search rules,
+      omega (
+        arith,
+        turn.loop-j.invariant.1,
+        digit-moved 32 (get_or block byte 0) (edge.result % 8) (omega arith) small (omega arith),
+        word-from-one-more (edge_of args.wiring.now) block args.base turn.loop-j.j (word turn) _ _ refl refl edge.ensures,
+      ),
+    )
+
+pub overflow_cast-result : goal.overflow_cast-result
+overflow_cast-result c = omega (arith, c.loop-j.invariant.1, word_lt c.before)
+
+pub returns : goal.returns
+returns c =
+    let turn = c.before in
+    let all : turn.loop-j.j ≡ turn.args.d = omega arith in
+    omega (arith, turn.loop-j.invariant.1) ∙ ap (word_from _ _ _) all

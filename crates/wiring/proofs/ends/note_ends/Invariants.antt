@@ -1,0 +1,20 @@
+use mathlib.Core.Path.{◌≡◌}
+use Prim.Native.Nat.{◌-◌, ◌≤◌, ◌<◌}
+use borrow.Author.Rules.{rules}
+use native.Mathlib.Nat.{div-le_self}
+use native.Mathlib.Omega.{arith}
+use lib.ListN.{length, length-set}
+use Rattle.bits.specs.Window.{KeptFrom}
+use Rattle.bits.proofs.Lists.{kept-start, kept_set}
+use Rattle.wiring.specs.Plan.{edge_of}
+use Rattle.wiring.specs.Ends.{Noted}
+use Rattle.wiring.proofs.EdgeEnds.{noted-none, noted-one-more}
+use Rattle.wiring.proofs.ends.note_ends.Given as goal
+
+abbrev pub invariant-loop-i : goal.invariant-loop-i
+invariant-loop-i l =
+    (l.i ≤ l.edges) × (length l.lefts ≡ length l.initial.lefts) × (length l.rights ≡ length l.initial.rights) × Noted (edge_of l.wiring) l.dl l.dr l.i l.lefts l.rights
+    × KeptFrom l.edges l.initial.lefts l.lefts × KeptFrom l.edges l.initial.rights l.rights
+
+abbrev pub decreases-loop-i : goal.decreases-loop-i
+decreases-loop-i l = l.edges - l.i

@@ -1,0 +1,96 @@
+-- `wiring::first_unsatisfied` meets its contract: within a side all vertices before v pass the test, and on the right side all of the left did.
+use mathlib.Core.Path.{◌≡◌, sym, ap, ap₂, ◌∙◌}
+use mathlib.Core.List.{List}
+use Prim.Native.Nat.{ℕ, ◌-◌, ◌≤◌, ◌<◌}
+use native.Mathlib.Omega.{arith}
+use borrow.Author.Rules.{rules}
+use Rattle.inner_code.specs.Reply.{done}
+use Rattle.wiring.specs.Plan.{left, right}
+use Rattle.wiring.specs.Access.{both_codes, unsatisfied_by}
+use Rattle.wiring.specs.declared.side.SideCode.{SideCode}
+use Rattle.wiring.specs.declared.side.SideName.{SideName}
+use Rattle.wiring.proofs.Locating.{found_by, by-none, by-one-more, by-found, located-found, located-nowhere}
+use Rattle.wiring.proofs.locator.first_unsatisfied.Goals as goal
+use Rattle.wiring.proofs.locator.first_unsatisfied.Goals.{After-residue, At-loop-v, Start}
+
+-- the sides still to come
+abbrev after : SideName → ℕ
+after SideName.Left = 1
+after SideName.Right = 0
+
+module _ (codes : SideName → SideCode) (wiring block : List ℕ) (code : SideCode) (side : SideName) (held : code ≡ codes side) where
+  -- at the end of a side all its vertices have passed
+  side-passed : (name : SideName) (v : ℕ) → side ≡ name → v ≡ code.n → unsatisfied_by code side wiring v block ≡ v
+      → found_by codes wiring block name ≡ (codes name).n
+  side-passed name v s e passed =
+      let same : code ≡ codes name = held ∙ ap codes s in
+      sym (ap₂ (λ (x : SideCode) (t : SideName). unsatisfied_by x t wiring x.n block) same s)
+      ∙ ap (λ (m : ℕ). unsatisfied_by code side wiring m block) (sym e) ∙ passed ∙ e ∙ ap (λ (x : SideCode). x.n) same
+
+  side-found : (v : ℕ) → unsatisfied_by code side wiring code.n block ≡ v → found_by codes wiring block side ≡ v
+  side-found v e = sym (ap (λ (x : SideCode). unsatisfied_by x side wiring x.n block) held) ∙ e
+
+left-not-right : left ≡ right → ⊥
+left-not-right e = let z : ◌≡◌ {A = ℕ} 0 1 = sym (ap after e) in omega arith
+
+pub search-init : goal.search-init
+search-init c = λ e. absurd (left-not-right e)
+
+pub loop-v-init : goal.loop-v-init
+loop-v-init c = (search rules, by-none _ _ _ _)
+
+abbrev start : At-loop-v → Start
+start c = c.before.before.before.before.before.before
+
+abbrev codes_in : Start → SideName → SideCode
+codes_in c = both_codes c.args.left c.args.right
+
+pub read_word-word-requires : goal.read_word-word-requires
+read_word-word-requires c =
+    let loop = c.before in
+    let told = loop.before.before in
+    let side = told.search.side in
+    let held = told.code_of_lem.ensures in
+    let below : loop.loop-v.v < (codes_in (start loop) side).n = omega (arith, ap (λ (x : SideCode). x.n) held) in
+    rw held ((start loop).requires.each side loop.loop-v.v below)
+
+abbrev turn : After-residue → At-loop-v
+turn c = c.before.before.before.before
+
+pub loop-v-preserved : goal.loop-v-preserved
+loop-v-preserved c =
+    let reduced = c.before in (
+      search rules,
+      by-one-more _ _ _ _ _ _ _ (turn reduced).loop-v.invariant.1 reduced.read_word-word.ensures reduced.residue.ensures c.if-residue-ne0.false,
+    )
+
+pub search-smaller : goal.search-smaller
+search-smaller c = rw c.enum_told-1.given.1 (omega arith)
+
+pub search-preserved : goal.search-preserved
+search-preserved c =
+    let loop = c.before.before.before in
+    λ e. side-passed (codes_in (start loop)) _ _ _ _ loop.code_of_lem.ensures left _ c.enum_told-1.given.1 (omega arith) loop.loop-v.invariant.1
+
+pub returns-then-residue-ne0 : goal.returns-then-residue-ne0
+returns-then-residue-ne0 c =
+    let reduced = c.before in
+    let before = (turn reduced).loop-v in
+    let told = (turn reduced).before.before in
+    let side = told.search in
+    let held = told.code_of_lem.ensures in
+    ap done
+    (sym
+    (located-found (codes_in (start (turn reduced))) _ _ side.side before.v side.inv
+    (side-found (codes_in (start (turn reduced))) _ _ _ _ held _
+    (by-found _ _ _ _ _ _ _ _ (omega arith) before.inv.1 reduced.read_word-word.ensures reduced.residue.ensures c.if-residue-ne0.true))
+    (omega (arith, ap (λ (x : SideCode). x.n) held))))
+
+pub returns-in-Right : goal.returns-in-Right
+returns-in-Right c =
+    let loop = c.before.before.before in
+    let told = loop.before.before in
+    ap done
+    (sym
+    (located-nowhere (codes_in (start loop)) _ _ (told.search.invariant c.enum_told-in-Right-1.given.1)
+    (side-passed (codes_in (start loop)) _ _ _ _ told.code_of_lem.ensures right _ c.enum_told-in-Right-1.given.1 (omega arith) loop.loop-v.invariant.1)))

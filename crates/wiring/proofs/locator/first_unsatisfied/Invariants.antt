@@ -1,0 +1,25 @@
+use mathlib.Core.Path.{◌≡◌, sym, ap, ap₂, ◌∙◌}
+use mathlib.Core.List.{List}
+use Prim.Native.Nat.{ℕ, ◌-◌, ◌≤◌, ◌<◌}
+use native.Mathlib.Omega.{arith}
+use borrow.Author.Rules.{rules}
+use Rattle.inner_code.specs.Reply.{done}
+use Rattle.wiring.specs.Plan.{left, right}
+use Rattle.wiring.specs.Access.{both_codes, unsatisfied_by}
+use Rattle.wiring.specs.declared.side.SideCode.{SideCode}
+use Rattle.wiring.specs.declared.side.SideName.{SideName}
+use Rattle.wiring.proofs.Locating.{found_by, by-none, by-one-more, by-found, located-found, located-nowhere}
+use Rattle.wiring.proofs.locator.first_unsatisfied.Given as goal
+
+abbrev pub invariant-loop-v : goal.invariant-loop-v
+invariant-loop-v l =
+    (l.v ≤ l.n) × (unsatisfied_by (record { l.n = l.n; l.d = l.d; l.k = l.k; l.basis = l.basis }) l.side l.wiring l.v l.block ≡ l.v)
+
+abbrev pub decreases-loop-v : goal.decreases-loop-v
+decreases-loop-v l = l.n - l.v
+
+abbrev pub invariant-search : goal.invariant-search
+invariant-search l = l.side ≡ right → found_by (both_codes l.left l.right) l.wiring l.block left ≡ l.left.n
+
+abbrev pub decreases-search : goal.decreases-search
+decreases-search l = after l.side

@@ -1,0 +1,65 @@
+-- `wiring::piece_of` meets its contract: an accepted wiring holds the entries of every right vertex, and the part is theirs.
+use mathlib.Core.Path.{◌≡◌, refl, sym, ap}
+use Prim.Native.Nat.{ℕ, ◌+◌, ◌*◌, ◌≤◌}
+use native.Mathlib.Omega.{arith}
+use borrow.Author.Rules.{rules}
+use lib.ListN.{length}
+use Rattle.inner_code.specs.Sheet.{degree}
+use Rattle.wiring.specs.Plan.{Plan, plan_of, right}
+use Rattle.wiring.specs.declared.side.SideCode.{SideCode}
+use Rattle.wiring.proofs.Permutation.{fitted-vertex}
+use Rattle.wiring.proofs.Plans.{PlanAccepted, plan-accepted, plan-refused, piece-refused, piece-past, piece-part}
+use Rattle.wiring.proofs.piece.piece_of.Goals as goal
+use Rattle.wiring.proofs.piece.piece_of.Goals.{After-check_plan-plan, In-Passed, Start, Then-v-nr}
+
+abbrev checked : In-Passed → After-check_plan-plan
+checked c = c.before.before
+
+abbrev start : In-Passed → Start
+start c = (checked c).before.before.before.before
+
+abbrev plan_in : Start → Plan
+plan_in c = plan_of c.args.left.now c.args.right.now c.args.nl c.args.nr c.args.wiring.now
+
+plan : (c : In-Passed) → PlanAccepted (plan_in (start c)) (checked c).check_plan-plan.result
+plan c = plan-accepted _ _ (checked c).check_plan-plan.ensures c.enum_told-in-Passed-1.given.1
+
+d-is : (c : In-Passed) → (checked c).check_plan-plan.result.right.d ≡ degree (start c).args.right.now
+d-is c = ap (λ (x : SideCode). x.d) ((plan c).code_is right)
+
+-- the piece ends where the wiring ends, or before
+end-le : (c : Then-v-nr)
+    → let d : ℕ = (checked c.before).check_plan-plan.result.right.d in
+    2 * ((start c.before).args.v * d) + 2 * d ≤ length (start c.before).args.wiring.now
+end-le c =
+    let v = (start c.before).args.v in
+    let fits = (plan c.before).plan-wired.right-fits in
+    omega (arith, fitted-vertex fits v c.if-v-nr.true, d-is c.before, ap (λ (x : ℕ). v * x) (d-is c.before))
+
+pub overflow_mul-start : goal.overflow_mul-start
+overflow_mul-start c = omega (arith, end-le c)
+
+pub overflow_mul-start-then-v-nr : goal.overflow_mul-start-then-v-nr
+overflow_mul-start-then-v-nr c = omega (arith, end-le c)
+
+pub overflow_mul-end : goal.overflow_mul-end
+overflow_mul-end c = omega (arith, end-le c)
+
+pub overflow_add-end : goal.overflow_add-end
+overflow_add-end c = omega (arith, end-le c)
+
+pub slice_bounds-result-end-then-v-nr : goal.slice_bounds-result-end-then-v-nr
+slice_bounds-result-end-then-v-nr c = end-le c
+
+pub returns-then-v-nr : goal.returns-then-v-nr
+returns-then-v-nr c =
+    let told = c.before.before in
+    piece-part _ _ _ _ _ (plan told).plan-done c.if-v-nr.true (d-is told) refl refl
+
+pub returns-in-Refused : goal.returns-in-Refused
+returns-in-Refused c =
+    sym (piece-refused _ _ _ _
+    (plan-refused _ _ c.check_plan-plan.ensures _ c.enum_told-1.given.1))
+
+pub returns-else-v-nr : goal.returns-else-v-nr
+returns-else-v-nr c = sym (piece-past _ _ (plan c.before.before).plan-done c.if-v-nr.false)

@@ -1,0 +1,56 @@
+-- `wiring::note_places` meets its contract: after i turns the places of the first i entries' edges are noted, and no later entry has one of them.
+use mathlib.Core.Path.{◌≡◌, refl, ◌∙◌}
+use Prim.Native.Nat.{ℕ, ◌-◌, ◌/◌, ◌≤◌, ◌<◌}
+use native.Mathlib.Omega.{arith}
+use borrow.Author.Rules.{rules}
+use lib.ListN.{length, length-set}
+use Rattle.bits.specs.Window.{at, KeptFrom}
+use Rattle.bits.proofs.Lists.{kept-start, kept_set}
+use Rattle.wiring.specs.Plan.{edge_of}
+use Rattle.wiring.specs.Checking.{Permuted}
+use Rattle.wiring.proofs.EdgePlaces.{places-more}
+use Rattle.wiring.proofs.places.note_places.Goals as goal
+use Rattle.wiring.proofs.places.note_places.Goals.{After-edge_at, At-loop-i, Start}
+
+abbrev start : At-loop-i → Start
+start c = c.before.before.before
+
+-- the edges stand at the entries, each once
+abbrev stand : (c : At-loop-i) → Permuted (length (start c).args.wiring.now / 2) (start c).args.wiring.now
+stand c = (start c).requires.permuted
+
+pub loop-i-init : goal.loop-i-init
+loop-i-init c = (search rules, refl, λ j l. absurd (omega arith), kept-start _ _)
+
+edge-lt : (c : After-edge_at) → c.edge_at.result < length (start c.before.before).args.wiring.now / 2
+edge-lt c = rw c.edge_at.ensures ((stand c.before.before).edge-lt c.loop-i.i (omega arith))
+
+pub offset_bounds-places-edge_at : goal.offset_bounds-places-edge_at
+offset_bounds-places-edge_at c = omega (arith, edge-lt c, (start c.before.before).requires.wiring_len_bound)
+
+pub bounds-places-edge_at : goal.bounds-places-edge_at
+bounds-places-edge_at c = omega (arith, edge-lt c, (start c.before.before).requires.wiring_in_bounds, c.loop-i.invariant.1)
+
+pub loop-i-preserved : goal.loop-i-preserved
+loop-i-preserved c =
+    let turn = c.loop-i in
+    let once = (stand c.before.before).edge-once in (
+      omega arith,
+      length-set turn.places c.edge_at.result turn.i ∙ turn.invariant.1,
+      places-more _ turn.places turn.i _ c.edge_at.ensures
+          (omega (arith, edge-lt c, c.edge_at.ensures, (start c.before.before).requires.wiring_in_bounds, turn.invariant.1))
+          (λ j l e. let same = once j turn.i (omega arith) (omega arith) e in omega arith)
+          turn.invariant.2 refl,
+      kept_set turn.invariant.3 c.edge_at.result turn.i (edge-lt c),
+    )
+
+pub shape_of-places : goal.shape_of-places
+shape_of-places c = c.loop-i.invariant.1
+
+pub returns : goal.returns
+returns c =
+    let first = start c.before in
+    let end : c.loop-i.i ≡ length first.args.wiring.now / 2 = omega arith in record {
+      places_noted = record { sized = omega (arith, first.requires.wiring_in_bounds, c.loop-i.invariant.1); each = rw end at c.loop-i.invariant.2 };
+      kept_from = c.loop-i.invariant.3;
+    }

@@ -1,0 +1,12 @@
+-- `wiring::other_side` meets its contract: each side gives the other.
+use borrow.Author.Rules.{rules}
+use Rattle.wiring.specs.Plan.{other}
+use Rattle.wiring.proofs.side.other_side.Goals as goal
+
+pub returns-in-Left : goal.returns-in-Left
+unfolding other
+returns-in-Left c = rw c.enum_told-1.given.1
+
+pub returns-in-Right : goal.returns-in-Right
+unfolding other
+returns-in-Right c = rw c.enum_told-in-Right-1.given.1

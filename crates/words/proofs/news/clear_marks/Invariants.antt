@@ -1,0 +1,15 @@
+use mathlib.Core.Path.{◌≡◌, ◌∙◌}
+use Prim.Native.Nat.{ℕ, ◌-◌, ◌≤◌, ◌<◌}
+use native.Mathlib.Decide.{ℕ_discrete}
+use native.Mathlib.Omega.{arith}
+use lib.ListN.{length, length-set}
+use borrow.Author.Rules.{rules}
+use Rattle.bits.specs.Window.{at}
+use Rattle.bits.proofs.Lists.{at_set_same, at_set_other}
+use Rattle.words.proofs.news.clear_marks.Given as goal
+
+abbrev pub invariant-loop-i : goal.invariant-loop-i
+invariant-loop-i l = (2048 ≤ l.i) × (l.i ≤ 2304) × (length l.kept ≡ 2304) × ((j : ℕ) → 2048 ≤ j → j < l.i → at l.kept j ≡ 0)
+
+abbrev pub decreases-loop-i : goal.decreases-loop-i
+decreases-loop-i l = 2304 - l.i

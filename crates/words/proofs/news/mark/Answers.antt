@@ -1,0 +1,10 @@
+-- `words::mark` meets its contract: the digit of the vertex is set where it is not.
+use borrow.Author.Rules.{rules}
+use Rattle.bits.specs.Bit.{digit}
+use Rattle.bits.specs.Window.{at}
+use Rattle.words.proofs.Marks.{marked-once}
+use Rattle.words.proofs.news.mark.Goals as goal
+
+pub returns : goal.returns
+unfolding digit at
+returns c = let s = c.before in marked-once s.args.kept.now s.args.from s.args.v

@@ -1,0 +1,175 @@
+-- `words::put_left` meets its contract: each turn puts the highest one of the rest on the block and tells the right vertex at the other end of its
+-- edge.
+use Prim.Native.Nat.{ℕ, ◌+◌, ◌-◌, ◌*◌, ◌/◌, ◌<◌}
+use mathlib.Core.List.{[]}
+use mathlib.Core.Path.{◌≡◌, refl, ◌∙◌}
+use native.Mathlib.Nat.{div-lt_iff_lt-mul}
+use native.Mathlib.Omega.{arith}
+use borrow.Author.Rules.{rules}
+use lib.Arith.{digits_lt}
+use lib.Pow.{pow_pos}
+use Rattle.bits.specs.Window.{at}
+use Rattle.inner_code.specs.Reply.{done}
+use Rattle.inner_code.specs.Sheet.{degree}
+use Rattle.wiring.specs.Wiring.{plan_check}
+use Rattle.wiring.specs.Plan.{Plan, plan_of, side_bit, edge_count, left, right, other}
+use Rattle.wiring.specs.declared.side.SideName.{SideName}
+use Rattle.wiring.proofs.Plans.{fitted-sheet, plan-fits, plan-whole, plan-few, plan-entries}
+use Rattle.words.specs.Marks.{news_of, told_right}
+use Rattle.words.proofs.Patterns.{rest-sized, rest-high, length-pattern}
+use Rattle.words.proofs.Putting.{Putting, putting-start, putting-done, putting-more}
+use Rattle.wiring.proofs.EdgePlaces.{places-lt, places-bit}
+use Rattle.words.proofs.pattern.put_left.Goals as goal
+use Rattle.words.proofs.pattern.put_left.Goals.{After-highest-high, After-power-rest, After-shared_slice_known-6-1, At-loop-rest, Start}
+
+-- ---- the call, the loop's head, and the plan
+
+abbrev start : After-shared_slice_known-6-1 → Start
+start c = c.before.before.before.before.before.before.before
+
+abbrev plan_in : Start → Plan
+plan_in c = plan_of c.args.left.now c.args.right.now c.args.nl c.args.nr c.args.wiring.now
+
+accepted : (c : Start) → plan_check (plan_in c) ≡ done []
+accepted c = c.requires.wiring_value
+
+pub bounds-left-0 : goal.bounds-left-0
+bounds-left-0 c =
+    let first = c.before.before.before.before.before.before in
+    fitted-sheet _ (plan-fits (plan_in first) (accepted first) left)
+
+pub overflow_cast-d : goal.overflow_cast-d
+overflow_cast-d c = omega (arith, c.type_inv.left 0)
+
+pub bounds-right-0 : goal.bounds-right-0
+bounds-right-0 c = fitted-sheet _ (plan-fits (plan_in (start c)) (accepted (start c)) right)
+
+pub overflow_cast-dr : goal.overflow_cast-dr
+overflow_cast-dr c = omega (arith, c.type_inv.right 0)
+
+-- an entry of vertex v
+entry-few : (c : Start) (j : ℕ) → j < degree c.args.left.now
+    → c.args.v * degree c.args.left.now + j < edge_count (plan_in c)
+entry-few c j l = digits_lt c.requires.plan_value l
+
+pub overflow_mul-base : goal.overflow_mul-base
+unfolding degree
+overflow_mul-base c =
+    let fits = plan-fits (plan_in (start c)) (accepted (start c)) left in
+    omega (arith, entry-few (start c) 0 (omega (arith, fits.d-low)), plan-few (plan_in (start c)) (accepted (start c)))
+
+pub loop-rest-init : goal.loop-rest-init
+loop-rest-init c =
+    let s = start c in
+    putting-start (plan_in s) (accepted s) left s.args.v s.requires.plan_value s.args.pattern _ _ s.requires.v_lt_nl s.requires.1.1.1.1
+
+abbrev head : After-highest-high → At-loop-rest
+head c = c.before.before
+
+abbrev begin : After-highest-high → Start
+begin c = start (head c).before
+
+-- the highest one is within the word, and the edge is one of the plan's
+within : (c : After-highest-high) → c.highest-high.result < degree (begin c).args.left.now
+within c = rest-high (head c).loop-rest.invariant.left_over _ c.highest-high.ensures.power_low c.highest-high.ensures.power_high
+
+abbrev edge_in : After-highest-high → ℕ
+edge_in c =
+    (begin c).args.v * degree (begin c).args.left.now + (degree (begin c).args.left.now - 1 - c.highest-high.result)
+
+edge-lt : (c : After-highest-high) → edge_in c < edge_count (plan_in (begin c))
+edge-lt c = entry-few (begin c) _ (omega (arith, within c))
+
+edge_few : (c : After-highest-high) → edge_in c < 32768
+edge_few c = omega (arith, edge-lt c, plan-few (plan_in (begin c)) (accepted (begin c)))
+
+pub overflow_sub-edge : goal.overflow_sub-edge
+unfolding degree
+overflow_sub-edge c = omega (arith, within c)
+
+pub overflow_sub-edge-in-loop-rest : goal.overflow_sub-edge-in-loop-rest
+unfolding degree
+overflow_sub-edge-in-loop-rest c = omega (arith, within c)
+
+pub overflow_add-edge : goal.overflow_add-edge
+unfolding degree
+overflow_add-edge c = omega (arith, edge_few c)
+
+pub offset_bounds-places-edge : goal.offset_bounds-places-edge
+unfolding degree
+offset_bounds-places-edge c = omega (arith, edge_few c)
+
+pub bounds-places-edge : goal.bounds-places-edge
+unfolding degree
+bounds-places-edge c =
+    let s = begin c.before in
+    omega (arith, edge-lt c.before, plan-entries (plan_in s) (accepted s), s.requires.pattern_bound.sized)
+
+pub overflow_cast-place : goal.overflow_cast-place
+unfolding degree at
+overflow_cast-place c =
+    let top = c.before in
+    omega (
+      arith,
+      places-lt (plan_in (begin top)) (accepted (begin top)) (begin top).requires.pattern_bound (edge_in top) (edge-lt top),
+      plan-few (plan_in (begin top)) (accepted (begin top)),
+    )
+
+-- ---- the place of the edge
+
+abbrev place_in : After-highest-high → ℕ
+place_in c = at (begin c).args.places.now (edge_in c)
+
+place-lt : (c : After-highest-high) → place_in c < edge_count (plan_in (begin c))
+place-lt c = places-lt (plan_in (begin c)) (accepted (begin c)) (begin c).requires.pattern_bound (edge_in c) (edge-lt c)
+
+place-vertex : (c : After-highest-high) → place_in c / degree (begin c).args.right.now < (begin c).args.nr
+place-vertex c =
+    let w = plan-whole (plan_in (begin c)) (accepted (begin c)) right in
+    (div-lt_iff_lt-mul w.degree-pos).1 (rw w.entries (place-lt c))
+
+pub tell_right-requires : goal.tell_right-requires
+unfolding degree at
+tell_right-requires c =
+    let top = c.before.before.before.before.before.before in
+    let fits = plan-fits (plan_in (begin top)) (accepted (begin top)) right in
+    record {
+      d_nonzero = (omega (arith, fits.d-low), fits.d-high);
+      kept_len = (head top).loop-rest.invariant.keeps.reads.sized;
+      d_bound = omega (arith, place-vertex top, fits.n-high);
+    }
+
+pub power-rest-requires : goal.power-rest-requires
+power-rest-requires c =
+    let top = c.before.before.before.before.before.before.before in
+    let fits = plan-fits (plan_in (begin top)) (accepted (begin top)) left in
+    omega (arith, within top, fits.d-high)
+
+abbrev high : After-power-rest → After-highest-high
+high c = c.before.before.before.before.before.before.before.before
+
+pub overflow_sub-rest : goal.overflow_sub-rest
+overflow_sub-rest c = omega (arith, c.power-rest.ensures, (high c).highest-high.ensures.power_low)
+
+pub loop-rest-smaller : goal.loop-rest-smaller
+loop-rest-smaller c =
+    let some = pow_pos (high c).highest-high.result in
+    omega (arith, c.power-rest.ensures, (high c).highest-high.ensures.power_low)
+
+pub loop-rest-preserved : goal.loop-rest-preserved
+unfolding degree at side_bit told_right news_of other
+loop-rest-preserved c =
+    let top = high c in
+    let s = begin top in
+    let bit = places-bit (plan_in s) (accepted s) s.requires.pattern_bound (edge_in top) (edge-lt top) in
+    putting-more (plan_in s) (accepted s) left s.args.v s.requires.plan_value s.args.pattern _ _ (head top).loop-rest.invariant _ top.highest-high.ensures.power_low
+    top.highest-high.ensures.power_high _ refl c.power-rest.ensures c.turn_bit.ensures
+    (place_in top) (place-lt top) bit refl (place_in top) (place-lt top) bit c.tell_right.ensures
+
+pub shape_of-block : goal.shape_of-block
+shape_of-block c = rest-sized c.loop-rest.invariant.left_over ∙ length-pattern _ _ _ _ _ _
+
+pub returns : goal.returns
+returns c =
+    let s = start c.before.before in
+    putting-done (plan_in s) (accepted s) left s.args.v s.requires.plan_value s.args.pattern _ _ c.loop-rest.invariant (omega arith)

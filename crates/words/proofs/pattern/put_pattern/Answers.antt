@@ -1,0 +1,55 @@
+-- `words::put_pattern` meets its contract: each turn puts the highest one of the rest on the block, and the block with the rest on it stays the
+-- same.
+use mathlib.Core.Path.{refl, ◌∙◌}
+use Prim.Native.Nat.{◌<◌}
+use native.Mathlib.Omega.{arith}
+use borrow.Author.Rules.{rules}
+use lib.Pow.{pow_pos}
+use Rattle.wiring.specs.Plan.{side_bit}
+use Rattle.words.specs.Words.{pattern_put}
+use Rattle.words.proofs.Patterns.{Rest, rest-sized, rest-none, rest-high, rest_more, length-pattern}
+use Rattle.words.proofs.pattern.put_pattern.Goals as goal
+use Rattle.words.proofs.pattern.put_pattern.Goals.{After-highest-high, After-power-rest}
+
+pub loop-rest-init : goal.loop-rest-init
+loop-rest-init c = record { low = c.requires.pattern_bound; putting = refl }
+
+-- the highest one is within the word
+within : (c : After-highest-high) → c.highest-high.result < c.args.d
+within c = rest-high c.loop-rest.invariant _ c.highest-high.ensures.power_low c.highest-high.ensures.power_high
+
+pub overflow_sub-d : goal.overflow_sub-d
+overflow_sub-d c = omega (arith, within c.before)
+
+pub overflow_sub-d-in-loop-rest : goal.overflow_sub-d-in-loop-rest
+overflow_sub-d-in-loop-rest c = omega (arith, within c.before)
+
+pub bit_of-requires : goal.bit_of-requires
+bit_of-requires c = omega (arith, within c.before)
+
+-- the turn, from where its power is known
+abbrev high : After-power-rest → After-highest-high
+high c = c.before.before.before.before.before.before
+
+pub power-rest-requires : goal.power-rest-requires
+power-rest-requires c = omega (arith, within c.before.before.before.before.before)
+
+pub overflow_sub-rest : goal.overflow_sub-rest
+overflow_sub-rest c = omega (arith, c.power-rest.ensures, (high c).highest-high.ensures.power_low)
+
+pub loop-rest-smaller : goal.loop-rest-smaller
+loop-rest-smaller c =
+    let some = pow_pos (high c).highest-high.result in
+    omega (arith, c.power-rest.ensures, (high c).highest-high.ensures.power_low)
+
+pub loop-rest-preserved : goal.loop-rest-preserved
+loop-rest-preserved c =
+    let top = high c in
+    rest_more top.loop-rest.invariant _ top.highest-high.ensures.power_low top.highest-high.ensures.power_high c.bit_of.ensures
+    c.power-rest.ensures c.turn_bit.ensures
+
+pub shape_of-block : goal.shape_of-block
+shape_of-block c = rest-sized c.loop-rest.invariant ∙ length-pattern _ _ _ _ _ _
+
+pub returns : goal.returns
+returns c = rest-none c.loop-rest.invariant (omega arith)

@@ -1,0 +1,50 @@
+-- `words::tell_right` meets its contract: one digit of the word is turned, and the vertex is marked.
+use mathlib.Core.List.{List}
+use mathlib.Core.Path.{◌≡◌, ◌∙◌, ap, ap₂}
+use Prim.Native.Nat.{ℕ, ◌+◌, ◌-◌, ◌*◌, ◌%◌, ◌^◌}
+use native.Mathlib.Nat.{div-add-mod', mod-lt}
+use native.Mathlib.Omega.{arith}
+use lib.Bits.{bit_xor}
+use lib.ListN.{get_or, set, length-set}
+use borrow.Author.Rules.{rules}
+use Rattle.bits.specs.Window.{at}
+use Rattle.wiring.specs.declared.side.SideName.{SideName}
+use Rattle.words.specs.Marks.{news_of, marked, told_right}
+use Rattle.words.proofs.Marks.{marks-high}
+use Rattle.words.proofs.pattern.tell_right.Goals as goal
+use Rattle.words.proofs.pattern.tell_right.Goals.{After-vertex_at-v}
+
+-- the entry is one of the vertex's
+over : (c : After-vertex_at-v) → c.vertex_at-v.result * c.args.d + c.args.place % c.args.d ≡ c.args.place
+over c = rw c.vertex_at-v.ensures (div-add-mod' c.args.place c.args.d)
+
+pub overflow_mul-v : goal.overflow_mul-v
+overflow_mul-v c = omega (arith, over c.before)
+
+pub overflow_sub-place : goal.overflow_sub-place
+overflow_sub-place c = omega (arith, over c.before)
+
+pub overflow_sub-d-2 : goal.overflow_sub-d-2
+overflow_sub-d-2 c = omega (arith, over c.before, mod-lt c.args.place c.requires.d_nonzero.0)
+
+pub mark-requires : goal.mark-requires
+mark-requires c =
+    let s = c.before.before.before.before.before in
+    let v = c.vertex_at-v in record {
+      kept_len = length-set {A = ℕ} s.args.kept.now v.result _ ∙ s.requires.kept_len;
+      from_bound = omega (arith, c.news_of.ensures, marks-high SideName.Right);
+      v_bound = omega (arith, v.ensures, s.requires.d_bound);
+    }
+
+pub returns : goal.returns
+unfolding told_right at news_of
+returns c =
+    let one = c.before.before.before.before.before in
+    let s = one.before in
+    let kept : List ℕ = s.args.kept.now in
+    let digit : s.args.d - 1 - (s.args.place - one.vertex_at-v.result * s.args.d) ≡ s.args.d - 1 - s.args.place % s.args.d =
+    omega (arith, over one) in
+    c.mark.ensures
+    ∙ ap₂ (λ (x from : ℕ). marked (set kept one.vertex_at-v.result x) from one.vertex_at-v.result)
+    (ap (bit_xor (get_or kept one.vertex_at-v.result 0)) (c.power.ensures ∙ ap (λ (i : ℕ). 2 ^ i) digit)) c.news_of.ensures
+    ∙ ap (λ (v : ℕ). marked (set kept v (bit_xor (get_or kept v 0) (2 ^ (s.args.d - 1 - s.args.place % s.args.d)))) 2176 v) one.vertex_at-v.ensures
