@@ -11,6 +11,10 @@ import os
 import re
 import sys
 
+sys.dont_write_bytecode = True
+sys.path.insert(0, os.path.dirname(os.path.abspath(__file__)))
+import places as turned_places
+
 WORD = r"[^\s(){}\[\],;.λ:]+"
 
 
@@ -65,6 +69,15 @@ class Function:
         for row in entry["typed"]:
             for var, step in row:
                 self.typed[norm(step)] = var
+        self.arms = []
+        for arm in entry["arms"]:
+            if arm:
+                for field, step, path in arm[2]:
+                    if not field.endswith("-own"):
+                        t = (norm(step), tuple(path), f"{arm[0]}.{field}")
+                        if t not in self.arms:
+                            self.arms.append(t)
+        self.arms.sort(key=lambda a: -len(a[1]))
         self.params = entry["params"]
         self.loops = entry["loops"]
         self.changed = entry["changed"]
@@ -107,6 +120,9 @@ class Function:
                     out.append(self.requires[at])
                     i += used
             return out + segs[i:]
+        for step, path, new in self.arms:
+            if norm(s) == step and tuple(segs[i + 1:i + 1 + len(path)]) == path:
+                return out + new.split(".") + segs[i + 1 + len(path):]
         if norm(s) in self.typed and i + 1 < len(segs) and segs[i + 1] == "given":
             return out + ["type_inv", self.typed[norm(s)]] + segs[i + 2:]
         if norm(s) in self.steps:
@@ -309,6 +325,28 @@ def convert(crate, fn_path, text, entry, source):
     body = re.sub(r"\n *pub " + WORD + r"spec : \{M : Type 1\} → statement M\n(?:.*\n?)*$", "\n", body)
     # split into chunks at blank lines that are followed by a line of column 0..2 that begins a declaration
     chunks = re.split(r"\n\s*\n", body)
+    index = {}
+    for k, (old, new) in enumerate(entry["needs"]):
+        index[norm(old)] = k
+
+    def find(old):
+        for pre in ("", "overflow-", "nonzero-", "slice-bounds-"):
+            if old.startswith(pre) and old[len(pre):] in index:
+                return old[len(pre):]
+            if pre == "slice-bounds-" and old.startswith(pre) and "part-" + old[len(pre):] in index:
+                return "part-" + old[len(pre):]
+        return None
+
+    def needs_new(old):
+        k = find(old)
+        return entry["needs"][index[k]][1] if k else None
+
+    def needs_at(old):
+        k = find(old)
+        return norm(entry["asked_at"][index[k]][0]) if k else None
+
+    pf = turned_places.File(turned_places.Places(entry), needs_at, needs_new)
+    chunks = pf.turn(chunks)
     inv_chunks = []
     ans_chunks = []
     inv_names = [x for lp in f.loops for x in [lp]]
@@ -375,7 +413,7 @@ def convert(crate, fn_path, text, entry, source):
         ans_chunks.append(ch)
     ans = "\n\n".join(c.strip("\n") for c in ans_chunks if c.strip())
     inv = "\n\n".join(c.strip("\n") for c in inv_chunks if c.strip())
-    places = set()
+    places = set(pf.used)
 
     def place(m):
         w = f.places.get(norm(m.group(1)))
@@ -386,11 +424,18 @@ def convert(crate, fn_path, text, entry, source):
 
     ans = re.sub(r"tie\.([A-Za-z0-9_«»-]+)((?: (?:invariant|decreases)-[A-Za-z0-9_-]+)*)", place, ans)
     ans = f.paths(ans)
+    ans = re.sub(r"\.inv\b(?!-)", ".invariant", ans)
+    ans = re.sub(r"\.taken\b(?!-)", ".true", ans)
+    ans = re.sub(r"\.pre\b(?!-)", ".requires", ans)
     cases = set()
     ans = branches(ans, cases)
     places |= cases
     drop = re.compile(r"\.(Tie as tie|Statement\.\{statement\})$")
     uses = [u for u in uses if not drop.search(u)]
+    for u in list(uses):
+        m = re.search(r"\.(?:Reads|Lts) as ([^\s]+)$", u)
+        if m and not re.search(r"(?<![\w-])" + re.escape(m.group(1)) + r"\.", ans + inv):
+            uses.remove(u)
     out = {}
     if inv:
         out["Invariants.antt"] = "\n".join(uses + [f"use {mod}.Given as goal"]) + "\n\n" + inv.strip() + "\n"

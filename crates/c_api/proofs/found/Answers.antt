@@ -5,8 +5,8 @@ use Rattle.c_api.proofs.found.Goals as goal
 
 pub returns-in-Left : goal.returns-in-Left
 unfolding told_place
-returns-in-Left c = rw c.enum_told-1.given.1
+returns-in-Left c = rw c.in-Left.is
 
 pub returns-in-Right : goal.returns-in-Right
 unfolding told_place
-returns-in-Right c = rw c.enum_told-in-Right-1.given.1
+returns-in-Right c = rw c.in-Right.is

@@ -4,24 +4,19 @@ use Rattle.messages.specs.Answer.{encode_reply}
 use Rattle.c_api.specs.Answer.{told}
 use Rattle.c_api.proofs.Telling.{telling}
 use Rattle.c_api.proofs.lembikat_encode.Goals as goal
-use Rattle.c_api.proofs.lembikat_encode.Goals.{After-encode, After-slice_known-2-1}
-
--- the service's run, from where its answer is told apart
-abbrev encoded : After-slice_known-2-1 → After-encode
-encoded c = c.before.before
 
 pub returns-in-Done : goal.returns-in-Done
 unfolding told
 returns-in-Done c = record {
-      value = telling encode_reply c.enum_told-1.given.1
-      (encoded c.before.before.before).encode.ensures.result_value told c.done.ensures;
-      output_after = (encoded c.before.before.before).encode.ensures.output_after;
+      value = telling encode_reply c.in-Done.is
+      c.encode.ensures.result_value told c.done.ensures;
+      output_after = c.encode.ensures.output_after;
     }
 
 pub returns-in-Refused : goal.returns-in-Refused
 unfolding told
 returns-in-Refused c = record {
-      value = telling encode_reply c.r.given.1
-      (encoded c.before.before.before.before).encode.ensures.result_value told c.refused.ensures;
-      output_after = (encoded c.before.before.before.before).encode.ensures.output_after;
+      value = telling encode_reply c.in-Refused.is
+      c.encode.ensures.result_value told c.refused.ensures;
+      output_after = c.encode.ensures.output_after;
     }

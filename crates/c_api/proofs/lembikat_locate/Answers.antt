@@ -7,12 +7,12 @@ use Rattle.c_api.proofs.lembikat_locate.Goals as goal
 
 pub returns-in-Nowhere : goal.returns-in-Nowhere
 unfolding told told_place
-returns-in-Nowhere c = telling locate_reply c.enum_told-1.given.1 c.locate.ensures told_place c.done.ensures
+returns-in-Nowhere c = telling locate_reply c.in-Nowhere.is c.locate.ensures told_place c.done.ensures
 
 pub returns-in-At : goal.returns-in-At
 unfolding told told_place
-returns-in-At c = telling locate_reply c.side.given.1 c.locate.ensures told_place c.found.ensures
+returns-in-At c = telling locate_reply c.in-At.is c.locate.ensures told_place c.found.ensures
 
 pub returns-in-Refused : goal.returns-in-Refused
 unfolding told told_place
-returns-in-Refused c = telling locate_reply c.r.given.1 c.locate.ensures told_place c.refused.ensures
+returns-in-Refused c = telling locate_reply c.in-Refused.is c.locate.ensures told_place c.refused.ensures

@@ -8,8 +8,8 @@ use Rattle.c_api.proofs.lembikat_look_up.Goals as goal
 
 pub returns-in-Word : goal.returns-in-Word
 unfolding told_word
-returns-in-Word c = telling nearest_reply c.found.given.1 c.look_up.ensures told_word refl
+returns-in-Word c = telling nearest_reply c.in-Word.is c.look_up.ensures told_word refl
 
 pub returns-in-Refused : goal.returns-in-Refused
 unfolding told_word
-returns-in-Refused c = telling nearest_reply c.refusal.given.1 c.look_up.ensures told_word refl
+returns-in-Refused c = telling nearest_reply c.in-Refused.is c.look_up.ensures told_word refl

@@ -7,8 +7,8 @@ use Rattle.c_api.proofs.lembikat_margin.Goals as goal
 
 pub returns-in-Sweeps : goal.returns-in-Sweeps
 unfolding told
-returns-in-Sweeps c = telling margin_reply c.sweeps.given.1 c.margin_sweeps.ensures told c.done.ensures
+returns-in-Sweeps c = telling margin_reply c.in-Sweeps.is c.margin_sweeps.ensures told c.done.ensures
 
 pub returns-in-Refused : goal.returns-in-Refused
 unfolding told
-returns-in-Refused c = telling margin_reply c.r.given.1 c.margin_sweeps.ensures told c.refused.ensures
+returns-in-Refused c = telling margin_reply c.in-Refused.is c.margin_sweeps.ensures told c.refused.ensures

@@ -4,24 +4,19 @@ use Rattle.messages.specs.Answer.{taken_reply}
 use Rattle.c_api.specs.Answer.{told}
 use Rattle.c_api.proofs.Telling.{telling}
 use Rattle.c_api.proofs.lembikat_read.Goals as goal
-use Rattle.c_api.proofs.lembikat_read.Goals.{After-read_block, After-slice_known-2-1}
-
--- the service's run, from where its answer is told apart
-abbrev taken : After-slice_known-2-1 → After-read_block
-taken c = c.before.before
 
 pub returns-in-Done : goal.returns-in-Done
 unfolding told
 returns-in-Done c = record {
-      value = telling taken_reply c.enum_told-1.given.1
-      (taken c.before.before.before).read_block.ensures.result_value told c.done.ensures;
-      output_after = (taken c.before.before.before).read_block.ensures.output_after;
+      value = telling taken_reply c.in-Done.is
+      c.read_block.ensures.result_value told c.done.ensures;
+      output_after = c.read_block.ensures.output_after;
     }
 
 pub returns-in-Refused : goal.returns-in-Refused
 unfolding told
 returns-in-Refused c = record {
-      value = telling taken_reply c.r.given.1
-      (taken c.before.before.before.before).read_block.ensures.result_value told c.refused.ensures;
-      output_after = (taken c.before.before.before.before).read_block.ensures.output_after;
+      value = telling taken_reply c.in-Refused.is
+      c.read_block.ensures.result_value told c.refused.ensures;
+      output_after = c.read_block.ensures.output_after;
     }

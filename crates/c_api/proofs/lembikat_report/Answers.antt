@@ -4,24 +4,19 @@ use Rattle.report.specs.Answer.{report_reply}
 use Rattle.c_api.specs.Answer.{told}
 use Rattle.c_api.proofs.Telling.{telling}
 use Rattle.c_api.proofs.lembikat_report.Goals as goal
-use Rattle.c_api.proofs.lembikat_report.Goals.{After-report_runs, After-slice_known-2-1}
-
--- the service's run, from where its answer is told apart
-abbrev reported : After-slice_known-2-1 → After-report_runs
-reported c = c.before.before
 
 pub returns-in-Pairs : goal.returns-in-Pairs
 unfolding told
 returns-in-Pairs c = record {
-      value = telling report_reply c.pairs.given.1
-      (reported c.before.before.before.before).report_runs.ensures.result_value told c.done.ensures;
-      list_after = (reported c.before.before.before.before).report_runs.ensures.list_after;
+      value = telling report_reply c.in-Pairs.is
+      c.report_runs.ensures.result_value told c.done.ensures;
+      list_after = c.report_runs.ensures.list_after;
     }
 
 pub returns-in-Refused : goal.returns-in-Refused
 unfolding told
 returns-in-Refused c = record {
-      value = telling report_reply c.r.given.1
-      (reported c.before.before.before.before).report_runs.ensures.result_value told c.refused.ensures;
-      list_after = (reported c.before.before.before.before).report_runs.ensures.list_after;
+      value = telling report_reply c.in-Refused.is
+      c.report_runs.ensures.result_value told c.refused.ensures;
+      list_after = c.report_runs.ensures.list_after;
     }

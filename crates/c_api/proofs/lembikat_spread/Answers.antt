@@ -7,8 +7,8 @@ use Rattle.c_api.proofs.lembikat_spread.Goals as goal
 
 pub returns-in-Value : goal.returns-in-Value
 unfolding told
-returns-in-Value c = telling spread_reply c.spread.given.1 c.plan_spread.ensures told c.done.ensures
+returns-in-Value c = telling spread_reply c.in-Value.is c.plan_spread.ensures told c.done.ensures
 
 pub returns-in-Refused : goal.returns-in-Refused
 unfolding told
-returns-in-Refused c = telling spread_reply c.r.given.1 c.plan_spread.ensures told c.refused.ensures
+returns-in-Refused c = telling spread_reply c.in-Refused.is c.plan_spread.ensures told c.refused.ensures

@@ -8,8 +8,8 @@ use Rattle.c_api.proofs.shown.Goals as goal
 
 pub returns-in-State : goal.returns-in-State
 unfolding told_state
-returns-in-State c = sym (ap (λ (x : Shown). told_state (shown_reply x)) c.answer.given.1)
+returns-in-State c = sym (ap (λ (x : Shown). told_state (shown_reply x)) c.in-State.is)
 
 pub returns-in-Refused : goal.returns-in-Refused
 unfolding told_state
-returns-in-Refused c = sym (ap (λ (x : Shown). told_state (shown_reply x)) c.answer2.given.1)
+returns-in-Refused c = sym (ap (λ (x : Shown). told_state (shown_reply x)) c.in-Refused.is)

@@ -3,32 +3,22 @@ use borrow.Author.Rules.{rules}
 use native.Mathlib.Omega.{arith}
 use Rattle.report.proofs.Reporting.{agreeing-byte, agreeing-bit, agreeing-none}
 use Rattle.report.proofs.agreeing.Goals as goal
-use Rattle.report.proofs.agreeing.Goals.{After-bit, After-shared_slice_known-2-1, After-shared_slice_known-then-i-edges-2-1, Start}
 
 -- ---- the call, from where both lengths are known, from where a byte of each block is read, and from where a bit of the first is
 
-abbrev start : After-shared_slice_known-2-1 → Start
-start c = c.before.before
-
-abbrev at_byte : After-shared_slice_known-then-i-edges-2-1 → Start
-at_byte c = start c.before.before.before.before
-
-abbrev at-bit : After-bit → Start
-at-bit c = start c.before.before
-
 pub returns-then-received-i : goal.returns-then-received-i
 returns-then-received-i c =
-    let args = (at_byte c.before).args in
+    let args = c.args in
     agreeing-byte args.received.now args.settled.now args.edges args.i (omega arith) (omega arith) c.if-received-i.true
 
 pub returns-then-bit : goal.returns-then-bit
 returns-then-bit c =
-    let args = (at-bit c.before.before).args in
+    let args = c.args in
     agreeing-bit args.received.now args.settled.now args.edges args.i _ _ c.bit.ensures
     c.bit-2.ensures (omega arith) c.if-bit.true
 
 pub returns : goal.returns
 returns c =
-    let args = (at-bit c.before.before).args in
+    let args = c.args in
     agreeing-none args.received.now args.settled.now args.edges args.i _ _ c.bit.ensures
     c.bit-2.ensures (omega arith) c.if-bit.false

@@ -9,7 +9,7 @@ use Rattle.report.specs.Report.{differs_at, run_start, run_count}
 use Rattle.report.proofs.Runs.{start-zero, start-one-more-inside, run_count-zero, run_count-le}
 use Rattle.report.proofs.Reporting.{inside-count, stretch-start, stretch-count-ends, stretch-count-none}
 use Rattle.report.proofs.count_runs.Goals as goal
-use Rattle.report.proofs.count_runs.Goals.{At-loop-i, Start, else-start-i, then-start-i}
+use Rattle.report.proofs.count_runs.Goals.{else-start-i, then-start-i}
 
 pub loop-i-init : goal.loop-i-init
 loop-i-init c =
@@ -17,32 +17,25 @@ loop-i-init c =
     let test = differs_at args.received.now args.settled.now in
     (search rules, sym (start-zero test), sym (run_count-zero test))
 
--- the call, from the loop's head on
-abbrev start : At-loop-i → Start
-start c = c.before.before.before
-
 pub loop-i-preserved-then-same-eq0 : goal.loop-i-preserved-then-same-eq0
 loop-i-preserved-then-same-eq0 c =
-    let turn = c.before.before.before in
-    let args = (start turn).args in
+    let args = c.args in
     let test = differs_at args.received.now args.settled.now in
-    let before = turn.loop-i in
+    let before = c.loop-i in
     let on = c.agreeing-same.ensures.none c.if-same-eq0.true in
     (search rules, before.invariant.1 ∙ sym (start-one-more-inside test before.i on), before.invariant.2 ∙ sym (inside-count test before.i on))
 
 pub overflow_add-count : goal.overflow_add-count
 overflow_add-count c =
-    let turn = c.before.before.before.before in
-    let args = (start turn).args in
-    let before = turn.loop-i in
+    let args = c.args in
+    let before = c.loop-i in
     omega (arith, run_count-le (differs_at args.received.now args.settled.now) before.i)
 
 pub loop-i-preserved : goal.loop-i-preserved
 loop-i-preserved c =
-    let turn = c.before.before.before.before in
-    let args = (start turn).args in
+    let args = c.args in
     let test = differs_at args.received.now args.settled.now in
-    let before = turn.loop-i in
+    let before = c.loop-i in
     let same = c.agreeing-same in
     let some : 0 < same.result = omega arith in (
       same.ensures.within,
@@ -55,6 +48,6 @@ loop-i-preserved c =
 
 pub returns : goal.returns
 returns c =
-    let args = (start c.before).args in
+    let args = c.args in
     let end : c.loop-i.i ≡ args.edges + 1 = omega arith in
     c.loop-i.invariant.2 ∙ ap (run_count (differs_at args.received.now args.settled.now)) end

@@ -14,7 +14,7 @@ use Rattle.report.proofs.Reporting.{inside-count, inside-bytes, stretch-start, s
 use Rattle.report.proofs.Reporting.{written-length, written-room, written-ends}
 use Rattle.report.specs.Report.{differs_at, run_start, run_count, run_bytes}
 use Rattle.report.proofs.write_runs.Goals as goal
-use Rattle.report.proofs.write_runs.Goals.{After-agreeing-same, After-put_run-arg-1, At-loop-i, Start, else-offset-i, then-offset-i}
+use Rattle.report.proofs.write_runs.Goals.{At-loop-i, else-offset-i, then-offset-i}
 
 pub loop-i-init : goal.loop-i-init
 loop-i-init c =
@@ -28,62 +28,50 @@ loop-i-init c =
 
 -- ---- a turn: the call, the loop's head, and the stretch whose run is put
 
-abbrev start : At-loop-i → Start
-start c = c.before.before.before.before
-
-abbrev head : After-agreeing-same → At-loop-i
-head c = c.before.before
-
-abbrev stretch : After-put_run-arg-1 → After-agreeing-same
-stretch c = c.before.before.before
-
 -- the list keeps its length
-kept : (c : At-loop-i) → length c.loop-i.list ≡ length (start c).args.list.now
+kept : (c : At-loop-i) → length c.loop-i.list ≡ length c.args.list.now
 kept c =
-    let args = (start c).args in
+    let args = c.args in
     ap length c.loop-i.invariant.3
-    ∙ written-length (differs_at args.received.now args.settled.now) args.edges args.list.now (start c).requires.edges_in_bounds c.loop-i.i
+    ∙ written-length (differs_at args.received.now args.settled.now) args.edges args.list.now c.requires.edges_in_bounds c.loop-i.i
     (omega arith)
 
 pub loop-i-preserved-then-same-eq0 : goal.loop-i-preserved-then-same-eq0
 loop-i-preserved-then-same-eq0 c =
-    let args = (start (head c.before)).args in
+    let args = c.args in
     let test = differs_at args.received.now args.settled.now in
-    let before = (head c.before).loop-i in
+    let before = c.loop-i in
     let on = c.agreeing-same.ensures.none c.if-same-eq0.true in (
       search rules,
-      before.inv.1 ∙ sym (start-one-more-inside test before.i on),
+      before.invariant.1 ∙ sym (start-one-more-inside test before.i on),
       omega (arith, inside-count test before.i on),
-      before.inv.3 ∙ ap (λ (bytes : List ℕ). written bytes args.list.now) (sym (inside-bytes test before.i on)),
+      before.invariant.3 ∙ ap (λ (bytes : List ℕ). written bytes args.list.now) (sym (inside-bytes test before.i on)),
     )
 
 pub put_run-requires : goal.put_run-requires
 put_run-requires c =
-    let turn = head (stretch c) in
-    let args = (start turn).args in
+    let args = c.args in
     let test = differs_at args.received.now args.settled.now in
-    let before = turn.loop-i in
-    let same = (stretch c).agreeing-same in
+    let before = c.loop-i in
+    let same = c.agreeing-same in
     let some : 0 < same.result = omega arith in
-    let fits = written-room test args.edges args.list.now (start turn).requires.edges_in_bounds before.i same.result some same.ensures.each
+    let fits = written-room test args.edges args.list.now c.requires.edges_in_bounds before.i same.result some same.ensures.each
     same.ensures.within (omega arith) in
-    omega (arith, fits, kept turn)
+    omega (arith, fits, kept (goal.at.put_run-requires c).At-loop-i)
 
 pub overflow_add-at : goal.overflow_add-at
 overflow_add-at c =
-    let turn = head (stretch c.before.before.before) in
-    let args = (start turn).args in
-    let before = turn.loop-i in
+    let args = c.args in
+    let before = c.loop-i in
     omega (arith, run_count-le (differs_at args.received.now args.settled.now) before.i)
 
 pub loop-i-preserved : goal.loop-i-preserved
 loop-i-preserved c =
-    let turn = head c.before.before in
-    let args = (start turn).args in
+    let args = c.args in
     let test = differs_at args.received.now args.settled.now in
-    let before = turn.loop-i in
+    let before = c.loop-i in
     let same = c.agreeing-same in
-    let room = (start turn).requires.edges_in_bounds in
+    let room = c.requires.edges_in_bounds in
     let some : 0 < same.result = omega arith in (
       same.ensures.within,
       sym (stretch-start test before.i same.result some same.ensures.each),
@@ -94,19 +82,19 @@ loop-i-preserved c =
       (elim c.if-offset-i.branch [
           | then-offset-i w ↦ w.5 ∙ w.2.ensures
           ∙ written-ends test args.edges args.list.now room before.i same.result some same.ensures.each same.ensures.within
-          (omega arith) before.offset before.at before.list before.inv.1 before.inv.2 before.inv.3
-          | else-offset-i w ↦ w.1 ∙ before.inv.3
+          (omega arith) before.offset before.at before.list before.invariant.1 before.invariant.2 before.invariant.3
+          | else-offset-i w ↦ w.1 ∙ before.invariant.3
           ∙ ap (λ (bytes : List ℕ). written bytes args.list.now)
           (sym (stretch-bytes-none test before.i same.result some same.ensures.each (omega arith)))
         ]),
     )
 
 pub shape_of-list : goal.shape_of-list
-shape_of-list c = kept c.before
+shape_of-list c = kept (goal.at.shape_of-list c).At-loop-i
 
 pub returns : goal.returns
 returns c =
-    let args = (start c.before).args in
+    let args = c.args in
     let end : c.loop-i.i ≡ args.edges + 1 = omega arith in
     c.loop-i.invariant.3
     ∙ ap (λ (m : ℕ). written (run_bytes (differs_at args.received.now args.settled.now) m) args.list.now) end

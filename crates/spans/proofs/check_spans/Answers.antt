@@ -13,7 +13,7 @@ use Rattle.spans.proofs.Filling.{end_is}
 use Rattle.spans.proofs.Checking.{before-zero, before-suc, span-empty, span-beyond, span-early, span-fine, pairs-zero, pairs-one-more}
 use Rattle.spans.proofs.Checking.{spans-unsized, spans-refused, spans_all}
 use Rattle.spans.proofs.check_spans.Goals as goal
-use Rattle.spans.proofs.check_spans.Goals.{After-length_of-length, At-loop-j, Start}
+use Rattle.spans.proofs.check_spans.Goals.{After-length_of-length}
 
 pub returns-then-lost-ne0 : goal.returns-then-lost-ne0
 returns-then-lost-ne0 c = c.refuse.ensures ∙ sym (spans-unsized _ _ c.if-lost-ne0.true)
@@ -25,60 +25,50 @@ loop-j-init c =
 
 -- ---- the call from the loop's head on, and the loop's head from where a pair is read
 
-abbrev start : At-loop-j → Start
-start c = c.before.before.before
-
-abbrev head : After-length_of-length → At-loop-j
-head c = c.before.before.before
-
 abbrev bits_in : After-length_of-length → ℕ
-bits_in c = (start (head c)).args.bits
+bits_in c = c.args.bits
 
 abbrev lost_in : After-length_of-length → List ℕ
-lost_in c = (start (head c)).args.lost.now
+lost_in c = c.args.lost.now
 
-ends : (c : After-length_of-length) → c.start_of_lem.result + c.length_of-length.result ≡ end_of (lost_in c) (head c).loop-j.j
-ends c = omega (arith, c.start_of_lem.ensures.0, c.length_of-length.ensures.0, end_is (lost_in c) (head c).loop-j.j)
+ends : (c : After-length_of-length) → c.start_of_lem.result + c.length_of-length.result ≡ end_of (lost_in c) c.loop-j.j
+ends c = omega (arith, c.start_of_lem.ensures.0, c.length_of-length.ensures.0, end_is (lost_in c) c.loop-j.j)
 
 -- a pair that is refused is the first
-stops : (c : After-length_of-length) (number : ℕ) → span_check (bits_in c) (lost_in c) (head c).loop-j.j ≡ refused number 0
+stops : (c : After-length_of-length) (number : ℕ) → span_check (bits_in c) (lost_in c) c.loop-j.j ≡ refused number 0
     → spans_check (bits_in c) (lost_in c) ≡ refused number 0
 stops c number e =
-    spans-refused (bits_in c) (lost_in c) (head c).loop-j.j number 0 (head c).if-lost-ne0.false (head c).loop-j.invariant.1 e (omega arith)
+    spans-refused (bits_in c) (lost_in c) c.loop-j.j number 0 c.if-lost-ne0.false c.loop-j.invariant.1 e (omega arith)
 
 pub returns-then-length-eq0 : goal.returns-then-length-eq0
 returns-then-length-eq0 c =
-    let read = c.before.before in
-    let empty = sym read.length_of-length.ensures.0 ∙ c.if-length-eq0.true in
-    c.refuse-then-length-eq0.ensures ∙ sym (stops read 25 (span-empty (bits_in read) (lost_in read) (head read).loop-j.j empty))
+    let empty = sym c.length_of-length.ensures.0 ∙ c.if-length-eq0.true in
+    c.refuse-then-length-eq0.ensures ∙ sym (stops (goal.at.returns-then-length-eq0 c).After-length_of-length 25 (span-empty (bits_in (goal.at.returns-then-length-eq0 c).After-length_of-length) (lost_in (goal.at.returns-then-length-eq0 c).After-length_of-length) c.loop-j.j empty))
 
 pub returns-then-bits-end : goal.returns-then-bits-end
 returns-then-bits-end c =
-    let read = c.before.before.before in
-    c.refuse-then-bits-end.ensures ∙ sym (stops read 25 (span-beyond (bits_in read) (lost_in read) (head read).loop-j.j (omega (arith, ends read))))
+    c.refuse-then-bits-end.ensures ∙ sym (stops (goal.at.returns-then-bits-end c).After-length_of-length 25 (span-beyond (bits_in (goal.at.returns-then-bits-end c).After-length_of-length) (lost_in (goal.at.returns-then-bits-end c).After-length_of-length) c.loop-j.j (omega (arith, ends (goal.at.returns-then-bits-end c).After-length_of-length))))
 
 pub returns-then-start-before : goal.returns-then-start-before
 returns-then-start-before c =
-    let read = c.before.before.before.before in
     c.refuse-then-start-before.ensures
-    ∙ sym (stops read 26
-    (span-early (bits_in read) (lost_in read) (head read).loop-j.j (λ q. c.if-length-eq0.false (read.length_of-length.ensures.0 ∙ q))
-    (omega (arith, ends read)) (omega (arith, read.start_of_lem.ensures.0, (head read).loop-j.invariant.2))))
+    ∙ sym (stops (goal.at.returns-then-start-before c).After-length_of-length 26
+    (span-early (bits_in (goal.at.returns-then-start-before c).After-length_of-length) (lost_in (goal.at.returns-then-start-before c).After-length_of-length) c.loop-j.j (λ q. c.if-length-eq0.false (c.length_of-length.ensures.0 ∙ q))
+    (omega (arith, ends (goal.at.returns-then-start-before c).After-length_of-length)) (omega (arith, c.start_of_lem.ensures.0, c.loop-j.invariant.2))))
 
 pub loop-j-preserved : goal.loop-j-preserved
 loop-j-preserved c =
-    let read = c.before.before.before in
-    let turn = (head read).loop-j in
-    let fine = span-fine (bits_in read) (lost_in read) turn.j (λ q. c.if-length-eq0.false (read.length_of-length.ensures.0 ∙ q))
-    (omega (arith, ends read)) (omega (arith, read.start_of_lem.ensures.0, turn.inv.2)) in (
+    let turn = c.loop-j in
+    let fine = span-fine (bits_in (goal.at.loop-j-preserved c).After-length_of-length) (lost_in (goal.at.loop-j-preserved c).After-length_of-length) turn.j (λ q. c.if-length-eq0.false (c.length_of-length.ensures.0 ∙ q))
+    (omega (arith, ends (goal.at.loop-j-preserved c).After-length_of-length)) (omega (arith, c.start_of_lem.ensures.0, turn.invariant.2)) in (
       search rules,
-      pairs-one-more (bits_in read) (lost_in read) turn.j turn.inv.1 fine,
-      ends read ∙ sym (ap (end_before (lost_in read)) (add-one turn.j) ∙ before-suc (lost_in read) turn.j),
+      pairs-one-more (bits_in (goal.at.loop-j-preserved c).After-length_of-length) (lost_in (goal.at.loop-j-preserved c).After-length_of-length) turn.j turn.invariant.1 fine,
+      ends (goal.at.loop-j-preserved c).After-length_of-length ∙ sym (ap (end_before (lost_in (goal.at.loop-j-preserved c).After-length_of-length)) (add-one turn.j) ∙ before-suc (lost_in (goal.at.loop-j-preserved c).After-length_of-length) turn.j),
     )
 
 pub returns : goal.returns
 returns c =
-    let args = (start c.before).args in
+    let args = c.args in
     let all : c.loop-j.j ≡ length args.lost.now / 4 = omega arith in
     sym (spans_all args.bits args.lost.now c.if-lost-ne0.false
     (ap (pairs_check args.bits args.lost.now) (sym all) ∙ c.loop-j.invariant.1))

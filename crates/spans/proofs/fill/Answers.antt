@@ -8,40 +8,35 @@ use Rattle.spans.specs.Spans.{pair_count}
 use Rattle.spans.specs.Walking.{pairs_made}
 use Rattle.spans.proofs.Filling.{pairs_made-zero, pairs_made-next, pairs_made-filled, length-pairs_made}
 use Rattle.spans.proofs.fill.Goals as goal
-use Rattle.spans.proofs.fill.Goals.{After-loop-j, At-loop-j, Start}
+use Rattle.spans.proofs.fill.Goals.{After-loop-j}
 
 pub loop-j-init : goal.loop-j-init
 loop-j-init c =
     let args = c.args in
     (search rules, sym (pairs_made-zero (args.value % 2) args.lost.now args.block.now))
 
-abbrev start : At-loop-j → Start
-start c = c.before.before.before
-
 pub loop-j-preserved : goal.loop-j-preserved
 loop-j-preserved c =
-    let read = c.before.before.before.before in
-    let turn = read.before.before.before in
-    let args = (start turn).args in
+    let args = c.args in
     let b = args.value % 2 in (
       search rules,
       c.make.ensures
-          ∙ pairs_made-next b args.lost.now args.block.now turn.loop-j.j _ _ turn.loop-j.block read.start_of_lem.ensures.0
-          read.length_of.ensures.0 turn.loop-j.invariant.1,
+          ∙ pairs_made-next b args.lost.now args.block.now c.loop-j.j _ _ c.loop-j.block c.start_of_lem.ensures.0
+          c.length_of.ensures.0 c.loop-j.invariant.1,
     )
 
-all-pairs : (c : After-loop-j) → c.loop-j.j ≡ pair_count (start c.before).args.lost.now
+all-pairs : (c : After-loop-j) → c.loop-j.j ≡ pair_count c.args.lost.now
 unfolding pair_count
 all-pairs c = omega arith
 
 pub shape_of-block : goal.shape_of-block
 shape_of-block c =
-    let args = (start c.before).args in
+    let args = c.args in
     ap length c.loop-j.invariant.1 ∙ length-pairs_made (args.value % 2) args.lost.now args.block.now c.loop-j.j
 
 pub returns : goal.returns
 returns c =
-    let args = (start c.before).args in
+    let args = c.args in
     let b = args.value % 2 in
     c.loop-j.invariant.1
     ∙ ap (λ (j : ℕ). pairs_made b args.lost.now j args.block.now) (all-pairs c)

@@ -7,33 +7,27 @@ use lib.Bits.{bit_xor}
 use Rattle.spans.specs.Walking.{flips_between}
 use Rattle.spans.proofs.Gaps.{between_none, between-end, between_le, between-one-more}
 use Rattle.spans.proofs.flips_of_bits.Goals as goal
-use Rattle.spans.proofs.flips_of_bits.Goals.{After-bit-in-loop-i, At-loop-i, Start}
+use Rattle.spans.proofs.flips_of_bits.Goals.{After-bit-in-loop-i}
 
 pub loop-i-init : goal.loop-i-init
 loop-i-init c =
     let args = c.args in
     (search rules, omega arith, sym (between_none args.a.now args.b.now args.from args.from (omega arith)))
 
-abbrev start : At-loop-i → Start
-start c = c.before.before.before
-
-abbrev head : After-bit-in-loop-i → At-loop-i
-head c = c.before.before.before
-
 -- the count with one more bit
 counted : (c : After-bit-in-loop-i)
-    → let args = (start (head c)).args in
-    (head c).loop-i.count + bit_xor c.bit.result c.bit-in-loop-i.result
-    ≡ flips_between args.a.now args.b.now args.from ((head c).loop-i.i + 1)
+    → let args = c.args in
+    c.loop-i.count + bit_xor c.bit.result c.bit-in-loop-i.result
+    ≡ flips_between args.a.now args.b.now args.from (c.loop-i.i + 1)
 counted c =
-    let args = (start (head c)).args in
-    ap₂ ◌+◌ (head c).loop-i.invariant.2 (ap₂ bit_xor c.bit.ensures c.bit-in-loop-i.ensures)
-    ∙ sym (between-one-more args.a.now args.b.now args.from (head c).loop-i.i (head c).loop-i.invariant.0)
+    let args = c.args in
+    ap₂ ◌+◌ c.loop-i.invariant.2 (ap₂ bit_xor c.bit.ensures c.bit-in-loop-i.ensures)
+    ∙ sym (between-one-more args.a.now args.b.now args.from c.loop-i.i c.loop-i.invariant.0)
 
 pub overflow_add-count : goal.overflow_add-count
 overflow_add-count c =
-    let args = (start (head c)).args in
-    omega (arith, counted c, between_le args.a.now args.b.now args.from ((head c).loop-i.i + 1))
+    let args = c.args in
+    omega (arith, counted c, between_le args.a.now args.b.now args.from (c.loop-i.i + 1))
 
 pub loop-i-preserved : goal.loop-i-preserved
 loop-i-preserved c = (search rules, omega arith, counted c)
@@ -41,7 +35,7 @@ loop-i-preserved c = (search rules, omega arith, counted c)
 pub returns : goal.returns
 returns c =
     let turn = c.loop-i in
-    let args = (start c.before).args in
+    let args = c.args in
     let a = args.a.now in
     let b = args.b.now in
     let all = turn.invariant.2 ∙ between-end a b args.from turn.i args.to turn.invariant.0 turn.invariant.1 (omega arith) in

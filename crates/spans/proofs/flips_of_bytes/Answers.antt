@@ -9,36 +9,33 @@ use lib.ListN.{get_or}
 use Rattle.spans.specs.Walking.{flips_between}
 use Rattle.spans.proofs.Gaps.{between_none, between_le, between-byte-more}
 use Rattle.spans.proofs.flips_of_bytes.Goals as goal
-use Rattle.spans.proofs.flips_of_bytes.Goals.{After-shared_slice_known-in-loop-i-1, At-loop-i}
+use Rattle.spans.proofs.flips_of_bytes.Goals.{After-shared_slice_known-in-loop-i-1}
 
 pub loop-i-init : goal.loop-i-init
 loop-i-init c =
     (search rules, search rules, sym (between_none c.args.a.now c.args.b.now (8 * c.args.first) (8 * c.args.first) (omega arith)))
 
-abbrev head : After-shared_slice_known-in-loop-i-1 → At-loop-i
-head c = c.before.before.before
-
 -- the count with one more byte
 counted : (c : After-shared_slice_known-in-loop-i-1)
-    → let args = (head c).args in
-    let i = (head c).loop-i.i in
-    (head c).loop-i.count + ones (bit_xor (get_or args.a.now i 0) (get_or args.b.now i 0))
+    → let args = c.args in
+    let i = c.loop-i.i in
+    c.loop-i.count + ones (bit_xor (get_or args.a.now i 0) (get_or args.b.now i 0))
     ≡ flips_between args.a.now args.b.now (8 * args.first) (8 * (i + 1))
 counted c =
-    let args = (head c).args in
-    let i = (head c).loop-i.i in
-    ap (λ (n : ℕ). n + ones (bit_xor (get_or args.a.now i 0) (get_or args.b.now i 0))) (head c).loop-i.invariant.2
+    let args = c.args in
+    let i = c.loop-i.i in
+    ap (λ (n : ℕ). n + ones (bit_xor (get_or args.a.now i 0) (get_or args.b.now i 0))) c.loop-i.invariant.2
     ∙ sym (between-byte-more args.a.now args.b.now (λ k. (c.type_inv.a k).fits)
-    (λ k. (c.type_inv.b k).fits) args.first i (head c).loop-i.invariant.0)
+    (λ k. (c.type_inv.b k).fits) args.first i c.loop-i.invariant.0)
 
 -- it is at most the number of bits
 few : (c : After-shared_slice_known-in-loop-i-1)
-    → let args = (head c).args in
-    let i = (head c).loop-i.i in
-    (head c).loop-i.count + ones (bit_xor (get_or args.a.now i 0) (get_or args.b.now i 0)) ≤ 8 * (i + 1) - 8 * args.first
+    → let args = c.args in
+    let i = c.loop-i.i in
+    c.loop-i.count + ones (bit_xor (get_or args.a.now i 0) (get_or args.b.now i 0)) ≤ 8 * (i + 1) - 8 * args.first
 few c =
-    let args = (head c).args in
-    omega (arith, counted c, between_le args.a.now args.b.now (8 * args.first) (8 * ((head c).loop-i.i + 1)))
+    let args = c.args in
+    omega (arith, counted c, between_le args.a.now args.b.now (8 * args.first) (8 * (c.loop-i.i + 1)))
 
 pub overflow_cast-count : goal.overflow_cast-count
 overflow_cast-count c = omega (arith, few c)

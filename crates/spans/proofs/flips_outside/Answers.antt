@@ -11,35 +11,29 @@ use Rattle.spans.specs.Walking.{flips_between, reach, flips_in_gaps}
 use Rattle.spans.proofs.Filling.{end_is}
 use Rattle.spans.proofs.Gaps.{between_le, reach-zero, reach-farther, reach-stays, gaps-zero, gaps-one-more, gaps-le, around-is}
 use Rattle.spans.proofs.flips_outside.Goals as goal
-use Rattle.spans.proofs.flips_outside.Goals.{After-flips_between-count, At-loop-j, Start, else-reach-end, then-reach-end}
+use Rattle.spans.proofs.flips_outside.Goals.{After-flips_between-count, else-reach-end, then-reach-end}
 
 pub loop-j-init : goal.loop-j-init
 loop-j-init c =
     let args = c.args in
     (search rules, sym (reach-zero args.lost.now), search rules, sym (gaps-zero args.lost.now args.a.now args.b.now))
 
-abbrev start : At-loop-j → Start
-start c = c.before.before.before.before
-
-abbrev head : After-flips_between-count → At-loop-j
-head c = c.before.before.before.before
-
 -- the count with one more gap
 counted : (c : After-flips_between-count)
-    → let args = (start (head c)).args in
-    (head c).loop-j.count + c.flips_between-count.result ≡ flips_in_gaps args.lost.now args.a.now args.b.now ((head c).loop-j.j + 1)
+    → let args = c.args in
+    c.loop-j.count + c.flips_between-count.result ≡ flips_in_gaps args.lost.now args.a.now args.b.now (c.loop-j.j + 1)
 counted c =
-    let args = (start (head c)).args in
+    let args = c.args in
     let lost = args.lost.now in
-    ap₂ ◌+◌ (head c).loop-j.invariant.3
+    ap₂ ◌+◌ c.loop-j.invariant.3
     (c.flips_between-count.ensures
-    ∙ ap₂ (flips_between args.a.now args.b.now) (head c).loop-j.invariant.1 c.start_of_lem.ensures.0)
-    ∙ sym (gaps-one-more lost args.a.now args.b.now (head c).loop-j.j)
+    ∙ ap₂ (flips_between args.a.now args.b.now) c.loop-j.invariant.1 c.start_of_lem.ensures.0)
+    ∙ sym (gaps-one-more lost args.a.now args.b.now c.loop-j.j)
 
 pub overflow_add-count : goal.overflow_add-count
 overflow_add-count c =
-    let args = (start (head c)).args in
-    let turn = (head c).loop-j in
+    let args = c.args in
+    let turn = c.loop-j in
     omega (
       arith,
       gaps-le args.lost.now args.a.now args.b.now turn.j,
@@ -49,28 +43,27 @@ overflow_add-count c =
 
 pub loop-j-preserved : goal.loop-j-preserved
 loop-j-preserved c =
-    let read = c.before in
-    let turn = (head read).loop-j in
-    let lost = (start (head read)).args.lost.now in
-    let begins = read.start_of_lem.ensures in
-    let size = read.length_of.ensures in
-    let end : read.start_of_lem.result + read.length_of.result ≡ end_of lost turn.j =
+    let turn = c.loop-j in
+    let lost = c.args.lost.now in
+    let begins = c.start_of_lem.ensures in
+    let size = c.length_of.ensures in
+    let end : c.start_of_lem.result + c.length_of.result ≡ end_of lost turn.j =
     omega (arith, begins.0, size.0, end_is lost turn.j) in (
       search rules,
       (elim c.if-reach-end.branch [
-          | then-reach-end t ↦ t.1 ∙ reach-farther lost turn.j turn.reach _ turn.inv.1 end t.if-reach-end.true
-          | else-reach-end t ↦ t.1 ∙ reach-stays lost turn.j turn.reach _ turn.inv.1 end t.if-reach-end.false
+          | then-reach-end t ↦ t.1 ∙ reach-farther lost turn.j turn.reach _ turn.invariant.1 end t.if-reach-end.true
+          | else-reach-end t ↦ t.1 ∙ reach-stays lost turn.j turn.reach _ turn.invariant.1 end t.if-reach-end.false
         ]),
       (elim c.if-reach-end.branch [
           | then-reach-end t ↦ omega (arith, t.1, begins.1, size.1)
-          | else-reach-end t ↦ omega (arith, t.1, turn.inv.2)
+          | else-reach-end t ↦ omega (arith, t.1, turn.invariant.2)
         ]),
-      counted read,
+      counted (goal.at.loop-j-preserved c).After-flips_between-count,
     )
 
 pub overflow_add-result : goal.overflow_add-result
 overflow_add-result c =
-    let args = (start c.before.before).args in
+    let args = c.args in
     let turn = c.loop-j in
     omega (
       arith,
@@ -81,7 +74,7 @@ overflow_add-result c =
 
 pub returns : goal.returns
 returns c =
-    let args = (start c.before.before).args in
+    let args = c.args in
     let turn = c.loop-j in
     let all : turn.j ≡ length args.lost.now / 4 = omega arith in
     ap₂ ◌+◌ turn.invariant.3 (c.flips_between.ensures ∙ ap (λ (r : ℕ). flips_between args.a.now args.b.now r args.bits) turn.invariant.1)

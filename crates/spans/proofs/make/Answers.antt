@@ -11,9 +11,6 @@ make_bytes-requires c = (search rules, search rules, λ k. (c.type_inv.block k).
 
 pub returns : goal.returns
 returns c =
-    let tail = c.before.before in
-    let bytes = tail.before.before.before.before in
-    let head = bytes.before.before.before.before in
-    let args = head.args in
+    let args = c.args in
     made-parts (args.value % 2) args.from ((args.from + 7) / 8) (args.to / 8) args.to args.block.now
-    (omega arith) (omega arith) (omega arith) head.make_bits-2.ensures bytes.make_bytes.ensures tail.make_bits-3.ensures
+    (omega arith) (omega arith) (omega arith) c.make_bits-2.ensures c.make_bytes.ensures c.make_bits-3.ensures

@@ -9,7 +9,6 @@ use Rattle.bits.specs.Bit.{with_bit}
 use Rattle.spans.specs.Walking.{made}
 use Rattle.spans.proofs.Filling.{made_none, made-one-more, length-made}
 use Rattle.spans.proofs.make_bits.Goals as goal
-use Rattle.spans.proofs.make_bits.Goals.{At-loop-i, Start}
 
 pub loop-i-init : goal.loop-i-init
 loop-i-init c =
@@ -17,28 +16,24 @@ loop-i-init c =
     let none : args.from - args.from ≡ 0 = omega arith in
     (search rules, search rules, sym (rw none (made_none (args.value % 2) args.from args.block.now)))
 
-abbrev start : At-loop-i → Start
-start c = c.before.before
-
 pub loop-i-preserved : goal.loop-i-preserved
 loop-i-preserved c =
-    let turn = c.before.before.before.before.before in
-    let args = (start turn).args in
+    let args = c.args in
     let b = args.value % 2 in
-    let i = turn.loop-i.i in
+    let i = c.loop-i.i in
     let more : i + 1 - args.from ≡ i - args.from + 1 = omega arith in
     let here : args.from + (i - args.from) ≡ i = omega arith in (
       search rules,
       search rules,
-      c.put_bit.ensures ∙ ap (λ (l : List ℕ). with_bit l i b) turn.loop-i.invariant.2
+      c.put_bit.ensures ∙ ap (λ (l : List ℕ). with_bit l i b) c.loop-i.invariant.2
           ∙ sym (rw more (made-one-more b args.from (i - args.from) args.block.now ∙ rw here)),
     )
 
 pub shape_of-block : goal.shape_of-block
-shape_of-block c = let args = (start c.before).args in ap length c.loop-i.invariant.2 ∙ length-made (args.value % 2) args.from _ _
+shape_of-block c = let args = c.args in ap length c.loop-i.invariant.2 ∙ length-made (args.value % 2) args.from _ _
 
 pub returns : goal.returns
 returns c =
-    let args = (start c.before).args in
+    let args = c.args in
     let end : c.loop-i.i ≡ args.to = omega arith in
     c.loop-i.invariant.2 ∙ ap (λ (i : ℕ). made (args.value % 2) args.from (i - args.from) args.block.now) end

@@ -6,8 +6,7 @@ use Rattle.decoder.proofs.decoding.answer_by.Goals as goal
 
 pub returns-then-limit-count : goal.returns-then-limit-count
 returns-then-limit-count c =
-    let copied = c.before.before in
-    by-unsettled _ _ _ _ copied.if-limit-count.true copied.copy_front.ensures
+    by-unsettled _ _ _ _ c.if-limit-count.true c.copy_front.ensures
 
 pub returns : goal.returns
 returns c = by-settled _ _ _ _ (omega (arith, c.if-limit-count.false))

@@ -18,21 +18,15 @@ use Rattle.decoder.specs.Answer.{decode_check, decode_reply, Decodes}
 use Rattle.decoder.specs.declared.decoding.Decoding.{Decoding}
 use Rattle.decoder.proofs.Settling.{decode-stopped, check-plan, check-block, check-spans, check-short, check-limit, check-passed}
 use Rattle.decoder.proofs.decoding.decode.Goals as goal
-use Rattle.decoder.proofs.decoding.decode.Goals.{After-check_block, After-check_plan-plan, After-check_spans, After-struct_known-1, After-struct_known-in-Passed-check_block-1, In-Passed-check_block, In-Passed-check_spans, Start}
+use Rattle.decoder.proofs.decoding.decode.Goals.{After-check_block, After-check_spans, After-struct_known-1, In-Passed-check_block, In-Passed-check_spans, Start}
 
 abbrev plan_in : Start → Plan
 plan_in c = plan_of c.args.left.now c.args.right.now c.args.nl c.args.nr c.args.wiring.now
 
 -- ---- an accepted plan
 
-abbrev planned : After-struct_known-1 → After-check_plan-plan
-planned c = c.before.before.before
-
-abbrev start : After-struct_known-1 → Start
-start c = (planned c).before.before.before.before.before.before.before
-
-plan : (c : After-struct_known-1) → PlanAccepted (plan_in (start c)) (planned c).check_plan-plan.result
-plan c = plan-accepted _ _ (planned c).check_plan-plan.ensures c.enum_told-1.given.1
+plan : (c : After-struct_known-1) → PlanAccepted (plan_in c.before.before.before.before.before.before.before.before.before.before.before) c.check_plan-plan.result
+plan c = plan-accepted _ _ c.check_plan-plan.ensures c.in-Passed.is
 
 pub overflow_mul-plan : goal.overflow_mul-plan
 overflow_mul-plan c =
@@ -41,44 +35,31 @@ overflow_mul-plan c =
 
 -- the check of the block at the plan's number of edges
 checked : (c : After-check_block) (reply : Reply) → check_reply c.check_block.result ≡ reply
-    → block_check (edge_count (plan_in (start c.before))) (start c.before).args.received.now ≡ reply
+    → block_check (edge_count (plan_in c.before.before.before.before.before.before.before.before.before.before.before.before)) c.args.received.now ≡ reply
 checked c reply e =
-    ap (λ (N : ℕ). block_check N (start c.before).args.received.now) (sym (accepted-edges (plan c.before)))
+    ap (λ (N : ℕ). block_check N c.args.received.now) (sym (accepted-edges (plan (record { before = c.before.before; type_inv = record { output = c.slice_known-1.given; lost = c.shared_slice_known-5-1.given; received = c.shared_slice_known-4-1.given; wiring = c.shared_slice_known-3-1.given; right = c.shared_slice_known-2-1.given; left = c.shared_slice_known-1.given; } }))))
     ∙ sym c.check_block.ensures ∙ e
 
 -- ---- a block that passes
 
-abbrev ready : In-Passed-check_block → After-struct_known-1
-ready c = c.before.before.before
-
-block : (c : In-Passed-check_block) → block_check (edge_count (plan_in (start (ready c)))) (start (ready c)).args.received.now ≡ done []
-block c = checked c.before.before (done []) (ap check_reply c.enum_told-in-Passed-check_block-1.given.1)
-
-abbrev behind : After-struct_known-in-Passed-check_block-1 → In-Passed-check_block
-behind c = c.before
+block : (c : In-Passed-check_block) → block_check (edge_count (plan_in c.before.before.before.before.before.before.before.before.before.before.before.before.before.before)) c.args.received.now ≡ done []
+block c = checked (record { before = c.before.before.before; type_inv = record { output = c.slice_known-1.given; lost = c.shared_slice_known-5-1.given; received = c.shared_slice_known-4-1.given; wiring = c.shared_slice_known-3-1.given; right = c.shared_slice_known-2-1.given; left = c.shared_slice_known-1.given; } }) (done []) (ap check_reply c.in-Passed-check_block.is)
 
 pub overflow_mul-plan-in-Passed-check_block : goal.overflow_mul-plan-in-Passed-check_block
 overflow_mul-plan-in-Passed-check_block c =
-    let p = plan (ready (behind c)) in
+    let p = plan (goal.at.overflow_mul-plan-in-Passed-check_block c).After-struct_known-1 in
     omega (arith, accepted-edges p, fitted-edges p.plan-wired.left-fits)
 
 -- the check of the list at the plan's number of edges
 listed : (c : After-check_spans) (reply : Reply) → check_reply c.check_spans.result ≡ reply
-    → let s = start (ready (behind c.before)) in spans_check (edge_count (plan_in s)) s.args.lost.now ≡ reply
+    → spans_check (edge_count (plan_in c.before.before.before.before.before.before.before.before.before.before.before.before.before.before.before.before)) c.args.lost.now ≡ reply
 listed c reply e =
-    let s = ready (behind c.before) in
-    ap (λ (N : ℕ). spans_check N (start s).args.lost.now) (sym (accepted-edges (plan s))) ∙ sym c.check_spans.ensures ∙ e
+    ap (λ (N : ℕ). spans_check N c.args.lost.now) (sym (accepted-edges (plan (record { before = c.before.before.before.before.before.before; type_inv = record { output = c.slice_known-1.given; lost = c.shared_slice_known-5-1.given; received = c.shared_slice_known-4-1.given; wiring = c.shared_slice_known-3-1.given; right = c.shared_slice_known-2-1.given; left = c.shared_slice_known-1.given; } })))) ∙ sym c.check_spans.ensures ∙ e
 
 -- ---- a list that passes
 
-abbrev past : In-Passed-check_spans → In-Passed-check_block
-past c = behind c.before.before.before
-
-abbrev call : In-Passed-check_spans → Start
-call c = start (ready (past c))
-
-spans : (c : In-Passed-check_spans) → spans_check (edge_count (plan_in (call c))) (call c).args.lost.now ≡ done []
-spans c = listed c.before.before (done []) (ap check_reply c.enum_told-in-Passed-check_spans-1.given.1)
+spans : (c : In-Passed-check_spans) → spans_check (edge_count (plan_in c.before.before.before.before.before.before.before.before.before.before.before.before.before.before.before.before.before.before)) c.args.lost.now ≡ done []
+spans c = listed (record { before = c.before.before.before; type_inv = record { output = c.slice_known-1.given; lost = c.shared_slice_known-5-1.given; received = c.shared_slice_known-4-1.given; wiring = c.shared_slice_known-3-1.given; right = c.shared_slice_known-2-1.given; left = c.shared_slice_known-1.given; } }) (done []) (ap check_reply c.in-Passed-check_spans.is)
 
 -- a call that is stopped answers with `refuse`
 stopped : (plan : Plan) (received lost output : List ℕ) (H : ℕ) {number place : ℕ} {r : Decoding}
@@ -96,56 +77,47 @@ stopped plan received lost output H stops (answers, (tells, none)) =
 
 pub returns-then-output-received : goal.returns-then-output-received
 returns-then-output-received c =
-    let passed = c.before.before in
-    let args = (call passed).args in
-    let pass = block (past passed) in
+    let args = c.args in
+    let pass = block (goal.at.returns-then-output-received c).In-Passed-check_block in
     stopped _ _ _ _ _
-    (check-short _ args.received.now args.lost.now args.output.now args.limit (plan (ready (past passed))).plan-done pass
-    (spans passed) (omega (arith, block-sized _ _ pass)))
+    (check-short _ args.received.now args.lost.now args.output.now args.limit (plan (goal.at.returns-then-output-received c).After-struct_known-1).plan-done pass
+    (spans (goal.at.returns-then-output-received c).In-Passed-check_spans) (omega (arith, block-sized _ _ pass)))
     c.refuse-then-output-received.ensures
 
 pub returns-then-limit-gt-MAX_LIMIT : goal.returns-then-limit-gt-MAX_LIMIT
 returns-then-limit-gt-MAX_LIMIT c =
-    let passed = c.before.before.before in
-    let args = (call passed).args in
-    let pass = block (past passed) in
+    let args = c.args in
+    let pass = block (goal.at.returns-then-limit-gt-MAX_LIMIT c).In-Passed-check_block in
     stopped _ _ _ _ _
-    (check-limit _ args.received.now args.lost.now args.output.now args.limit (plan (ready (past passed))).plan-done pass
-    (spans passed) (omega (arith, block-sized _ _ pass)) (omega arith))
+    (check-limit _ args.received.now args.lost.now args.output.now args.limit (plan (goal.at.returns-then-limit-gt-MAX_LIMIT c).After-struct_known-1).plan-done pass
+    (spans (goal.at.returns-then-limit-gt-MAX_LIMIT c).In-Passed-check_spans) (omega (arith, block-sized _ _ pass)) (omega arith))
     c.refuse-then-limit-gt-MAX_LIMIT.ensures
 
 pub decode_checked-requires : goal.decode_checked-requires
 decode_checked-requires c =
-    let passed = c.before.before.before in
-    let p = plan (ready (past passed)) in
-    let pass = block (past passed) in (
+    let p = plan (goal.at.decode_checked-requires c).After-struct_known-1 in
+    let pass = block (goal.at.decode_checked-requires c).In-Passed-check_block in (
       p.code_is left,
       (
         p.code_is right,
-        check-passed _ _ _ _ _ p.plan-done pass (spans passed) (omega (arith, block-sized _ _ pass)) (omega arith),
+        check-passed _ _ _ _ _ p.plan-done pass (spans (goal.at.decode_checked-requires c).In-Passed-check_spans) (omega (arith, block-sized _ _ pass)) (omega arith),
       ),
     )
 
 pub returns-in-Refused : goal.returns-in-Refused
 returns-in-Refused c =
-    let values = c.before.before in
     stopped _ _ _ _ _
-    (check-plan _ _ _ _ _ (plan-refused _ _ values.check_plan-plan.ensures _ values.checked.given.1))
+    (check-plan _ _ _ _ _ (plan-refused _ _ c.check_plan-plan.ensures _ c.in-Refused.is))
     c.refuse.ensures
 
 pub returns-in-Refused-check_block : goal.returns-in-Refused-check_block
 returns-in-Refused-check_block c =
-    let faulty = c.before.before in
-    let block = faulty.before.before in
     stopped _ _ _ _ _
-    (check-block _ _ _ _ _ (plan block.before).plan-done (checked block (refused _ _) (ap check_reply faulty.r.given.1)))
+    (check-block _ _ _ _ _ (plan (goal.at.returns-in-Refused-check_block c).After-struct_known-1).plan-done (checked (goal.at.returns-in-Refused-check_block c).After-check_block (refused _ _) (ap check_reply c.in-Refused-check_block.is)))
     c.refuse-in-Refused-check_block.ensures
 
 pub returns-in-Refused-check_spans : goal.returns-in-Refused-check_spans
 returns-in-Refused-check_spans c =
-    let faulty = c.before.before in
-    let list = faulty.before.before in
-    let passed = behind list.before in
     stopped _ _ _ _ _
-    (check-spans _ _ _ _ _ (plan (ready passed)).plan-done (block passed) (listed list (refused _ _) (ap check_reply faulty.r2.given.1)))
+    (check-spans _ _ _ _ _ (plan (goal.at.returns-in-Refused-check_spans c).After-struct_known-1).plan-done (block (goal.at.returns-in-Refused-check_spans c).In-Passed-check_block) (listed (goal.at.returns-in-Refused-check_spans c).After-check_spans (refused _ _) (ap check_reply c.in-Refused-check_spans.is)))
     c.refuse-in-Refused-check_spans.ensures

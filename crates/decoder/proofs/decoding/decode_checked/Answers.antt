@@ -12,7 +12,7 @@ use Rattle.wiring.proofs.Blocks.{block_room}
 use Rattle.sweeps.proofs.Visiting.{side-preparable}
 use Rattle.decoder.proofs.Trials.{check-means, none-lost, check-none, answers-none, copy-codeword}
 use Rattle.decoder.proofs.decoding.decode_checked.Goals as goal
-use Rattle.decoder.proofs.decoding.decode_checked.Goals.{After-prepare_finder, Start}
+use Rattle.decoder.proofs.decoding.decode_checked.Goals.{Start}
 
 abbrev plan_in : Start → Plan
 plan_in c = plan_of c.args.left.now c.args.right.now c.args.nl c.args.nr c.args.wiring.now
@@ -22,9 +22,8 @@ accepted c = (check-means _ _ _ _ _ c.requires.1.1).plan-done
 
 pub is_codeword_at_sight-requires : goal.is_codeword_at_sight-requires
 is_codeword_at_sight-requires c =
-    let s = c.before.before.before.before.before.before.before in
-    let passed = check-means _ _ _ _ _ s.requires.1.1 in
-    codes-readable (plan_in s) (accepted s) _ (block_room _ _ passed.block-done) s.requires.wiring_value s.requires.left_code_value
+    let passed = check-means _ _ _ _ _ c.requires.1.1 in
+    codes-readable (plan_in (goal.at.is_codeword_at_sight-requires c).Start) (accepted (goal.at.is_codeword_at_sight-requires c).Start) _ (block_room _ _ passed.block-done) c.requires.wiring_value c.requires.left_code_value
 
 -- ---- a block that is a codeword at sight
 
@@ -33,53 +32,41 @@ copy_front-requires c = (check-means _ _ _ _ _ c.requires.1.1).fits
 
 pub returns-then-is_codeword_at_sight : goal.returns-then-is_codeword_at_sight
 returns-then-is_codeword_at_sight c =
-    let copied = c.before.before in
-    let sight = copied.before.before in
-    let s = c.before.before.before.before.before.before.before.before.before.before.before.before.before in
     let none = none-lost _ c.if-lost-eq0.true in
-    answers-none (plan_in s) _ _ _ _ none
-    (copy-codeword (plan_in s) _ _ _ (check-none (plan_in s) _ _ _ _ none s.requires.1.1) s.args.left-code s.args.right-code s.requires.wiring_value
-    s.requires.left_code_value (sight.is_codeword_at_sight.ensures sight.if-is_codeword_at_sight.true) copied.copy_front.ensures)
+    answers-none (plan_in (goal.at.returns-then-is_codeword_at_sight c).Start) _ _ _ _ none
+    (copy-codeword (plan_in (goal.at.returns-then-is_codeword_at_sight c).Start) _ _ _ (check-none (plan_in (goal.at.returns-then-is_codeword_at_sight c).Start) _ _ _ _ none c.requires.1.1) c.args.left-code c.args.right-code c.requires.wiring_value
+    c.requires.left_code_value (c.is_codeword_at_sight.ensures c.if-is_codeword_at_sight.true) c.copy_front.ensures)
 
 -- ---- any other
 
-abbrev start : After-prepare_finder → Start
-start c = c.before.before.before.before.before.before.before.before.before.before.before
-
 pub prepare_finder-requires : goal.prepare_finder-requires
 prepare_finder-requires c =
-    let s = c.before.before.before.before.before.before.before.before.before.before in
-    side-preparable (plan_in s) (accepted s) left s.requires.wiring_value refl
+    side-preparable (plan_in (goal.at.prepare_finder-requires c).Start) (accepted (goal.at.prepare_finder-requires c).Start) left c.requires.wiring_value refl
 
 pub decode_trials-requires : goal.decode_trials-requires
 decode_trials-requires c =
-    let first = c.before.before.before.before.before.before in
-    let s = start first in (
+    (
       record {
-        plan-done = accepted s;
-        left-finds = first.prepare_finder.ensures;
+        plan-done = accepted (goal.at.decode_trials-requires c).Start;
+        left-finds = c.prepare_finder.ensures;
         right-finds = λ some. absurd (some refl);
         shared = λ _. c.same.ensures.when_true c.if-same.true;
       },
-      s.requires.1.1,
+      c.requires.1.1,
     )
 
 pub prepare_finder-requires-2 : goal.prepare_finder-requires-2
 prepare_finder-requires-2 c =
-    let s = start c.before.before.before.before.before.before in
-    side-preparable (plan_in s) (accepted s) right s.requires.left_code_value refl
+    side-preparable (plan_in (goal.at.prepare_finder-requires-2 c).Start) (accepted (goal.at.prepare_finder-requires-2 c).Start) right c.requires.left_code_value refl
 
 pub decode_trials-requires-2 : goal.decode_trials-requires-2
 decode_trials-requires-2 c =
-    let first = c.before.before.before.before.before.before.before.before.before.before.before in
-    let second = c.before.before.before.before in
-    let s = start first in
-    let finds = second.prepare_finder-2.ensures in (
+    let finds = c.prepare_finder-2.ensures in (
       record {
-        plan-done = accepted s;
-        left-finds = first.prepare_finder.ensures;
+        plan-done = accepted (goal.at.decode_trials-requires-2 c).Start;
+        left-finds = c.prepare_finder.ensures;
         right-finds = λ _. finds;
         shared = λ none. absurd (omega (arith, finds.sized));
       },
-      s.requires.1.1,
+      c.requires.1.1,
     )

@@ -27,10 +27,8 @@ many c =
 
 pub decode_placed-requires : goal.decode_placed-requires
 decode_placed-requires c =
-    let s = c.before.before.before.before.before.before.before.before.before.before.before.before.before.before in
-    (s.requires.wiring_value, (s.requires.ready, (few s c.if-wiring.true, s.requires.1.1)))
+    (c.requires.wiring_value, (c.requires.ready, (few (goal.at.decode_placed-requires c).Start c.if-wiring.true, c.requires.1.1)))
 
 pub decode_placed-requires-2 : goal.decode_placed-requires-2
 decode_placed-requires-2 c =
-    let s = c.before.before.before.before.before.before.before.before.before.before.before.before.before.before in
-    (s.requires.wiring_value, (s.requires.ready, (many s, s.requires.1.1)))
+    (c.requires.wiring_value, (c.requires.ready, (many (goal.at.decode_placed-requires-2 c).Start, c.requires.1.1)))

@@ -48,26 +48,19 @@ module _ (c : Start) where
 -- ---- the trial with zeros is laid out
 
 module _ (c : After-lay_out) where
-  abbrev start : Start
-  start = c.before.before.before.before.before.before.before.before.before.before
 
   abbrev laid : List ℕ
   laid = c.lay_out.new.room
 
-  put : laid ≡ written (block start) (output start)
+  put : laid ≡ written (block c.before.before.before.before.before.before.before.before.before.before.before) (output c.before.before.before.before.before.before.before.before.before.before.before)
   put = c.lay_out.ensures
 
-  part : take (length (received start) - 0) laid ≡ block start
-  part = laid-part (block start) (output start) (length (received start) - 0) put (sized start)
+  part : take (length (received c.before.before.before.before.before.before.before.before.before.before.before) - 0) laid ≡ block c.before.before.before.before.before.before.before.before.before.before.before
+  part = laid-part (block c.before.before.before.before.before.before.before.before.before.before.before) (output c.before.before.before.before.before.before.before.before.before.before.before) (length (received c.before.before.before.before.before.before.before.before.before.before.before) - 0) put (sized c.before.before.before.before.before.before.before.before.before.before.before)
 
 -- ---- its first two sweeps are made
 
 module _ (c : After-open-opening) where
-  abbrev before : After-lay_out
-  before = c.before.before.before.before.before.before.before
-
-  abbrev call : Start
-  call = start before
 
   abbrev opening : Opening
   opening = c.«open».result
@@ -79,76 +72,65 @@ module _ (c : After-open-opening) where
   swept = c.«open».new.1.1.1.1.1.1.1.1.1.0
 
   abbrev after : List ℕ
-  after = swept ++ drop (length (received call) - 0) (laid before)
+  after = swept ++ drop (length (received c.before.before.before.before.before.before.before.before.before.before.before.before.before.before.before.before.before.before) - 0) (laid (record { before = c.before.before.before.before.before.before.before.before; type_inv = record { lost = c.shared_slice_known-5-1.given; received = c.shared_slice_known-4-1.given; right_finder = c.slice_known-2-1.given; left_finder = c.slice_known-1.given; wiring = c.shared_slice_known-3-1.given; right = c.shared_slice_known-2-1.given; left = c.shared_slice_known-1.given; } }))
 
-  swept_kept : length swept ≡ length (take (length (received call) - 0) (laid before))
+  swept_kept : length swept ≡ length (take (length (received c.before.before.before.before.before.before.before.before.before.before.before.before.before.before.before.before.before.before) - 0) (laid (record { before = c.before.before.before.before.before.before.before.before; type_inv = record { lost = c.shared_slice_known-5-1.given; received = c.shared_slice_known-4-1.given; right_finder = c.slice_known-2-1.given; left_finder = c.slice_known-1.given; wiring = c.shared_slice_known-3-1.given; right = c.shared_slice_known-2-1.given; left = c.shared_slice_known-1.given; } })))
   swept_kept = c.«open».auto.1.1.1.1.1.1.1.1.1.0
 
-  swept-sized : length swept ≡ length (received call)
-  swept-sized = swept_kept ∙ ap length (part before) ∙ length-filled 0 (lost call) (received call)
+  swept-sized : length swept ≡ length (received c.before.before.before.before.before.before.before.before.before.before.before.before.before.before.before.before.before.before)
+  swept-sized = swept_kept ∙ ap length (part (record { before = c.before.before.before.before.before.before.before.before; type_inv = record { lost = c.shared_slice_known-5-1.given; received = c.shared_slice_known-4-1.given; right_finder = c.slice_known-2-1.given; left_finder = c.slice_known-1.given; wiring = c.shared_slice_known-3-1.given; right = c.shared_slice_known-2-1.given; left = c.shared_slice_known-1.given; } })) ∙ length-filled 0 (lost c.before.before.before.before.before.before.before.before.before.before.before.before.before.before.before.before.before.before) (received c.before.before.before.before.before.before.before.before.before.before.before.before.before.before.before.before.before.before)
 
-  whole : after ≡ written swept (output call)
-  whole = laid-whole (block call) (output call) (length (received call) - 0) (put before) (sized call) swept swept_kept
+  whole : after ≡ written swept (output c.before.before.before.before.before.before.before.before.before.before.before.before.before.before.before.before.before.before)
+  whole = laid-whole (block c.before.before.before.before.before.before.before.before.before.before.before.before.before.before.before.before.before.before) (output c.before.before.before.before.before.before.before.before.before.before.before.before.before.before.before.before.before.before) (length (received c.before.before.before.before.before.before.before.before.before.before.before.before.before.before.before.before.before.before) - 0) (put (record { before = c.before.before.before.before.before.before.before.before; type_inv = record { lost = c.shared_slice_known-5-1.given; received = c.shared_slice_known-4-1.given; right_finder = c.slice_known-2-1.given; left_finder = c.slice_known-1.given; wiring = c.shared_slice_known-3-1.given; right = c.shared_slice_known-2-1.given; left = c.shared_slice_known-1.given; } })) (sized c.before.before.before.before.before.before.before.before.before.before.before.before.before.before.before.before.before.before) swept swept_kept
 
-  after-sized : length after ≡ length (output call)
-  after-sized = ap length whole ∙ length-written swept (output call) (omega (arith, swept-sized, (passed call).fits))
+  after-sized : length after ≡ length (output c.before.before.before.before.before.before.before.before.before.before.before.before.before.before.before.before.before.before)
+  after-sized = ap length whole ∙ length-written swept (output c.before.before.before.before.before.before.before.before.before.before.before.before.before.before.before.before.before.before) (omega (arith, swept-sized, (passed c.before.before.before.before.before.before.before.before.before.before.before.before.before.before.before.before.before.before).fits))
 
-  opened : Opened (plan_in call) (block call) call.args.limit opening kept swept
+  opened : Opened (plan_in c.before.before.before.before.before.before.before.before.before.before.before.before.before.before.before.before.before.before) (block c.before.before.before.before.before.before.before.before.before.before.before.before.before.before.before.before.before.before) c.args.limit opening kept swept
   opened =
-      subst (λ (b : List ℕ). Opened (plan_in call) b call.args.limit opening kept swept) (part before) c.«open».ensures.1
+      subst (λ (b : List ℕ). Opened (plan_in c.before.before.before.before.before.before.before.before.before.before.before.before.before.before.before.before.before.before) b c.args.limit opening kept swept) (part (record { before = c.before.before.before.before.before.before.before.before; type_inv = record { lost = c.shared_slice_known-5-1.given; received = c.shared_slice_known-4-1.given; right_finder = c.slice_known-2-1.given; left_finder = c.slice_known-1.given; wiring = c.shared_slice_known-3-1.given; right = c.shared_slice_known-2-1.given; left = c.shared_slice_known-1.given; } })) c.«open».ensures.1
 
-  opened-here : Opened (plan_in call) (block call) opening.limit opening kept (take (length (received call)) after)
+  opened-here : Opened (plan_in c.before.before.before.before.before.before.before.before.before.before.before.before.before.before.before.before.before.before) (block c.before.before.before.before.before.before.before.before.before.before.before.before.before.before.before.before.before.before) opening.limit opening kept (take (length (received c.before.before.before.before.before.before.before.before.before.before.before.before.before.before.before.before.before.before)) after)
   opened-here =
-      laid-opened (block call) (output call) (length (received call) - 0) (put before) (sized call) swept swept_kept c.«open».ensures.1
-      (length (received call)) (omega arith)
+      laid-opened (block c.before.before.before.before.before.before.before.before.before.before.before.before.before.before.before.before.before.before) (output c.before.before.before.before.before.before.before.before.before.before.before.before.before.before.before.before.before.before) (length (received c.before.before.before.before.before.before.before.before.before.before.before.before.before.before.before.before.before.before) - 0) (put (record { before = c.before.before.before.before.before.before.before.before; type_inv = record { lost = c.shared_slice_known-5-1.given; received = c.shared_slice_known-4-1.given; right_finder = c.slice_known-2-1.given; left_finder = c.slice_known-1.given; wiring = c.shared_slice_known-3-1.given; right = c.shared_slice_known-2-1.given; left = c.shared_slice_known-1.given; } })) (sized c.before.before.before.before.before.before.before.before.before.before.before.before.before.before.before.before.before.before) swept swept_kept c.«open».ensures.1
+      (length (received c.before.before.before.before.before.before.before.before.before.before.before.before.before.before.before.before.before.before)) (omega arith)
 
   -- what a decoding ensures that goes on from there
-  decoded : {r : Decoding} {left : List ℕ} → Decodes (plan_in call) (received call) (lost call) after opening.limit r left
-      → Decodes (plan_in call) (received call) (lost call) (output call) call.args.limit r left
+  decoded : {r : Decoding} {left : List ℕ} → Decodes (plan_in c.before.before.before.before.before.before.before.before.before.before.before.before.before.before.before.before.before.before) (received c.before.before.before.before.before.before.before.before.before.before.before.before.before.before.before.before.before.before) (lost c.before.before.before.before.before.before.before.before.before.before.before.before.before.before.before.before.before.before) after opening.limit r left
+      → Decodes (plan_in c.before.before.before.before.before.before.before.before.before.before.before.before.before.before.before.before.before.before) (received c.before.before.before.before.before.before.before.before.before.before.before.before.before.before.before.before.before.before) (lost c.before.before.before.before.before.before.before.before.before.before.before.before.before.before.before.before.before.before) (output c.before.before.before.before.before.before.before.before.before.before.before.before.before.before.before.before.before.before) c.args.limit r left
   decoded {r} {left} answered =
-      over-answers (plan_in call) (received call) (lost call) (output call) call.args.limit call.requires.1 swept swept-sized
-      (subst (λ (out : List ℕ). Decodes (plan_in call) (received call) (lost call) out call.args.limit r left) whole
-      (subst (λ (H : ℕ). Decodes (plan_in call) (received call) (lost call) after H r left) opened.limit_is answered))
+      over-answers (plan_in c.before.before.before.before.before.before.before.before.before.before.before.before.before.before.before.before.before.before) (received c.before.before.before.before.before.before.before.before.before.before.before.before.before.before.before.before.before.before) (lost c.before.before.before.before.before.before.before.before.before.before.before.before.before.before.before.before.before.before) (output c.before.before.before.before.before.before.before.before.before.before.before.before.before.before.before.before.before.before) c.args.limit c.requires.1 swept swept-sized
+      (subst (λ (out : List ℕ). Decodes (plan_in c.before.before.before.before.before.before.before.before.before.before.before.before.before.before.before.before.before.before) (received c.before.before.before.before.before.before.before.before.before.before.before.before.before.before.before.before.before.before) (lost c.before.before.before.before.before.before.before.before.before.before.before.before.before.before.before.before.before.before) out c.args.limit r left) whole
+      (subst (λ (H : ℕ). Decodes (plan_in c.before.before.before.before.before.before.before.before.before.before.before.before.before.before.before.before.before.before) (received c.before.before.before.before.before.before.before.before.before.before.before.before.before.before.before.before.before.before) (lost c.before.before.before.before.before.before.before.before.before.before.before.before.before.before.before.before.before.before) after H r left) opened.limit_is answered))
 
 pub lay_out-requires : goal.lay_out-requires
-lay_out-requires c = (passed c.before.before.before.before.before.before.before.before.before).fits
+lay_out-requires c = (passed (goal.at.lay_out-requires c).Start).fits
 
 pub slice_bounds-open-end : goal.slice_bounds-open-end
 slice_bounds-open-end c =
-    let d = c.before.before.before.before.before in
-    omega (arith, (passed (start d)).fits, d.lay_out.auto.room)
+    omega (arith, (passed (goal.at.slice_bounds-open-end c).Start).fits, c.lay_out.auto.room)
 
 pub open-opening-requires : goal.open-opening-requires
 open-opening-requires c =
-    let d = c.before.before.before.before.before.before in
-    let s = start d in
-    ((passed s).limited, (refl, (s.requires.wiring_value, rw (part d) (passed-filled (passed s) 0 (omega arith)))))
+    ((passed (goal.at.open-opening-requires c).Start).limited, (refl, (c.requires.wiring_value, rw (part (goal.at.open-opening-requires c).After-lay_out) (passed-filled (passed (goal.at.open-opening-requires c).Start) 0 (omega arith)))))
 
 pub returns-then-at_once : goal.returns-then-at_once
 returns-then-at_once c =
-    let d = c.before.before.before.before.before.before.before.before.before in
-    let s = call d in
     let (none, (ended, in-time)) = c.at_once.ensures c.if-at_once.true in
-    twice-none (plan_in s) (received s) (lost s) (output s) s.args.limit s.requires.1 ((opened d).closed ended) (whole d)
-    (by-settled (received s) s.args.limit (record { count = (opening d).count; sums = (opening d).sums; visits = (opening d).visits }) (after d) in-time)
+    twice-none (plan_in (goal.at.returns-then-at_once c).Start) (received (goal.at.returns-then-at_once c).Start) (lost (goal.at.returns-then-at_once c).Start) (output (goal.at.returns-then-at_once c).Start) c.args.limit c.requires.1 ((opened (goal.at.returns-then-at_once c).After-open-opening).closed ended) (whole (goal.at.returns-then-at_once c).After-open-opening)
+    (by-settled (received (goal.at.returns-then-at_once c).Start) c.args.limit (record { count = (opening (goal.at.returns-then-at_once c).After-open-opening).count; sums = (opening (goal.at.returns-then-at_once c).After-open-opening).sums; visits = (opening (goal.at.returns-then-at_once c).After-open-opening).visits }) (after (goal.at.returns-then-at_once c).After-open-opening) in-time)
     none
 
 pub decode_on-requires : goal.decode_on-requires
 decode_on-requires c =
-    let d = c.before.before.before.before.before.before.before.before.before.before.before.before.before in
-    let s = call d in
-    let checked = ap₂ (decode_check (plan_in s) (received s) (lost s)) (whole d) (opened d).limit_is
-    ∙ over-check (plan_in s) (received s) (lost s) (output s) s.args.limit s.requires.1 (swept d) (swept-sized d) in
-    (d.«open».ensures.0, (checked, opened-here d))
+    let checked = ap₂ (decode_check (plan_in (goal.at.decode_on-requires c).Start) (received (goal.at.decode_on-requires c).Start) (lost (goal.at.decode_on-requires c).Start)) (whole (goal.at.decode_on-requires c).After-open-opening) (opened (goal.at.decode_on-requires c).After-open-opening).limit_is
+    ∙ over-check (plan_in (goal.at.decode_on-requires c).Start) (received (goal.at.decode_on-requires c).Start) (lost (goal.at.decode_on-requires c).Start) (output (goal.at.decode_on-requires c).Start) c.args.limit c.requires.1 (swept (goal.at.decode_on-requires c).After-open-opening) (swept-sized (goal.at.decode_on-requires c).After-open-opening) in
+    (c.«open».ensures.0, (checked, opened-here (goal.at.decode_on-requires c).After-open-opening))
 
 pub shape_of-output : goal.shape_of-output
 shape_of-output c =
-    let on = c.before.before.before.before.before.before in
-    let d = on.before.before.before.before.before.before.before.before.before.before.before.before.before.before in
-    on.decode_on.auto.output ∙ after-sized d
+    c.decode_on.auto.output ∙ after-sized (goal.at.shape_of-output c).After-open-opening
 
 pub returns : goal.returns
 returns c =
-    let on = c.before.before.before.before.before.before in
-    let d = on.before.before.before.before.before.before.before.before.before.before.before.before.before.before in
-    decoded d on.decode_on.ensures
+    decoded (goal.at.returns c).After-open-opening c.decode_on.ensures

@@ -34,8 +34,6 @@ module _ (c : Start) where
 -- ---- the trial is swept on
 
 module _ (c : After-finish-settling) where
-  abbrev start : Start
-  start = c.before.before.before.before.before.before.before.before.before.before.before.before.before.before.before.before.before.before.before
 
   abbrev made : Settling
   made = c.finish-settling.result
@@ -44,79 +42,69 @@ module _ (c : After-finish-settling) where
   swept = c.finish-settling.new.block
 
   abbrev after : List ℕ
-  after = swept ++ drop (size start - 0) (room start)
+  after = swept ++ drop (size c.before.before.before.before.before.before.before.before.before.before.before.before.before.before.before.before.before.before.before - 0) (room c.before.before.before.before.before.before.before.before.before.before.before.before.before.before.before.before.before.before.before)
 
-  kept : length swept ≡ length (take (size start - 0) (room start))
+  kept : length swept ≡ length (take (size c.before.before.before.before.before.before.before.before.before.before.before.before.before.before.before.before.before.before.before - 0) (room c.before.before.before.before.before.before.before.before.before.before.before.before.before.before.before.before.before.before.before))
   kept = c.finish-settling.auto.block
 
-  whole : after ≡ written swept (room start)
-  whole = part-whole (room start) (size start) (fits start) swept kept
+  whole : after ≡ written swept (room c.before.before.before.before.before.before.before.before.before.before.before.before.before.before.before.before.before.before.before)
+  whole = part-whole (room c.before.before.before.before.before.before.before.before.before.before.before.before.before.before.before.before.before.before.before) (size c.before.before.before.before.before.before.before.before.before.before.before.before.before.before.before.before.before.before.before) (fits c.before.before.before.before.before.before.before.before.before.before.before.before.before.before.before.before.before.before.before) swept kept
 
-  front : take (size start) after ≡ swept
-  front = part-front (room start) (size start) (fits start) swept kept
+  front : take (size c.before.before.before.before.before.before.before.before.before.before.before.before.before.before.before.before.before.before.before) after ≡ swept
+  front = part-front (room c.before.before.before.before.before.before.before.before.before.before.before.before.before.before.before.before.before.before.before) (size c.before.before.before.before.before.before.before.before.before.before.before.before.before.before.before.before.before.before.before) (fits c.before.before.before.before.before.before.before.before.before.before.before.before.before.before.before.before.before.before.before) swept kept
 
-  stands : after ≡ written (take (size start) after) (room start)
-  stands = whole ∙ ap (λ (block : List ℕ). written block (room start)) (sym front)
+  stands : after ≡ written (take (size c.before.before.before.before.before.before.before.before.before.before.before.before.before.before.before.before.before.before.before) after) (room c.before.before.before.before.before.before.before.before.before.before.before.before.before.before.before.before.before.before.before)
+  stands = whole ∙ ap (λ (block : List ℕ). written block (room c.before.before.before.before.before.before.before.before.before.before.before.before.before.before.before.before.before.before.before)) (sym front)
 
   trial : (block : List ℕ)
-      → Opened (plan_in start) block start.args.opening.limit start.args.opening start.args.kept.now (take (size start) (room start))
-      → Tried (plan_in start) block start.args.opening.limit made.count made.sums made.visits (take (size start) after)
+      → Opened (plan_in c.before.before.before.before.before.before.before.before.before.before.before.before.before.before.before.before.before.before.before) block c.args.opening.limit c.args.opening c.args.kept.now (take (size c.before.before.before.before.before.before.before.before.before.before.before.before.before.before.before.before.before.before.before) (room c.before.before.before.before.before.before.before.before.before.before.before.before.before.before.before.before.before.before.before))
+      → Tried (plan_in c.before.before.before.before.before.before.before.before.before.before.before.before.before.before.before.before.before.before.before) block c.args.opening.limit made.count made.sums made.visits (take (size c.before.before.before.before.before.before.before.before.before.before.before.before.before.before.before.before.before.before.before) after)
   trial block opened =
-      subst (Tried (plan_in start) block start.args.opening.limit made.count made.sums made.visits) (sym front)
+      subst (Tried (plan_in c.before.before.before.before.before.before.before.before.before.before.before.before.before.before.before.before.before.before.before) block c.args.opening.limit made.count made.sums made.visits) (sym front)
       (c.finish-settling.ensures.settles block
-      (subst (Opened (plan_in start) block start.args.opening.limit start.args.opening start.args.kept.now)
-      (sym (part-lent (room start) (size start))) opened))
+      (subst (Opened (plan_in c.before.before.before.before.before.before.before.before.before.before.before.before.before.before.before.before.before.before.before) block c.args.opening.limit c.args.opening c.args.kept.now)
+      (sym (part-lent (room c.before.before.before.before.before.before.before.before.before.before.before.before.before.before.before.before.before.before.before) (size c.before.before.before.before.before.before.before.before.before.before.before.before.before.before.before.before.before.before.before))) opened))
 
 pub places_for-noted-requires : goal.places_for-noted-requires
 places_for-noted-requires c =
-    let s = c.before.before.before.before.before.before.before.before.before.before in
-    let accepted = s.requires.wiring_value.plan-done in
-    let entries = plan-entries (plan_in s) accepted in record {
-      permuted = plan-permuted (plan_in s) accepted;
-      wiring_len_bound = omega (arith, entries, plan-few (plan_in s) accepted);
-      wiring_in_bounds = omega (arith, entries, s.requires.opened_some);
-      places_noted = s.requires.1.1.1.1;
+    let accepted = c.requires.wiring_value.plan-done in
+    let entries = plan-entries (plan_in (goal.at.places_for-noted-requires c).Start) accepted in record {
+      permuted = plan-permuted (plan_in (goal.at.places_for-noted-requires c).Start) accepted;
+      wiring_len_bound = omega (arith, entries, plan-few (plan_in (goal.at.places_for-noted-requires c).Start) accepted);
+      wiring_in_bounds = omega (arith, entries, c.requires.opened_some);
+      places_noted = c.requires.1.1.1.1;
     }
 
 pub finish-settling-requires : goal.finish-settling-requires
 finish-settling-requires c =
-    let placed = c.before.before.before.before.before.before.before in
-    let s = placed.before.before.before.before.before.before.before.before.before.before.before in
-    let (told, needed) = placed.places_for-noted.ensures in
-    let opened = subst (OpenedSome (plan_in s) s.args.opening s.args.kept.now) (sym (part-lent (room s) (size s))) s.requires.received_in_bounds in
-    (s.requires.wiring_value, (opened, λ e. told (needed e)))
+    let (told, needed) = c.places_for-noted.ensures in
+    let opened = subst (OpenedSome (plan_in (goal.at.finish-settling-requires c).Start) c.args.opening c.args.kept.now) (sym (part-lent (room (goal.at.finish-settling-requires c).Start) (size (goal.at.finish-settling-requires c).Start))) c.requires.received_in_bounds in
+    (c.requires.wiring_value, (opened, λ e. told (needed e)))
 
 pub returns-then-lost-eq0 : goal.returns-then-lost-eq0
 returns-then-lost-eq0 c =
-    let d = c.before.before.before.before.before.before.before in
-    let placed = d.before.before.before.before.before.before.before.before in
     record {
-      still_ready = d.finish-settling.ensures.still_ready;
-      places_noted_after = placed.places_for-noted.ensures.places_noted_after;
-      room_after = stands d;
-      settles = trial d;
+      still_ready = c.finish-settling.ensures.still_ready;
+      places_noted_after = c.places_for-noted.ensures.places_noted_after;
+      room_after = stands (goal.at.returns-then-lost-eq0 c).After-finish-settling;
+      settles = trial (goal.at.returns-then-lost-eq0 c).After-finish-settling;
       changed_value = λ some. absurd (some c.if-lost-eq0.true);
     }
 
 pub slice_bounds-flips_outside-end : goal.slice_bounds-flips_outside-end
 slice_bounds-flips_outside-end c =
-    let d = c.before.before.before.before.before.before.before.before in
-    let s = start d in
-    let sized = ap length (whole d)
-    ∙ length-written (swept d) (room s) (omega (arith, part-sized (room s) (size s) (fits s) (swept d) (kept d), fits s)) in
-    omega (arith, sized, fits s)
+    let sized = ap length (whole (goal.at.slice_bounds-flips_outside-end c).After-finish-settling)
+    ∙ length-written (swept (goal.at.slice_bounds-flips_outside-end c).After-finish-settling) (room (goal.at.slice_bounds-flips_outside-end c).Start) (omega (arith, part-sized (room (goal.at.slice_bounds-flips_outside-end c).Start) (size (goal.at.slice_bounds-flips_outside-end c).Start) (fits (goal.at.slice_bounds-flips_outside-end c).Start) (swept (goal.at.slice_bounds-flips_outside-end c).After-finish-settling) (kept (goal.at.slice_bounds-flips_outside-end c).After-finish-settling), fits (goal.at.slice_bounds-flips_outside-end c).Start)) in
+    omega (arith, sized, fits (goal.at.slice_bounds-flips_outside-end c).Start)
 
 pub returns : goal.returns
 returns c =
-    let d = c.before.before.before.before.before.before.before.before.before.before in
-    let s = start d in
     let changes = c.flips_outside-changed.ensures
-    ∙ ap (flips_around (length s.args.wiring.now / 2) s.args.lost.now s.args.received.now) (part-lent (after d) (size s)) in
-    let placed = d.before.before.before.before.before.before.before.before in
+    ∙ ap (flips_around (length c.args.wiring.now / 2) c.args.lost.now c.args.received.now) (part-lent (after (goal.at.returns c).After-finish-settling) (size (goal.at.returns c).Start)) in
     record {
-      still_ready = d.finish-settling.ensures.still_ready;
-      places_noted_after = placed.places_for-noted.ensures.places_noted_after;
-      room_after = stands d;
-      settles = trial d;
+      still_ready = c.finish-settling.ensures.still_ready;
+      places_noted_after = c.places_for-noted.ensures.places_noted_after;
+      room_after = stands (goal.at.returns c).After-finish-settling;
+      settles = trial (goal.at.returns c).After-finish-settling;
       changed_value = λ _. changes;
     }

@@ -15,7 +15,7 @@ returns-then-block-gt-SMALL_BLOCK c e = absurd (true≢false (sym e))
 
 pub returns-in-Nowhere : goal.returns-in-Nowhere
 returns-in-Nowhere c e =
-    let none = ap locate_reply (sym c.enum_told-1.given.1) ∙ c.first_unsatisfied.ensures in
+    let none = ap locate_reply (sym c.in-Nowhere.is) ∙ c.first_unsatisfied.ensures in
     sym (cc none)
 
 pub returns-in-At : goal.returns-in-At

@@ -12,12 +12,10 @@ use Rattle.decoder.proofs.decoding.lay_out.Goals as goal
 
 pub returns : goal.returns
 returns c =
-    let copied = c.before.before.before.before.before.before in
-    let s = copied.before.before.before.before.before in
-    let received = s.args.received.now in
-    let room = s.args.room.now in
-    let part = laid-part received room (length received - 0) copied.copy_front.ensures (omega arith) in
+    let received = c.args.received.now in
+    let room = c.args.room.now in
+    let part = laid-part received room (length received - 0) c.copy_front.ensures (omega arith) in
     let filling = c.fill in
-    laid-whole received room (length received - 0) copied.copy_front.ensures (omega arith) filling.new.1.1.0 filling.auto.1.1.0
+    laid-whole received room (length received - 0) c.copy_front.ensures (omega arith) filling.new.1.1.0 filling.auto.1.1.0
     ∙ ap (λ (block : List ℕ). written block room)
-    (filling.ensures ∙ ap (filled (s.args.value % 2) s.args.lost.now) part)
+    (filling.ensures ∙ ap (filled (c.args.value % 2) c.args.lost.now) part)

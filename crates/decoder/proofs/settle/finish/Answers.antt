@@ -16,7 +16,7 @@ use Rattle.decoder.proofs.VisitCounts.{visits-few, visits-in-few}
 use Rattle.decoder.proofs.Passes.{Begun, turn_two, turn_more, told-sized, midway-told, midway-hears, midway-visits, midway-few, midway-more}
 use Rattle.decoder.proofs.Passes.{midway-settled, midway-lost, midway-never}
 use Rattle.decoder.proofs.settle.finish.Goals as goal
-use Rattle.decoder.proofs.settle.finish.Goals.{After-sweep_turn-here, At-loop-count, Else-opening, Start}
+use Rattle.decoder.proofs.settle.finish.Goals.{After-sweep_turn-here, At-loop-count, Start}
 
 -- ---- the call and the loop's head
 
@@ -29,40 +29,31 @@ H c = c.args.opening.limit
 limited : (c : Start) → H c ≤ 4096
 limited c = c.requires.ready.limited
 
-abbrev start : Else-opening → Start
-start c = c.before.before.before.before.before.before.before.before.before
-
-abbrev origin : At-loop-count → Start
-origin c = start c.before
-
-ready : (c : At-loop-count) → Ready (plan_in (origin c)) c.loop-count.left-finder c.loop-count.right-finder
-ready c = c.loop-count.invariant.2 (origin c).requires.wiring_value
+ready : (c : At-loop-count) → Ready (plan_in c.before.before.before.before.before.before.before.before.before.before.before) c.loop-count.left-finder c.loop-count.right-finder
+ready c = c.loop-count.invariant.2 c.requires.wiring_value
 
 -- where the trial of a received block stands
 abbrev At : At-loop-count → List ℕ → Type 0
 At c received =
-    Midway (plan_in (origin c)) received (H (origin c)) c.loop-count.count c.loop-count.sums c.loop-count.visits c.loop-count.kept c.loop-count.block
+    Midway (plan_in c.before.before.before.before.before.before.before.before.before.before.before) received (H c.before.before.before.before.before.before.before.before.before.before.before) c.loop-count.count c.loop-count.sums c.loop-count.visits c.loop-count.kept c.loop-count.block
 
 midway : (c : At-loop-count) (received : List ℕ)
-    → Opened (plan_in (origin c)) received (H (origin c)) (origin c).args.opening (origin c).args.kept.now (origin c).args.block.now → At c received
+    → Opened (plan_in c.before.before.before.before.before.before.before.before.before.before.before) received (H c.before.before.before.before.before.before.before.before.before.before.before) c.args.opening c.args.kept.now c.args.block.now → At c received
 midway c received opened = c.loop-count.invariant.1 received (opened.going c.if-opening.false)
 
 abbrev some : At-loop-count → List ℕ
-some c = (origin c).requires.ready.received
+some c = c.requires.ready.received
 
 one : (c : At-loop-count) → At c (some c)
-one c = midway c (some c) (origin c).requires.ready.opened
+one c = midway c (some c) c.requires.ready.opened
 
-begun : (c : At-loop-count) {received : List ℕ} → At c received → Begun (plan_in (origin c)) received
+begun : (c : At-loop-count) {received : List ℕ} → At c received → Begun (plan_in c.before.before.before.before.before.before.before.before.before.before.before) received
 begun c m = record { plan-done = (ready c).plan-done; block-done = m.begun }
 
-few : (c : At-loop-count) (name : SideName) → count_of (plan_in (origin c)) name ≤ 2048
-few c name = (plan-fits (plan_in (origin c)) (ready c).plan-done name).n-high
+few : (c : At-loop-count) (name : SideName) → count_of (plan_in c.before.before.before.before.before.before.before.before.before.before.before) name ≤ 2048
+few c name = (plan-fits (plan_in c.before.before.before.before.before.before.before.before.before.before.before) (ready c).plan-done name).n-high
 
 -- ---- one more sweep
-
-abbrev head : After-sweep_turn-here → At-loop-count
-head c = c.before.before.before.before.before.before
 
 abbrev block_left : After-sweep_turn-here → List ℕ
 block_left c = c.sweep_turn-here.new.block
@@ -71,42 +62,41 @@ abbrev kept_left : After-sweep_turn-here → List ℕ
 kept_left c = c.sweep_turn-here.new.kept
 
 swept : (c : After-sweep_turn-here)
-    → NewsSwept (plan_in (origin (head c))) (turn (head c).loop-count.count) (head c).loop-count.block (head c).loop-count.kept c.sweep_turn-here.result (block_left c) (kept_left c)
-swept c = rw (head c).loop-count.invariant.0 at c.sweep_turn-here.ensures.news_swept
+    → NewsSwept (plan_in c.before.before.before.before.before.before.before.before.before.before.before.before.before.before.before.before.before) (turn c.loop-count.count) c.loop-count.block c.loop-count.kept c.sweep_turn-here.result (block_left c) (kept_left c)
+swept c = rw c.loop-count.invariant.0 at c.sweep_turn-here.ensures.news_swept
 
-within : (c : After-sweep_turn-here) → (head c).loop-count.count ≤ H (origin (head c))
+within : (c : After-sweep_turn-here) → c.loop-count.count ≤ H c.before.before.before.before.before.before.before.before.before.before.before.before.before.before.before.before.before
 within c = c.loop-count-test.true
 
 -- what is lent keeps its length
 left-length : (c : After-sweep_turn-here)
-    → length c.sweep_turn-here.new.left_finder ≡ length (origin (head c)).args.left-finder.now
-left-length c = c.sweep_turn-here.auto.left_finder ∙ (head c).loop-count.invariant.3
+    → length c.sweep_turn-here.new.left_finder ≡ length c.args.left-finder.now
+left-length c = c.sweep_turn-here.auto.left_finder ∙ c.loop-count.invariant.3
 
 right-length : (c : After-sweep_turn-here)
-    → length c.sweep_turn-here.new.right_finder ≡ length (origin (head c)).args.right-finder.now
-right-length c = c.sweep_turn-here.auto.right_finder ∙ (head c).loop-count.invariant.4
+    → length c.sweep_turn-here.new.right_finder ≡ length c.args.right-finder.now
+right-length c = c.sweep_turn-here.auto.right_finder ∙ c.loop-count.invariant.4
 
-block-length : (c : After-sweep_turn-here) → length (block_left c) ≡ length (origin (head c)).args.block.now
-block-length c = c.sweep_turn-here.auto.block ∙ (head c).loop-count.invariant.5
+block-length : (c : After-sweep_turn-here) → length (block_left c) ≡ length c.args.block.now
+block-length c = c.sweep_turn-here.auto.block ∙ c.loop-count.invariant.5
 
 -- the visits so far, and those of one sweep more, are few
-visits-fit : (c : After-sweep_turn-here) → (head c).loop-count.visits + c.sweep_turn-here.result.visits < 18446744073709551616
+visits-fit : (c : After-sweep_turn-here) → c.loop-count.visits + c.sweep_turn-here.result.visits < 18446744073709551616
 visits-fit c =
-    let turning = head c in
-    let m = one turning in
-    let plan = plan_in (origin turning) in
+    let m = one (record { before = c.before.before.before.before.before.before.before; type_inv = record { places = c.shared_slice_known-4-1.given; wiring = c.shared_slice_known-3-1.given; right = c.shared_slice_known-2-1.given; left = c.shared_slice_known-1.given; } }) in
+    let plan = plan_in c.before.before.before.before.before.before.before.before.before.before.before.before.before.before.before.before.before in
     omega (
       arith,
       m.visited,
-      visits-few plan (some turning) (few turning) (min turning.loop-count.count (H (origin turning))),
-      limited (origin turning),
-      midway-visits (begun turning m) m (swept c),
-      visits-in-few plan (some turning) (few turning) turning.loop-count.count,
+      visits-few plan (some (record { before = c.before.before.before.before.before.before.before; type_inv = record { places = c.shared_slice_known-4-1.given; wiring = c.shared_slice_known-3-1.given; right = c.shared_slice_known-2-1.given; left = c.shared_slice_known-1.given; } })) (few (record { before = c.before.before.before.before.before.before.before; type_inv = record { places = c.shared_slice_known-4-1.given; wiring = c.shared_slice_known-3-1.given; right = c.shared_slice_known-2-1.given; left = c.shared_slice_known-1.given; } })) (min c.loop-count.count (H c.before.before.before.before.before.before.before.before.before.before.before.before.before.before.before.before.before)),
+      limited c.before.before.before.before.before.before.before.before.before.before.before.before.before.before.before.before.before,
+      midway-visits (begun (record { before = c.before.before.before.before.before.before.before; type_inv = record { places = c.shared_slice_known-4-1.given; wiring = c.shared_slice_known-3-1.given; right = c.shared_slice_known-2-1.given; left = c.shared_slice_known-1.given; } }) m) m (swept c),
+      visits-in-few plan (some (record { before = c.before.before.before.before.before.before.before; type_inv = record { places = c.shared_slice_known-4-1.given; wiring = c.shared_slice_known-3-1.given; right = c.shared_slice_known-2-1.given; left = c.shared_slice_known-1.given; } })) (few (record { before = c.before.before.before.before.before.before.before; type_inv = record { places = c.shared_slice_known-4-1.given; wiring = c.shared_slice_known-3-1.given; right = c.shared_slice_known-2-1.given; left = c.shared_slice_known-1.given; } })) c.loop-count.count,
     )
 
 pub returns-then-opening : goal.returns-then-opening
-returns-then-opening c = let s = c.before.before.before.before.before.before.before.before.before in record {
-      still_ready = s.requires.wiring_value;
+returns-then-opening c = record {
+      still_ready = c.requires.wiring_value;
       settles = λ received opened. opened.closed c.if-opening.true;
     }
 
@@ -115,98 +105,90 @@ loop-count-init c = (turn_two, λ received m. m, λ r. r, refl, refl, refl)
 
 pub sweep_turn-here-requires : goal.sweep_turn-here-requires
 sweep_turn-here-requires c =
-    let turning = c.before.before.before.before.before in
-    let m = one turning in (
-      ready turning,
-      (record { noted = λ e. (origin turning).requires.1.1 turning.if-opening.false }, rw turning.loop-count.invariant.0 (midway-hears (begun turning m) m)),
+    let m = one (goal.at.sweep_turn-here-requires c).At-loop-count in (
+      ready (goal.at.sweep_turn-here-requires c).At-loop-count,
+      (record { noted = λ e. c.requires.1.1 c.if-opening.false }, rw c.loop-count.invariant.0 (midway-hears (begun (goal.at.sweep_turn-here-requires c).At-loop-count m) m)),
     )
 
 pub all_satisfied-requires : goal.all_satisfied-requires
 all_satisfied-requires c =
-    let sweep = c.before.before.before.before.before.before.before.before.before.before.before.before in
-    (sweep.sweep_turn-here.ensures.still_ready, sweep.sweep_turn-here.ensures.news_swept.listening.reads)
+    (c.sweep_turn-here.ensures.still_ready, c.sweep_turn-here.ensures.news_swept.listening.reads)
 
 pub shape_of-left_finder-then-all_satisfied : goal.shape_of-left_finder-then-all_satisfied
-shape_of-left_finder-then-all_satisfied c = left-length c.before.before.before.before.before.before.before.before.before.before.before.before.before.before
+shape_of-left_finder-then-all_satisfied c = left-length (goal.at.shape_of-left_finder-then-all_satisfied c).After-sweep_turn-here
 
 pub shape_of-right_finder-then-all_satisfied : goal.shape_of-right_finder-then-all_satisfied
-shape_of-right_finder-then-all_satisfied c = right-length c.before.before.before.before.before.before.before.before.before.before.before.before.before.before
+shape_of-right_finder-then-all_satisfied c = right-length (goal.at.shape_of-right_finder-then-all_satisfied c).After-sweep_turn-here
 
 pub shape_of-block-then-all_satisfied : goal.shape_of-block-then-all_satisfied
-shape_of-block-then-all_satisfied c = block-length c.before.before.before.before.before.before.before.before.before.before.before.before.before.before
+shape_of-block-then-all_satisfied c = block-length (goal.at.shape_of-block-then-all_satisfied c).After-sweep_turn-here
 
 pub returns-then-all_satisfied : goal.returns-then-all_satisfied
 returns-then-all_satisfied c =
-    let sweep = c.before.before.before.before.before.before.before.before.before.before.before.before.before.before in
-    let turning = head sweep in record {
-      still_ready = sweep.sweep_turn-here.ensures.still_ready;
+    record {
+      still_ready = c.sweep_turn-here.ensures.still_ready;
       settles = λ received opened.
-          let m = midway turning received opened in
-          midway-settled (begun turning m) m (swept sweep) c.if-here-eq0.true (sym c.all_satisfied.ensures ∙ c.if-all_satisfied.true) (within sweep);
+          let m = midway (goal.at.returns-then-all_satisfied c).At-loop-count received opened in
+          midway-settled (begun (goal.at.returns-then-all_satisfied c).At-loop-count m) m (swept (goal.at.returns-then-all_satisfied c).After-sweep_turn-here) c.if-here-eq0.true (sym c.all_satisfied.ensures ∙ c.if-all_satisfied.true) (within (goal.at.returns-then-all_satisfied c).After-sweep_turn-here);
     }
 
 pub overflow_add-result : goal.overflow_add-result
-overflow_add-result c = omega (arith, limited c.before.before.before.before.before.before.before.before.before.before.before.before.before.before.before.before.before.before.before.before.before.before.before.before.before.before.before.before.before.before)
+overflow_add-result c = omega (arith, limited (goal.at.overflow_add-result c).Start)
 
 pub add_visits-requires : goal.add_visits-requires
-add_visits-requires c = visits-fit c.before.before.before.before.before.before.before.before.before.before.before.before.before.before
+add_visits-requires c = visits-fit (goal.at.add_visits-requires c).After-sweep_turn-here
 
 pub shape_of-left_finder-then-here-eq0 : goal.shape_of-left_finder-then-here-eq0
-shape_of-left_finder-then-here-eq0 c = left-length c.before.before.before.before.before.before.before.before.before.before.before.before.before.before.before
+shape_of-left_finder-then-here-eq0 c = left-length (goal.at.shape_of-left_finder-then-here-eq0 c).After-sweep_turn-here
 
 pub shape_of-right_finder-then-here-eq0 : goal.shape_of-right_finder-then-here-eq0
-shape_of-right_finder-then-here-eq0 c = right-length c.before.before.before.before.before.before.before.before.before.before.before.before.before.before.before
+shape_of-right_finder-then-here-eq0 c = right-length (goal.at.shape_of-right_finder-then-here-eq0 c).After-sweep_turn-here
 
 pub shape_of-block-then-here-eq0 : goal.shape_of-block-then-here-eq0
-shape_of-block-then-here-eq0 c = block-length c.before.before.before.before.before.before.before.before.before.before.before.before.before.before.before
+shape_of-block-then-here-eq0 c = block-length (goal.at.shape_of-block-then-here-eq0 c).After-sweep_turn-here
 
 pub returns-then-here-eq0 : goal.returns-then-here-eq0
 returns-then-here-eq0 c =
-    let sweep = c.before.before.before.before.before.before.before.before.before.before.before.before.before.before.before in
-    let turning = head sweep in
-    let test = c.before in record {
-      still_ready = sweep.sweep_turn-here.ensures.still_ready;
+    record {
+      still_ready = c.sweep_turn-here.ensures.still_ready;
       settles = λ received opened.
-          let m = midway turning received opened in
-          midway-lost (begun turning m) m (swept sweep) c.if-here-eq0.true (sym test.all_satisfied.ensures ∙ test.if-all_satisfied.false) (within sweep)
+          let m = midway (goal.at.returns-then-here-eq0 c).At-loop-count received opened in
+          midway-lost (begun (goal.at.returns-then-here-eq0 c).At-loop-count m) m (swept (goal.at.returns-then-here-eq0 c).After-sweep_turn-here) c.if-here-eq0.true (sym c.all_satisfied.ensures ∙ c.if-all_satisfied.false) (within (goal.at.returns-then-here-eq0 c).After-sweep_turn-here)
           c.add_visits.ensures;
     }
 
 pub note-requires : goal.note-requires
 note-requires c =
-    let sweep = c.before.before.before.before.before.before.before.before.before in
-    let turning = head sweep in
-    let m = one turning in
+    let m = one (goal.at.note-requires c).At-loop-count in
     record {
-      sums_len = told-sized (begun turning m) (midway-told (begun turning m) m);
-      changed_bound = midway-few (begun turning m) m (swept sweep);
+      sums_len = told-sized (begun (goal.at.note-requires c).At-loop-count m) (midway-told (begun (goal.at.note-requires c).At-loop-count m) m);
+      changed_bound = midway-few (begun (goal.at.note-requires c).At-loop-count m) m (swept (goal.at.note-requires c).After-sweep_turn-here);
     }
 
 pub add_visits-visits-requires : goal.add_visits-visits-requires
-add_visits-visits-requires c = visits-fit c.before.before.before.before.before.before.before.before.before.before
+add_visits-visits-requires c = visits-fit (goal.at.add_visits-visits-requires c).After-sweep_turn-here
 
 pub overflow_add-count : goal.overflow_add-count
-overflow_add-count c = let sweep = c.before.before.before.before.before.before.before.before.before.before.before.before in omega (arith, within sweep, limited (origin (head sweep)))
+overflow_add-count c = omega (arith, within (goal.at.overflow_add-count c).After-sweep_turn-here, limited (goal.at.overflow_add-count c).Start)
 
 pub loop-count-smaller : goal.loop-count-smaller
-loop-count-smaller c = let sweep = c.before.before.before.before.before.before.before.before.before.before.before.before in omega (arith, within sweep)
+loop-count-smaller c = omega (arith, within (goal.at.loop-count-smaller c).After-sweep_turn-here)
 
 pub loop-count-preserved : goal.loop-count-preserved
 loop-count-preserved c =
-    let sweep = c.before.before.before.before.before.before.before.before.before.before.before.before in
-    let turning = head sweep in (
-      c.other_side-side.ensures ∙ turn_more turning.loop-count.count turning.loop-count.invariant.0,
+    (
+      c.other_side-side.ensures ∙ turn_more c.loop-count.count c.loop-count.invariant.0,
       λ received first.
-          let m = turning.loop-count.invariant.1 received first in
-          midway-more (begun turning m) m (swept sweep) c.if-here-eq0.false c.note.ensures c.add_visits-visits.ensures,
-      λ first. sweep.sweep_turn-here.ensures.still_ready,
-      left-length sweep,
-      right-length sweep,
-      block-length sweep,
+          let m = c.loop-count.invariant.1 received first in
+          midway-more (begun (goal.at.loop-count-preserved c).At-loop-count m) m (swept (goal.at.loop-count-preserved c).After-sweep_turn-here) c.if-here-eq0.false c.note.ensures c.add_visits-visits.ensures,
+      λ first. c.sweep_turn-here.ensures.still_ready,
+      left-length (goal.at.loop-count-preserved c).After-sweep_turn-here,
+      right-length (goal.at.loop-count-preserved c).After-sweep_turn-here,
+      block-length (goal.at.loop-count-preserved c).After-sweep_turn-here,
     )
 
 pub overflow_add-result-2 : goal.overflow_add-result-2
-overflow_add-result-2 c = omega (arith, limited c.before.before.before.before.before.before.before.before.before.before.before)
+overflow_add-result-2 c = omega (arith, limited (goal.at.overflow_add-result-2 c).Start)
 
 pub shape_of-left_finder : goal.shape_of-left_finder
 shape_of-left_finder c = c.loop-count.invariant.3
@@ -219,7 +201,7 @@ shape_of-block c = c.loop-count.invariant.5
 
 pub returns : goal.returns
 returns c =
-    let turning = c.before in record {
-      still_ready = ready turning;
-      settles = λ received opened. let m = midway turning received opened in midway-never (begun turning m) m c.loop-count-test.false;
+    record {
+      still_ready = ready (goal.at.returns c).At-loop-count;
+      settles = λ received opened. let m = midway (goal.at.returns c).At-loop-count received opened in midway-never (begun (goal.at.returns c).At-loop-count m) m c.loop-count-test.false;
     }

@@ -4,45 +4,38 @@ use Rattle.finder.specs.Finding.{Fewer, Renumbered}
 use Rattle.finder.proofs.Finding.{checked-echelon, renumbered, renumbered-finds, entry_lt, found-numbered}
 use borrow.Author.Rules.{rules}
 use Rattle.finder.proofs.finder.find_numbered.Goals as goal
-use Rattle.finder.proofs.finder.find_numbered.Goals.{After-check_into, After-number_classes, Start}
+use Rattle.finder.proofs.finder.find_numbered.Goals.{After-check_into, After-number_classes}
 
 -- ---- the call, from where the sheet is checked, and what the check gives
 
-abbrev start : After-check_into → Start
-start c = c.before.before.before.before
-
-fewer : (c : After-check_into) → Fewer (start c).args.sheet.now c.check_into.new.basis
+fewer : (c : After-check_into) → Fewer c.args.sheet.now c.check_into.new.basis
 fewer c =
-    let known = (start c).requires in
+    let known = c.requires in
     record { accepted = known.0.accepted; echelon = checked-echelon _ c.check_into.ensures known.0.accepted; few = known.1.1 }
 
 pub number_classes-requires : goal.number_classes-requires
 number_classes-requires c = record {
-      finder_len = (start c.before.before).requires.finds.sized;
-      fewer = fewer c.before.before;
+      finder_len = c.requires.finds.sized;
+      fewer = fewer (goal.at.number_classes-requires c).After-check_into;
     }
 
 numbered : (c : After-number_classes)
-    → let s = start c.before.before.before in Renumbered s.args.sheet.now s.args.finder.now c.number_classes.new.finder
+    → Renumbered c.args.sheet.now c.args.finder.now c.number_classes.new.finder
 numbered c =
-    let s = start c.before.before.before in
-    subst⁻¹ (Renumbered s.args.sheet.now s.args.finder.now) c.number_classes.ensures
-    (renumbered s.args.sheet.now _ s.args.finder.now s.requires.finds.sized (fewer c.before.before.before))
+    subst⁻¹ (Renumbered c.args.sheet.now c.args.finder.now) c.number_classes.ensures
+    (renumbered c.args.sheet.now _ c.args.finder.now c.requires.finds.sized (fewer (record { before = c.before.before.before.before; type_inv = record { basis = c.type_inv.basis; finder = c.slice_known-1.given; sheet = c.shared_slice_known-1.given; } })))
 
 pub by_entry-requires : goal.by_entry-requires
 by_entry-requires c =
-    let put = c.before.before.before.before in
-    let s = start put.before.before.before in
-    let known = s.requires in
-    let done = numbered put in
+    let known = c.requires in
+    let done = numbered (goal.at.by_entry-requires c).After-number_classes in
     let finds = renumbered-finds known.0 known.1.1 done in
     record {
       finder_len = finds.sized;
-      left_bound = entry_lt finds s.args.word known.1.0 done.flag _ c.left_of.ensures;
+      left_bound = entry_lt finds c.args.word known.1.0 done.flag _ c.left_of.ensures;
     }
 
 pub returns : goal.returns
 returns c =
-    let put = c.before.before.before.before.before in
-    let known = (start put.before.before.before).requires in
-    found-numbered known.0 known.1.0 known.1.1 (numbered put) _ c.left_of.ensures c.by_entry.ensures
+    let known = c.requires in
+    found-numbered known.0 known.1.0 known.1.1 (numbered (goal.at.returns c).After-number_classes) _ c.left_of.ensures c.by_entry.ensures

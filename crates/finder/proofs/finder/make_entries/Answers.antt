@@ -9,22 +9,15 @@ use Rattle.inner_code.proofs.SheetChecks.{Sound, sound}
 use Rattle.finder.specs.Finding.{entries_of, sheet_entries}
 use Rattle.tables.proofs.Tables.{table-length}
 use borrow.Author.Rules.{rules}
-use Rattle.finder.proofs.finder.make_entries.Reads as reads
-use Rattle.finder.proofs.finder.make_entries.Lts as lts
-use Rattle.tables.proofs.fill.Reads as fill-reads
-use Rattle.finder.proofs.finder.take_entries.Reads as take-entries-reads
 use Rattle.finder.proofs.finder.make_entries.Goals as goal
-use Rattle.finder.proofs.finder.make_entries.Goals.{After-fill, Start}
+use Rattle.finder.proofs.finder.make_entries.Goals.{Start}
 
 fine : (c : Start) → Sound c.args.sheet.now
 fine c = sound c.args.sheet.now [] c.requires.sized.accepted
 
-abbrev start : After-fill → Start
-start c = c.before.before.before.before.before.before.before.before
-
 pub bounds-sheet-0 : goal.bounds-sheet-0
 unfolding degree
-bounds-sheet-0 c = omega (arith, (fine c.before.before.before.before.before).sized)
+bounds-sheet-0 c = omega (arith, (fine (goal.at.bounds-sheet-0 c).Start).sized)
 
 pub overflow_cast-d : goal.overflow_cast-d
 overflow_cast-d c = omega (arith, c.type_inv.sheet 0)
@@ -32,18 +25,15 @@ overflow_cast-d c = omega (arith, c.type_inv.sheet 0)
 pub take_entries-requires : goal.take_entries-requires
 unfolding degree
 take_entries-requires c =
-    let filled = c.before.before.before.before.before.before in
-    let begun = start filled in
-    let room = begun.requires.entries_room in
+    let room = c.requires.entries_room in
     record {
-      d_bound = omega (arith, (fine begun).degree-high);
-      table_len_bound = omega (arith, ap length filled.fill.ensures, begun.requires.sized.sized, table-length _ (fine begun), room);
+      d_bound = omega (arith, (fine (goal.at.take_entries-requires c).Start).degree-high);
+      table_len_bound = omega (arith, ap length c.fill.ensures, c.requires.sized.sized, table-length _ (fine (goal.at.take_entries-requires c).Start), room);
     }
 
 pub returns : goal.returns
 unfolding degree sheet_entries
 returns c =
-    let filled = c.before.before.before.before.before.before.before.before.before in
-    let args = (start filled).args in
+    let args = c.args in
     c.take_entries.ensures
-    ∙ ap (λ (t : List ℕ). entries_of (degree args.sheet.now) t (length t / 2) args.entries.now) filled.fill.ensures
+    ∙ ap (λ (t : List ℕ). entries_of (degree args.sheet.now) t (length t / 2) args.entries.now) c.fill.ensures

@@ -10,9 +10,6 @@ use Rattle.bits.proofs.Windows.{shifted_one}
 use borrow.Author.Rules.{rules}
 use Rattle.finder.specs.Finding.{digits_in}
 use Rattle.finder.proofs.Finding.{pays-short, pays-long}
-use Rattle.finder.proofs.finder.numbers_pay.Reads as reads
-use Rattle.finder.proofs.finder.numbers_pay.Lts as lts
-use Rattle.finder.proofs.finder.digits_in.Reads as digits-in-reads
 use Rattle.finder.proofs.finder.numbers_pay.Goals as goal
 use Rattle.finder.proofs.finder.numbers_pay.Goals.{After-digits_in, After-shared_slice_known-3-1}
 
@@ -31,20 +28,19 @@ words_are c =
 
 pub returns-then-listed-words : goal.returns-then-listed-words
 returns-then-listed-words c =
-    let tried = c.before in
-    pays-short tried.args.finder.now (omega (arith, words_are tried, c.if-listed-words.true))
+    pays-short c.args.finder.now (omega (arith, words_are (goal.at.returns-then-listed-words c).After-digits_in, c.if-listed-words.true))
 
 words-few : (c : After-digits_in) → (1 * 2 ^ c.digits_in.result) % 2 ^ 64 ≤ 65536
 words-few c = omega (arith, few-digits c, pow_mono {i = c.digits_in.result} {j = 16} (few-digits c))
 
 pub overflow_mul-result : goal.overflow_mul-result
-overflow_mul-result c = omega (arith, words-few c.before)
+overflow_mul-result c = omega (arith, words-few (goal.at.overflow_mul-result c).After-digits_in)
 
 pub overflow_mul-result-2 : goal.overflow_mul-result-2
 overflow_mul-result-2 c = omega (arith, c.type_inv.finder 0)
 
 pub overflow_add-result : goal.overflow_add-result
-overflow_add-result c = omega (arith, words-few c.before, c.type_inv.finder 0)
+overflow_add-result c = omega (arith, words-few (goal.at.overflow_add-result c).After-digits_in, c.type_inv.finder 0)
 
 pub overflow_cast-result : goal.overflow_cast-result
 overflow_cast-result c = omega (arith, c.type_inv.finder 3)
@@ -69,7 +65,6 @@ overflow_mul-result-4 c = omega (arith, mul-le-mul (first c) (low c).0)
 
 pub returns : goal.returns
 returns c =
-    let tried = c.before.before in
-    let finder = tried.args.finder.now in
-    ap (λ (x : ℕ). leb (4 * x + 1024 * get_or finder 0 0) ((get_or finder 3 0 + 1) * get_or finder 0 0 * get_or finder 0 0)) (words_are tried)
-    ∙ pays-long finder (omega (arith, words_are tried, c.if-listed-words.false))
+    let finder = c.args.finder.now in
+    ap (λ (x : ℕ). leb (4 * x + 1024 * get_or finder 0 0) ((get_or finder 3 0 + 1) * get_or finder 0 0 * get_or finder 0 0)) (words_are (goal.at.returns c).After-digits_in)
+    ∙ pays-long finder (omega (arith, words_are (goal.at.returns c).After-digits_in, c.if-listed-words.false))

@@ -9,7 +9,6 @@ use Rattle.finder.proofs.finder.search.Goals as goal
 
 pub returns : goal.returns
 returns c =
-    let counted = c.before.before in
-    let args = counted.args in
+    let args = c.args in
     c.nearest_listed.ensures
-    ∙ ap (step_to args.word) (search-part args.finder.now (2592 + counted.widened-end.result - 2592) args.word (omega arith) (omega arith))
+    ∙ ap (step_to args.word) (search-part args.finder.now (2592 + c.widened-end.result - 2592) args.word (omega arith) (omega arith))

@@ -8,7 +8,7 @@ use Rattle.finder.specs.Finding.{left_in, single_more, single_below}
 use Rattle.bits.proofs.Windows.{shifted_one}
 use Rattle.finder.proofs.Finding.{single-few, single-all, single-start, single-met, single-missed}
 use Rattle.finder.proofs.finder.single_pattern.Goals as goal
-use Rattle.finder.proofs.finder.single_pattern.Goals.{At-loop-b, Start, else-left_of-left, then-left_of-left}
+use Rattle.finder.proofs.finder.single_pattern.Goals.{else-left_of-left, then-left_of-left}
 
 pub returns-then-finder-le-FEW : goal.returns-then-finder-le-FEW
 returns-then-finder-le-FEW c =
@@ -18,29 +18,22 @@ returns-then-finder-le-FEW c =
 pub loop-b-init : goal.loop-b-init
 loop-b-init c = (search rules, single-start _ _)
 
--- the call, from the loop on
-abbrev start : At-loop-b → Start
-start c = c.before.before.before.before.before
-
 pub loop-b-preserved : goal.loop-b-preserved
 loop-b-preserved c =
-    let tried = c.before in
-    let head = tried.before.before in
-    let args = (start head).args in
-    let is = shifted_one head.loop-b.b 16 (omega arith) in
-    let left = tried.left_of.ensures ∙ ap (left_in args.finder.now) is in (
+    let args = c.args in
+    let is = shifted_one c.loop-b.b 16 (omega arith) in
+    let left = c.left_of.ensures ∙ ap (left_in args.finder.now) is in (
       search rules,
       (elim c.if-left_of-left.branch [
-          | then-left_of-left w ↦ w.2 ∙ w.1.ensures ∙ ap₂ single_more head.loop-b.invariant.1 is
-          ∙ single-met args.finder.now args.left head.loop-b.b (sym left ∙ w.if-left_of-left.true)
-          | else-left_of-left w ↦ w.1 ∙ head.loop-b.invariant.1 ∙ single-missed args.finder.now args.left head.loop-b.b (λ e. w.if-left_of-left.false (left ∙ e))
+          | then-left_of-left w ↦ w.2 ∙ w.1.ensures ∙ ap₂ single_more c.loop-b.invariant.1 is
+          ∙ single-met args.finder.now args.left c.loop-b.b (sym left ∙ w.if-left_of-left.true)
+          | else-left_of-left w ↦ w.1 ∙ c.loop-b.invariant.1 ∙ single-missed args.finder.now args.left c.loop-b.b (λ e. w.if-left_of-left.false (left ∙ e))
         ]),
     )
 
 pub returns : goal.returns
 returns c =
-    let head = c.before in
-    let args = (start head).args in
-    let all : head.loop-b.b ≡ head.digits_in-digits.result = omega arith in
-    head.loop-b.invariant.1 ∙ ap (single_below args.finder.now args.left) (all ∙ head.digits_in-digits.ensures)
-    ∙ sym (single-all args.finder.now args.left (omega (arith, head.if-finder-le-FEW.false)))
+    let args = c.args in
+    let all : c.loop-b.b ≡ c.digits_in-digits.result = omega arith in
+    c.loop-b.invariant.1 ∙ ap (single_below args.finder.now args.left) (all ∙ c.digits_in-digits.ensures)
+    ∙ sym (single-all args.finder.now args.left (omega (arith, c.if-finder-le-FEW.false)))

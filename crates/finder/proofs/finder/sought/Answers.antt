@@ -3,10 +3,6 @@ use mathlib.Core.Path.{ap, ◌∙◌}
 use Rattle.inner_code.specs.Reduction.{step_to}
 use Rattle.finder.proofs.Finding.{sought-searched, sought-single}
 use borrow.Author.Rules.{rules}
-use Rattle.finder.proofs.finder.sought.Reads as reads
-use Rattle.finder.proofs.finder.sought.Lts as lts
-use Rattle.inner_code.proofs.put_on.Reads as put-on-reads
-use Rattle.finder.proofs.finder.search.Reads as search-reads
 use Rattle.finder.proofs.finder.sought.Goals as goal
 
 pub returns-then-single-eq0 : goal.returns-then-single-eq0

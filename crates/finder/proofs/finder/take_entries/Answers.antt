@@ -7,10 +7,6 @@ use lib.ListN.{length, set, length-set}
 use Rattle.finder.specs.Finding.{entry_pattern, entries_of}
 use Rattle.finder.proofs.Finding.{entries-one-more}
 use borrow.Author.Rules.{rules}
-use Rattle.finder.proofs.finder.take_entries.Reads as reads
-use Rattle.finder.proofs.finder.take_entries.Lts as lts
-use Rattle.bits.proofs.pair.Reads as Pair-reads
-use Rattle.tables.proofs.pattern_of.Reads as pattern-of-reads
 use Rattle.finder.proofs.finder.take_entries.Goals as goal
 
 pub loop-c-init : goal.loop-c-init
@@ -20,14 +16,13 @@ loop-c-init c = (search rules, refl, refl)
 pub loop-c-preserved : goal.loop-c-preserved
 unfolding entry_pattern
 loop-c-preserved c =
-    let turn = c.before.before.before in
     let args = c.args in
     let entry = c.pair.ensures in (
       search rules,
-      ap₂ (λ (l : List ℕ) (x : ℕ). set l turn.loop-c.c x) turn.loop-c.invariant.1
+      ap₂ (λ (l : List ℕ) (x : ℕ). set l c.loop-c.c x) c.loop-c.invariant.1
           (c.pattern_of.ensures ∙ ap (λ (e : ℕ). entry_pattern args.d e) entry)
-          ∙ sym (entries-one-more args.d args.table.now turn.loop-c.c args.entries.now),
-      length-set turn.loop-c.entries turn.loop-c.c _ ∙ turn.loop-c.invariant.2,
+          ∙ sym (entries-one-more args.d args.table.now c.loop-c.c args.entries.now),
+      length-set c.loop-c.entries c.loop-c.c _ ∙ c.loop-c.invariant.2,
     )
 
 pub returns : goal.returns

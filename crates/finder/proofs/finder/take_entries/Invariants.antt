@@ -6,10 +6,6 @@ use lib.ListN.{length, set, length-set}
 use Rattle.finder.specs.Finding.{entry_pattern, entries_of}
 use Rattle.finder.proofs.Finding.{entries-one-more}
 use borrow.Author.Rules.{rules}
-use Rattle.finder.proofs.finder.take_entries.Reads as reads
-use Rattle.finder.proofs.finder.take_entries.Lts as lts
-use Rattle.bits.proofs.pair.Reads as Pair-reads
-use Rattle.tables.proofs.pattern_of.Reads as pattern-of-reads
 use Rattle.finder.proofs.finder.take_entries.Given as goal
 
 abbrev pub invariant-loop-c : goal.invariant-loop-c

@@ -9,8 +9,6 @@ use Rattle.bits.specs.Window.{at}
 use Rattle.bits.specs.Search.{least}
 use Rattle.inner_code.specs.Reduction.{fewest_ones}
 use Rattle.inner_code.proofs.InnerDistance.{fewest-lower, fewest-kept, fewest-zero}
-use Rattle.inner_code.proofs.codewords.distance.Reads as reads
-use Rattle.inner_code.proofs.codewords.distance.Lts as lts
 use Rattle.inner_code.proofs.codewords.distance.Goals as goal
 use Rattle.inner_code.proofs.codewords.distance.Goals.{then-word-ne0}
 
@@ -20,8 +18,8 @@ loop-m-preserved c =
     let before = c.loop-m in
     let words = at c.args.words.now in (
       search rules,
-      ⊎_elim (λ w. w.2 ∙ fewest-lower words before.m before.fewest before.invariant.1 w.0.taken w.1.taken)
-          (⊎_elim (λ w. w.2 ∙ fewest-kept words before.m before.fewest before.invariant.1 w.0.taken w.1.left)
+      ⊎_elim (λ w. w.2 ∙ fewest-lower words before.m before.fewest before.invariant.1 w.0.true w.1.true)
+          (⊎_elim (λ w. w.2 ∙ fewest-kept words before.m before.fewest before.invariant.1 w.0.true w.1.left)
           (λ w. w.1 ∙ fewest-zero words before.m before.fewest before.invariant.1 w.0.left)) c.if-word-ne0.branch,
     )
 

@@ -8,8 +8,6 @@ use Rattle.bits.specs.Window.{at}
 use Rattle.bits.specs.Search.{least}
 use Rattle.inner_code.specs.Reduction.{fewest_ones}
 use Rattle.inner_code.proofs.InnerDistance.{fewest-lower, fewest-kept, fewest-zero}
-use Rattle.inner_code.proofs.codewords.distance.Reads as reads
-use Rattle.inner_code.proofs.codewords.distance.Lts as lts
 use Rattle.inner_code.proofs.codewords.distance.Given as goal
 
 abbrev pub invariant-loop-m : goal.invariant-loop-m

@@ -14,7 +14,7 @@ use Rattle.inner_code.specs.Reduction.{doubled, listed}
 use Rattle.bits.proofs.Windows.{shifted_one}
 use Rattle.inner_code.proofs.Listings.{length-doubled, listed-one-more, listed-again, words-most}
 use Rattle.inner_code.proofs.codewords.list_codewords.Goals as goal
-use Rattle.inner_code.proofs.codewords.list_codewords.Goals.{After-at_most_eleven-rows, After-slice_known-in-loop-i-1, At-loop-i, Else-words-rows, In-loop-i, Start}
+use Rattle.inner_code.proofs.codewords.list_codewords.Goals.{After-at_most_eleven-rows, At-loop-i, Else-words-rows, In-loop-i}
 
 -- the number of words that are listed
 limit : (c : After-at_most_eleven-rows)
@@ -24,12 +24,12 @@ limit c =
     shifted_one c.at_most_eleven-rows.result 64 (omega (arith, rows)) ∙ ap (λ (j : ℕ). 2 ^ j) rows
 
 pub returns-then-words-rows : goal.returns-then-words-rows
-returns-then-words-rows c = record { room = λ h. absurd (omega (arith, limit c.before)); short = λ h. (refl, refl) }
+returns-then-words-rows c = record { room = λ h. absurd (omega (arith, limit (goal.at.returns-then-words-rows c).After-at_most_eleven-rows)); short = λ h. (refl, refl) }
 
 -- past the test they have room
 room : (c : Else-words-rows)
     → 2 ^ min c.args.k 11 ≤ length c.args.words.now
-room c = omega (arith, limit c.before)
+room c = omega (arith, limit (record { before = c.before.before; type_inv = record { words = c.slice_known-1.given; sheet = c.shared_slice_known-1.given; } }))
 
 pub bounds-words-0 : goal.bounds-words-0
 bounds-words-0 c = omega (arith, room c, pow_pos (min c.args.k 11))
@@ -40,52 +40,45 @@ loop-i-init c = (search rules, refl, sym (set-set c.args.words.now 0 0 0), refl)
 
 -- ---- from the loop on
 
-abbrev start : At-loop-i → Start
-start c = c.before.before.before.before.before
-
-sized : (c : At-loop-i) → length c.loop-i.words ≡ length (start c).args.words.now
-sized c = c.loop-i.invariant.3 ∙ length-set (start c).args.words.now 0 0
+sized : (c : At-loop-i) → length c.loop-i.words ≡ length c.args.words.now
+sized c = c.loop-i.invariant.3 ∙ length-set c.args.words.now 0 0
 
 -- before the last row is reached there are to be as many words again
-count_fits : (c : In-loop-i) → 2 * c.loop-i.count ≤ 2 ^ min (start c.before).args.k 11
+count_fits : (c : In-loop-i) → 2 * c.loop-i.count ≤ 2 ^ min c.args.k 11
 count_fits c =
     let before = c.loop-i in
-    let k = (start c.before).args.k in
+    let k = c.args.k in
     let more : suc before.i ≤ min k 11 = omega (arith, c.at_most_eleven-rows.ensures) in
     omega (arith, before.invariant.1, pow-suc 2 before.i, pow_mono {i = suc before.i} {j = min k 11} more)
 
-abbrev head : After-slice_known-in-loop-i-1 → In-loop-i
-head c = c.before.before.before.before.before
-
 pub overflow_mul-count : goal.overflow_mul-count
-overflow_mul-count c = omega (arith, count_fits (head c), words-most (start (head c).before).args.k)
+overflow_mul-count c = omega (arith, count_fits (goal.at.overflow_mul-count c).In-loop-i, words-most c.args.k)
 
 pub loop-i-preserved : goal.loop-i-preserved
 unfolding row_of
 loop-i-preserved c =
-    let before = (head c).loop-i in
-    let args = (start (head c).before).args in
+    let before = c.loop-i in
+    let args = c.args in
     let pair = c.pair in
-    let turn = head c in
-    let doubling = c.double.ensures.room (omega (arith, count_fits turn, room turn.before.before, sized turn.before)) in
-    let count = before.inv.1 in (
+    let doubling = c.double.ensures.room (omega (arith, count_fits (goal.at.loop-i-preserved c).In-loop-i, room (goal.at.loop-i-preserved c).Else-words-rows, sized (goal.at.loop-i-preserved c).At-loop-i)) in
+    let count = before.invariant.1 in (
       search rules,
       rw add-one (omega (arith, count, pow-suc 2 before.i)),
       doubling
-          ∙ ap₂ (λ (n : ℕ) (l : List ℕ). doubled n pair.result n l) count before.inv.2
+          ∙ ap₂ (λ (n : ℕ) (l : List ℕ). doubled n pair.result n l) count before.invariant.2
           ∙ ap (λ (r : ℕ). doubled (2 ^ before.i) r (2 ^ before.i) (listed (row_of args.sheet.now) before.i (set args.words.now 0 0)))
           pair.ensures
           ∙ sym (listed-one-more (row_of args.sheet.now) before.i (set args.words.now 0 0)),
-      ap length doubling ∙ length-doubled _ _ _ _ ∙ before.inv.3,
+      ap length doubling ∙ length-doubled _ _ _ _ ∙ before.invariant.3,
     )
 
 pub shape_of-words : goal.shape_of-words
-shape_of-words c = sized c.before
+shape_of-words c = sized (goal.at.shape_of-words c).At-loop-i
 
 pub returns : goal.returns
 returns c =
     let before = c.loop-i in
-    let args = (start c.before).args in
+    let args = c.args in
     let row = row_of args.sheet.now in
     let all : before.i ≡ min args.k 11 = omega (arith, c.at_most_eleven-rows.ensures) in
     record {
@@ -93,5 +86,5 @@ returns c =
         before.invariant.1 ∙ ap (λ (j : ℕ). 2 ^ j) all,
         before.invariant.2 ∙ listed-again row before.i args.words.now ∙ ap (λ (j : ℕ). listed row j args.words.now) all,
       );
-      short = λ h. absurd (omega (arith, room c.before.before));
+      short = λ h. absurd (omega (arith, room (goal.at.returns c).Else-words-rows));
     }

@@ -7,8 +7,6 @@ use native.Mathlib.Omega.{arith}
 use Rattle.bits.specs.Window.{at}
 use Rattle.inner_code.specs.Reduction.{reduced_by}
 use Rattle.inner_code.proofs.EchelonForm.{reduced_by-put, reduced_by-kept}
-use Rattle.inner_code.proofs.membership.residue.Reads as reads
-use Rattle.inner_code.proofs.membership.residue.Lts as lts
 use Rattle.inner_code.proofs.membership.residue.Goals as goal
 use Rattle.inner_code.proofs.membership.residue.Goals.{else-put-left, then-put-left}
 
@@ -21,9 +19,8 @@ returns-then-i-eq11 c =
 pub loop-i-preserved : goal.loop-i-preserved
 unfolding at
 loop-i-preserved c =
-    let turn = c.before.before.before.before in
-    let before = turn.loop-i in
-    let args = turn.args in
+    let before = c.loop-i in
+    let args = c.args in
     let basis = at args.basis.now in (
       search rules,
       search rules,

@@ -6,8 +6,6 @@ use native.Mathlib.Omega.{arith}
 use Rattle.bits.specs.Window.{at}
 use Rattle.inner_code.specs.Reduction.{reduced_by}
 use Rattle.inner_code.proofs.EchelonForm.{reduced_by-put, reduced_by-kept}
-use Rattle.inner_code.proofs.membership.residue.Reads as reads
-use Rattle.inner_code.proofs.membership.residue.Lts as lts
 use Rattle.inner_code.proofs.membership.residue.Given as goal
 
 abbrev pub invariant-loop-i : goal.invariant-loop-i

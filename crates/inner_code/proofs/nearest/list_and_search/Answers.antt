@@ -12,17 +12,14 @@ use Rattle.inner_code.proofs.nearest.list_and_search.Goals as goal
 
 pub slice_bounds-nearest_listed-end : goal.slice_bounds-nearest_listed-end
 slice_bounds-nearest_listed-end c =
-    let listing = c.before.before.before in
-    omega (arith, lists-fits _ _ listing.list_codewords-count.ensures listing.requires)
+    omega (arith, lists-fits _ _ c.list_codewords-count.ensures c.requires)
 
 pub returns : goal.returns
 returns c =
-    let listing = c.before.before.before.before.before in
-    let start = listing.before.before.before.before in
-    let args = start.args in
-    let words = listing.list_codewords-count.new.words in
-    let all : listing.list_codewords-count.result - 0 ≡ listing.list_codewords-count.result = omega arith in
+    let args = c.args in
+    let words = c.list_codewords-count.new.words in
+    let all : c.list_codewords-count.result - 0 ≡ c.list_codewords-count.result = omega arith in
     c.nearest_listed.ensures
     ∙ ap (step_to args.word)
     (ap (λ (n : ℕ). searched (at (take n words)) (length (take n words)) args.word) all
-    ∙ front-searched (row_of args.sheet.now) args.k listing.list_codewords-count.ensures start.requires args.word)
+    ∙ front-searched (row_of args.sheet.now) args.k c.list_codewords-count.ensures c.requires args.word)

@@ -14,25 +14,15 @@ use Rattle.inner_code.specs.Sheet.{degree, row_count, row_of}
 use Rattle.inner_code.proofs.SheetChecks.{Accepted, accepted, turned-back}
 use Rattle.inner_code.proofs.NearestWord.{nearest-answer-refused, nearest-answer-high, nearest-answer-word, nearest-searched}
 use Rattle.inner_code.proofs.NearestWord.{step-word, step-changed, changed-ones}
-use Rattle.inner_code.proofs.nearest.nearest_word.Reads as reads
-use Rattle.inner_code.proofs.nearest.nearest_word.Lts as lts
-use Rattle.inner_code.proofs.nearest.nearest_of_rows.Reads as nearest-of-rows-reads
-use Rattle.inner_code.proofs.sheet.check_into.Reads as check-into-reads
 use Rattle.inner_code.proofs.nearest.nearest_word.Goals as goal
-use Rattle.inner_code.proofs.nearest.nearest_word.Goals.{After-check_into, Else-d-word, In-Accepted, Start}
+use Rattle.inner_code.proofs.nearest.nearest_word.Goals.{Else-d-word, In-Accepted}
 
 -- ---- the sheet's check, the call, and what an accepted sheet gives
 
-abbrev checked : In-Accepted → After-check_into
-checked c = c.before.before.before
-
-abbrev start : After-check_into → Start
-start c = c.before.before.before
-
 plan : (c : In-Accepted)
-    → Accepted (start (checked c)).args.sheet.now (checked c).check_into.new.basis
-    c.d.given.0.0 c.d.given.0.1.0
-plan c = accepted (checked c).check_into.ensures c.d.given.1
+    → Accepted c.args.sheet.now c.check_into.new.basis
+    c.in-Accepted.d c.in-Accepted.k
+plan c = accepted c.check_into.ensures c.in-Accepted.is
 
 -- a word of 64 bits holds 2^d
 power : (d : ℕ) → d ≤ 16 → (1 * 2 ^ d) % 18446744073709551616 ≡ 2 ^ d
@@ -43,37 +33,36 @@ overflow_shl-d c = omega (arith, (plan c).d-is, (plan c).sheet-sound.degree-high
 
 pub returns-then-d-word : goal.returns-then-d-word
 returns-then-d-word c =
-    let p = plan c.before in
+    let p = plan (goal.at.returns-then-d-word c).In-Accepted in
     let limit = power _ p.sheet-sound.degree-high in
     let test = ap (λ (d : ℕ). (1 * 2 ^ d) % 18446744073709551616) p.d-is in
     sym (nearest-answer-high _ _ p.sheet-done (omega (arith, limit, test, c.if-d-word.true)))
 
-low : (c : Else-d-word) → let args = (start (checked c.before)).args in args.word < 2 ^ degree args.sheet.now
+low : (c : Else-d-word) → let args = c.args in args.word < 2 ^ degree args.sheet.now
 low c =
-    let p = plan c.before in
+    let p = plan (record { before = c.before.before; type_inv = record { sheet = c.shared_slice_known-1.given; } }) in
     omega
     (arith, power _ p.sheet-sound.degree-high, ap (λ (d : ℕ). (1 * 2 ^ d) % 18446744073709551616) p.d-is, c.if-d-word.false)
 
 pub overflow_cast-word : goal.overflow_cast-word
-overflow_cast-word c = omega (arith, low c, pow_mono {j = 16} (plan c.before).sheet-sound.degree-high)
+overflow_cast-word c = omega (arith, low c, pow_mono {j = 16} (plan (goal.at.overflow_cast-word c).In-Accepted).sheet-sound.degree-high)
 
 pub returns-in-Refused : goal.returns-in-Refused
 returns-in-Refused c =
-    sym (nearest-answer-refused _ _ _ _ (turned-back c.check_into.ensures c.r.given.1))
+    sym (nearest-answer-refused _ _ _ _ (turned-back c.check_into.ensures c.in-Refused.is))
 
 pub returns-else-d-word : goal.returns-else-d-word
 returns-else-d-word c =
-    let found = c.before.before in
-    let p = plan found.before.before in
-    let args = (start (checked found.before.before)).args in
+    let p = plan (goal.at.returns-else-d-word c).In-Accepted in
+    let args = c.args in
     let sheet = args.sheet.now in
     let word = args.word in
-    let rows : min found.d.given.0.1.0 11 ≡ row_count sheet =
+    let rows : min c.in-Accepted.k 11 ≡ row_count sheet =
     ap (λ (k : ℕ). min k 11) p.k-is ∙ min-eq_left p.sheet-sound.count-high in
     let nearest = ap (λ (k : ℕ). searched (combination (row_of sheet) k) (2 ^ k) word) rows
     ∙ nearest-searched (row_of sheet) (row_count sheet) (degree sheet) p.sheet-sound.degree-high p.sheet-sound.rows-lt
-    (combination (row_of sheet) (row_count sheet)) (λ m h. refl) word (low found.before) in
-    let step = found.nearest_of_rows-step.ensures ∙ ap (step_to word) nearest in
+    (combination (row_of sheet) (row_count sheet)) (λ m h. refl) word (low (goal.at.returns-else-d-word c).Else-d-word) in
+    let step = c.nearest_of_rows-step.ensures ∙ ap (step_to word) nearest in
     ap₂ (λ (x n : ℕ). done (x ∷ n ∷ [])) (step-word word _ step)
     (step-changed word _ step ∙ changed-ones (row_of sheet) (row_count sheet) (degree sheet) word)
-    ∙ sym (nearest-answer-word sheet word p.sheet-done (low found.before))
+    ∙ sym (nearest-answer-word sheet word p.sheet-done (low (goal.at.returns-else-d-word c).Else-d-word))

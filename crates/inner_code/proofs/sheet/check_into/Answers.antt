@@ -5,12 +5,7 @@ use borrow.Author.Rules.{rules}
 use native.Mathlib.Omega.{arith}
 use Rattle.inner_code.specs.Sheet.{degree, row_count}
 use Rattle.inner_code.proofs.SheetChecks.{refused-into, sheet-short, sheet-degree, sheet-count, sheet-length, sheet-rows-answer}
-use Rattle.inner_code.proofs.sheet.check_into.Reads as reads
-use Rattle.inner_code.proofs.sheet.check_into.Lts as lts
-use Rattle.inner_code.proofs.sheet.check_rows.Reads as check-rows-reads
-use Rattle.inner_code.proofs.sheet.refused.Reads as refused-reads
 use Rattle.inner_code.proofs.sheet.check_into.Goals as goal
-use Rattle.inner_code.proofs.sheet.check_into.Goals.{After-shared_slice_known-3-1, Else-d-gt-MAX_DEGREE, Else-d-k, Start}
 
 pub returns-then-sheet-lt2 : goal.returns-then-sheet-lt2
 returns-then-sheet-lt2 c =
@@ -25,59 +20,50 @@ overflow_cast-k c = omega (arith, c.type_inv.sheet 1)
 
 -- ---- the call, from where both sizes are read, from past the tests of the degree, and from past those of the number of rows
 
-abbrev start : After-shared_slice_known-3-1 → Start
-start c = c.before.before.before.before
-
-abbrev past-degree : Else-d-gt-MAX_DEGREE → Start
-past-degree c = start c.before.before
-
-abbrev past-count : Else-d-k → Start
-past-count c = past-degree c.before.before.before
-
 pub returns-then-d-lt2 : goal.returns-then-d-lt2
 unfolding degree row_count
 returns-then-d-lt2 c =
-    let sheet = (start c.before.before).args.sheet.now in
+    let sheet = c.args.sheet.now in
     refused-into sheet _ c.refused-then-d-lt2.result 2 c.refused-then-d-lt2.ensures (sheet-degree sheet (omega arith) (inl (omega arith)))
 
 pub returns-then-d-gt-MAX_DEGREE : goal.returns-then-d-gt-MAX_DEGREE
 unfolding degree row_count
 returns-then-d-gt-MAX_DEGREE c =
-    let sheet = (start c.before.before.before).args.sheet.now in
+    let sheet = c.args.sheet.now in
     refused-into sheet _ c.refused-then-d-gt-MAX_DEGREE.result 2 c.refused-then-d-gt-MAX_DEGREE.ensures (sheet-degree sheet (omega arith) (inr (omega arith)))
 
 pub returns-then-k-lt1 : goal.returns-then-k-lt1
 unfolding degree row_count
 returns-then-k-lt1 c =
-    let sheet = (past-degree c.before.before).args.sheet.now in
+    let sheet = c.args.sheet.now in
     refused-into sheet _ c.refused-then-k-lt1.result 3 c.refused-then-k-lt1.ensures
     (sheet-count sheet (omega arith) (omega arith) (omega arith) (inl (omega arith)))
 
 pub returns-then-k-gt-MAX_ROWS : goal.returns-then-k-gt-MAX_ROWS
 unfolding degree row_count
 returns-then-k-gt-MAX_ROWS c =
-    let sheet = (past-degree c.before.before.before).args.sheet.now in
+    let sheet = c.args.sheet.now in
     refused-into sheet _ c.refused-then-k-gt-MAX_ROWS.result 3 c.refused-then-k-gt-MAX_ROWS.ensures
     (sheet-count sheet (omega arith) (omega arith) (omega arith) (inr (inl (omega arith))))
 
 pub returns-then-d-k : goal.returns-then-d-k
 unfolding degree row_count
 returns-then-d-k c =
-    let sheet = (past-degree c.before.before.before.before).args.sheet.now in
+    let sheet = c.args.sheet.now in
     refused-into sheet _ c.refused-then-d-k.result 3 c.refused-then-d-k.ensures
     (sheet-count sheet (omega arith) (omega arith) (omega arith) (inr (inr (omega arith))))
 
 pub returns-then-sheet-k : goal.returns-then-sheet-k
 unfolding degree row_count
 returns-then-sheet-k c =
-    let sheet = (past-count c.before.before).args.sheet.now in
+    let sheet = c.args.sheet.now in
     refused-into sheet _ c.refused-then-sheet-k.result 4 c.refused-then-sheet-k.ensures
     (sheet-length sheet (omega arith) (omega arith) (omega arith) (omega arith) (omega arith) (omega arith) (omega arith))
 
 pub returns : goal.returns
 unfolding degree row_count
 returns c =
-    let sheet = (past-count c.before.before.before).args.sheet.now in
+    let sheet = c.args.sheet.now in
     let checked = c.check_rows.ensures in
     record {
       answer =

@@ -13,13 +13,8 @@ use Rattle.inner_code.specs.Sheet.{row_of, rows_check}
 use Rattle.inner_code.specs.Reduction.{with_echelon, echelon, reduced_by}
 use Rattle.inner_code.proofs.EchelonForm.{length-with_echelon, with_echelon-one-more, reduced_by-stored}
 use Rattle.inner_code.proofs.SheetChecks.{row-high, row_made, row-sound, rows-one-more, rows-refused, rows-answer-refused, rows-answer-done}
-use Rattle.inner_code.proofs.sheet.check_rows.Reads as reads
-use Rattle.inner_code.proofs.sheet.check_rows.Lts as lts
-use Rattle.bits.proofs.pair.Reads as Pair-reads
-use Rattle.inner_code.proofs.membership.residue.Reads as residue-reads
-use Rattle.inner_code.proofs.sheet.put_row.Reads as put-row-reads
 use Rattle.inner_code.proofs.sheet.check_rows.Goals as goal
-use Rattle.inner_code.proofs.sheet.check_rows.Goals.{After-pair-row, After-residue-left, At-loop-i, Start}
+use Rattle.inner_code.proofs.sheet.check_rows.Goals.{After-residue-left}
 
 -- what is left of row i by the stored rows is its echelon row
 left : (sheet before basis : List ℕ) (i row result : ℕ) → i ≤ 11 → i ≤ length before → basis ≡ with_echelon (row_of sheet) i before → row ≡ row_of sheet i
@@ -36,84 +31,72 @@ loop-i-init c = (search rules, search rules, shifted_one c.args.d 32 (omega arit
 
 -- ---- a turn: the call, the loop's head, and row i as it is read
 
-abbrev start : At-loop-i → Start
-start c = c.before.before
-
-abbrev head : After-pair-row → At-loop-i
-head c = c.before.before
-
-abbrev read : After-residue-left → After-pair-row
-read c = c.before.before.before
-
 pub returns-then-limit-row : goal.returns-then-limit-row
 unfolding row_of
 returns-then-limit-row c =
-    let turn = (head c.before).loop-i in
-    let args = (start (head c.before)).args in
+    let turn = c.loop-i in
+    let args = c.args in
     let row = row_of args.sheet.now in
-    let high : 2 ^ args.d ≤ row turn.i = omega (arith, turn.inv.2, c.if-limit-row.true, c.pair-row.ensures) in
+    let high : 2 ^ args.d ≤ row turn.i = omega (arith, turn.invariant.2, c.if-limit-row.true, c.pair-row.ensures) in
     record {
       answer =
           sym
           (rows-answer-refused args.sheet.now args.d args.k 5 turn.i
-          (rows-refused args.d row turn.i 5 turn.i args.k turn.inv.3 (row-high args.d row turn.i high) (search rules)));
-      rows = turn.inv.4;
+          (rows-refused args.d row turn.i 5 turn.i args.k turn.invariant.3 (row-high args.d row turn.i high) (search rules)));
+      rows = turn.invariant.4;
     }
 
 -- row i has no bit past the first d
 row_low : (c : After-residue-left)
-    → let args = (start (head (read c))).args in row_of args.sheet.now (head (read c)).loop-i.i < 2 ^ args.d
+    → let args = c.args in row_of args.sheet.now c.loop-i.i < 2 ^ args.d
 unfolding row_of
-row_low c = omega (arith, (head (read c)).loop-i.invariant.2, c.if-limit-row.false, (read c).pair-row.ensures)
+row_low c = omega (arith, c.loop-i.invariant.2, c.if-limit-row.false, c.pair-row.ensures)
 
 -- what is left of row i is its echelon row
 left_is : (c : After-residue-left)
-    → c.residue-left.result ≡ echelon (row_of (start (head (read c))).args.sheet.now) (head (read c)).loop-i.i
+    → c.residue-left.result ≡ echelon (row_of c.args.sheet.now) c.loop-i.i
 unfolding row_of
 left_is c =
-    let turn = (head (read c)).loop-i in
-    left (start (head (read c))).args.sheet.now _ turn.basis turn.i (read c).pair-row.result c.residue-left.result (search rules)
-    turn.inv.5 turn.inv.4 (read c).pair-row.ensures c.residue-left.ensures
+    let turn = c.loop-i in
+    left c.args.sheet.now _ turn.basis turn.i c.pair-row.result c.residue-left.result (search rules)
+    turn.invariant.5 turn.invariant.4 c.pair-row.ensures c.residue-left.ensures
 
 pub returns-then-left-eq0 : goal.returns-then-left-eq0
 unfolding row_of echelon
 returns-then-left-eq0 c =
-    let here = head (read c.before) in
-    let turn = here.loop-i in
-    let args = (start here).args in
+    let turn = c.loop-i in
+    let args = c.args in
     let row = row_of args.sheet.now in
-    let made : echelon row turn.i ≡ 0 = sym (left_is c.before) ∙ c.if-left-eq0.true in
-    let refusal = row_made args.d row turn.i (row_low c.before) made in
+    let made : echelon row turn.i ≡ 0 = sym (left_is (goal.at.returns-then-left-eq0 c).After-residue-left) ∙ c.if-left-eq0.true in
+    let refusal = row_made args.d row turn.i (row_low (goal.at.returns-then-left-eq0 c).After-residue-left) made in
     record {
       answer =
           sym
           (rows-answer-refused args.sheet.now args.d args.k 6 turn.i
-          (rows-refused args.d row turn.i 6 turn.i args.k turn.inv.3 refusal (search rules)));
-      rows = turn.inv.4;
+          (rows-refused args.d row turn.i 6 turn.i args.k turn.invariant.3 refusal (search rules)));
+      rows = turn.invariant.4;
     }
 
 pub loop-i-preserved : goal.loop-i-preserved
 unfolding row_of echelon
 loop-i-preserved c =
-    let reduced = c.before.before.before in
-    let here = head (read reduced) in
-    let turn = here.loop-i in
-    let args = (start here).args in
+    let turn = c.loop-i in
+    let args = c.args in
     let row = row_of args.sheet.now in
-    let sound = row-sound args.d row turn.i (row_low reduced) (λ z. c.if-left-eq0.false (left_is reduced ∙ z)) in (
+    let sound = row-sound args.d row turn.i (row_low (goal.at.loop-i-preserved c).After-residue-left) (λ z. c.if-left-eq0.false (left_is (goal.at.loop-i-preserved c).After-residue-left ∙ z)) in (
       search rules,
       search rules,
-      turn.inv.2,
-      rows-one-more args.d row turn.i turn.inv.3 sound,
-      c.put_row.ensures ∙ ap₂ (λ (l : List ℕ) (x : ℕ). set l turn.i x) turn.inv.4 (left_is reduced)
+      turn.invariant.2,
+      rows-one-more args.d row turn.i turn.invariant.3 sound,
+      c.put_row.ensures ∙ ap₂ (λ (l : List ℕ) (x : ℕ). set l turn.i x) turn.invariant.4 (left_is (goal.at.loop-i-preserved c).After-residue-left)
           ∙ sym (with_echelon-one-more row turn.i args.basis.now),
-      omega (arith, c.put-row-arg.given.0, ap length turn.inv.4, length-with_echelon row turn.i args.basis.now),
+      omega (arith, c.put-row-arg.given.0, ap length turn.invariant.4, length-with_echelon row turn.i args.basis.now),
     )
 
 pub returns : goal.returns
 returns c =
     let turn = c.loop-i in
-    let args = (start c.before).args in
+    let args = c.args in
     let row = row_of args.sheet.now in
     let end : turn.i ≡ args.k = omega arith in
     record {

@@ -12,11 +12,6 @@ use Rattle.inner_code.specs.Sheet.{row_of, rows_check}
 use Rattle.inner_code.specs.Reduction.{with_echelon, echelon, reduced_by}
 use Rattle.inner_code.proofs.EchelonForm.{length-with_echelon, with_echelon-one-more, reduced_by-stored}
 use Rattle.inner_code.proofs.SheetChecks.{row-high, row_made, row-sound, rows-one-more, rows-refused, rows-answer-refused, rows-answer-done}
-use Rattle.inner_code.proofs.sheet.check_rows.Reads as reads
-use Rattle.inner_code.proofs.sheet.check_rows.Lts as lts
-use Rattle.bits.proofs.pair.Reads as Pair-reads
-use Rattle.inner_code.proofs.membership.residue.Reads as residue-reads
-use Rattle.inner_code.proofs.sheet.put_row.Reads as put-row-reads
 use Rattle.inner_code.proofs.sheet.check_rows.Given as goal
 
 abbrev pub invariant-loop-i : goal.invariant-loop-i

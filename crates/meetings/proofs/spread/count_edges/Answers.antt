@@ -9,7 +9,7 @@ use Rattle.bits.specs.Window.{at}
 use Rattle.meetings.specs.Walk.{arrivals, Counted}
 use Rattle.meetings.proofs.Walks.{counted_none, counted-one-more, counted-low}
 use Rattle.meetings.proofs.spread.count_edges.Goals as goal
-use Rattle.meetings.proofs.spread.count_edges.Goals.{After-slice_known-1, At-loop-i, Start}
+use Rattle.meetings.proofs.spread.count_edges.Goals.{After-slice_known-1}
 
 pub loop-i-init : goal.loop-i-init
 loop-i-init c = (search rules, refl, counted_none (at c.args.lefts.now) c.args.from c.args.counts.now)
@@ -20,16 +20,10 @@ overflow_cast-left c = omega (arith, c.type_inv.lefts (c.args.from + c.loop-i.i)
 pub offset_bounds-counts-left : goal.offset_bounds-counts-left
 offset_bounds-counts-left c = omega (arith, c.type_inv.lefts (c.args.from + c.loop-i.i))
 
-abbrev turn : After-slice_known-1 → At-loop-i
-turn c = c.before.before.before
-
-abbrev start : After-slice_known-1 → Start
-start c = (turn c).before
-
 -- the entry's left vertex has a count
 inside : (c : After-slice_known-1)
-    → at (start c).args.lefts.now ((start c).args.from + (turn c).loop-i.i) < length (turn c).loop-i.counts
-inside c = omega (arith, (start c).requires.left_lt (turn c).loop-i.i (omega arith), (turn c).loop-i.invariant.1)
+    → at c.args.lefts.now (c.args.from + c.loop-i.i) < length c.loop-i.counts
+inside c = omega (arith, c.requires.left_lt c.loop-i.i (omega arith), c.loop-i.invariant.1)
 
 pub bounds-counts-left : goal.bounds-counts-left
 unfolding at
@@ -38,11 +32,11 @@ bounds-counts-left c = inside c
 pub overflow_add-counts : goal.overflow_add-counts
 unfolding at
 overflow_add-counts c =
-    let args = (start c).args in
-    let before = (turn c).loop-i in
+    let args = c.args in
+    let before = c.loop-i in
     let low =
-    counted-low args.lefts.now args.from args.d before.i args.counts.now before.counts (start c).requires (omega arith)
-    before.inv.2 in
+    counted-low args.lefts.now args.from args.d before.i args.counts.now before.counts c.requires (omega arith)
+    before.invariant.2 in
     omega (arith, low)
 
 pub bounds-counts-left-in-loop-i : goal.bounds-counts-left-in-loop-i
@@ -52,12 +46,12 @@ bounds-counts-left-in-loop-i c = inside c
 pub loop-i-preserved : goal.loop-i-preserved
 unfolding at
 loop-i-preserved c =
-    let args = (start c).args in
-    let before = (turn c).loop-i in (
+    let args = c.args in
+    let before = c.loop-i in (
       search rules,
-      simp length-set before.inv.1,
-      counted-one-more (at args.lefts.now) args.from before.i args.counts.now before.counts before.inv.1
-          ((start c).requires.left_lt before.i (omega arith)) before.inv.2,
+      simp length-set before.invariant.1,
+      counted-one-more (at args.lefts.now) args.from before.i args.counts.now before.counts before.invariant.1
+          (c.requires.left_lt before.i (omega arith)) before.invariant.2,
     )
 
 pub returns : goal.returns

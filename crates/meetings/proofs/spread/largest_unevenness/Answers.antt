@@ -11,7 +11,7 @@ use Rattle.bits.specs.Window.{at}
 use Rattle.meetings.specs.Walk.{largest_walked}
 use Rattle.meetings.proofs.Walks.{ends-walkable, walked-summable, walked-uneven, largest-none, largest-raised, largest-kept}
 use Rattle.meetings.proofs.spread.largest_unevenness.Goals as goal
-use Rattle.meetings.proofs.spread.largest_unevenness.Goals.{After-clear, After-walk, At-loop-u, Start, else-largest-sum, then-largest-sum}
+use Rattle.meetings.proofs.spread.largest_unevenness.Goals.{After-walk, else-largest-sum, then-largest-sum}
 
 pub loop-u-init : goal.loop-u-init
 loop-u-init c =
@@ -19,63 +19,46 @@ loop-u-init c =
     let none = largest-none (at args.lefts.now) (at args.rights.now) args.nl args.nr args.dl args.dr in
     (search rules, refl, sym none)
 
--- the turn and the call, from the counts cleared on
-abbrev turn : After-clear → At-loop-u
-turn c = c.before.before.before
-
-abbrev start : At-loop-u → Start
-start c = c.before.before.before
-
 pub overflow_mul-u : goal.overflow_mul-u
 overflow_mul-u c =
-    let at_turn = turn c.before in
-    let below : at_turn.loop-u.u < (start at_turn).args.nl = omega arith in
-    omega (arith, mul-le-mul_right (start at_turn).args.dl below, (start at_turn).requires.rights-sized)
+    let below : c.loop-u.u < c.args.nl = omega arith in
+    omega (arith, mul-le-mul_right c.args.dl below, c.requires.rights-sized)
 
 pub walk-requires : goal.walk-requires
 walk-requires c =
-    let cleared = c.before.before in
-    ends-walkable (start (turn cleared)).requires (turn cleared).loop-u.u (omega arith) cleared.clear.new.counts cleared.clear.ensures
-
--- the counts cleared, for a turn whose walk is done
-abbrev before : After-walk → After-clear
-before c = c.before.before.before
+    ends-walkable c.requires c.loop-u.u (omega arith) c.clear.new.counts c.clear.ensures
 
 -- the calls keep the length of the counts
 sized : (c : After-walk) → length c.walk.new.counts ≡ 2048
-sized c = c.walk.auto.counts ∙ (before c).clear.auto.counts ∙ (turn (before c)).loop-u.invariant.1
+sized c = c.walk.auto.counts ∙ c.clear.auto.counts ∙ c.loop-u.invariant.1
 
 pub unevenness_of-sum-requires : goal.unevenness_of-sum-requires
 unevenness_of-sum-requires c =
-    let after = c.before.before in
-    let cleared = before after in
-    let ends = (start (turn cleared)).requires in record {
-      summable = walked-summable ends (turn cleared).loop-u.u (omega arith) _ cleared.clear.ensures _ after.walk.ensures
-          (omega (arith, sized after, ends.nl-high));
+    let ends = c.requires in record {
+      summable = walked-summable ends c.loop-u.u (omega arith) _ c.clear.ensures _ c.walk.ensures
+          (omega (arith, sized (goal.at.unevenness_of-sum-requires c).After-walk, ends.nl-high));
       dl_bound = search rules;
     }
 
 pub loop-u-preserved : goal.loop-u-preserved
 loop-u-preserved c =
-    let after = c.before.before.before.before in
-    let cleared = before after in
-    let at_turn = (turn cleared).loop-u in
-    let args = (start (turn cleared)).args in
+    let at_turn = c.loop-u in
+    let args = c.args in
     let left = at args.lefts.now in
     let right = at args.rights.now in
     let sum_is_lem =
     c.unevenness_of-sum.ensures
-    ∙ walked-uneven (start (turn cleared)).requires at_turn.u (omega arith) _ cleared.clear.ensures _ after.walk.ensures in (
+    ∙ walked-uneven c.requires at_turn.u (omega arith) _ c.clear.ensures _ c.walk.ensures in (
       search rules,
-      sized after,
+      sized (goal.at.loop-u-preserved c).After-walk,
       (elim c.if-largest-sum.branch [
-          | then-largest-sum w ↦ w.1 ∙ largest-raised left right args.nl args.nr args.dl args.dr at_turn.u at_turn.largest _ at_turn.inv.2 sum_is_lem w.if-largest-sum.true
-          | else-largest-sum w ↦ w.1 ∙ largest-kept left right args.nl args.nr args.dl args.dr at_turn.u at_turn.largest _ at_turn.inv.2 sum_is_lem w.if-largest-sum.false
+          | then-largest-sum w ↦ w.1 ∙ largest-raised left right args.nl args.nr args.dl args.dr at_turn.u at_turn.largest _ at_turn.invariant.2 sum_is_lem w.if-largest-sum.true
+          | else-largest-sum w ↦ w.1 ∙ largest-kept left right args.nl args.nr args.dl args.dr at_turn.u at_turn.largest _ at_turn.invariant.2 sum_is_lem w.if-largest-sum.false
         ]),
     )
 
 pub returns : goal.returns
 returns c =
-    let args = (start c.before).args in
+    let args = c.args in
     let end : c.loop-u.u ≡ args.nl = omega arith in
     c.loop-u.invariant.2 ∙ ap (largest_walked (at args.lefts.now) (at args.rights.now) args.nl args.nr args.dl args.dr) end

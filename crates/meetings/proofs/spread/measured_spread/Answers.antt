@@ -14,68 +14,56 @@ use Rattle.wiring.proofs.Permutation.{fitted-edges}
 use Rattle.wiring.proofs.Plans.{fitted-sheet}
 use Rattle.meetings.proofs.Walks.{noted-walk, walked-spread}
 use Rattle.meetings.proofs.spread.measured_spread.Goals as goal
-use Rattle.meetings.proofs.spread.measured_spread.Goals.{After-note_ends, After-rights-3-1, After-shared_slice_known-4-1, Start}
+use Rattle.meetings.proofs.spread.measured_spread.Goals.{After-note_ends, Start}
 
 abbrev plan_in : Start → Plan
 plan_in c = plan_of c.args.left.now c.args.right.now c.args.nl c.args.nr c.args.wiring.now
-
-abbrev called : After-shared_slice_known-4-1 → Start
-called c = c.before.before.before.before
 
 -- the arrays have room for all edges
 room : (plan : Plan) → WiredPlan plan → edge_count plan ≤ length (replicate {A = ℕ} 32768 0)
 room plan w = subst (λ (m : ℕ). edge_count plan ≤ m) (sym (length-replicate {A = ℕ} 32768 0)) (fitted-edges w.left-fits)
 
 pub bounds-left-0 : goal.bounds-left-0
-bounds-left-0 c = fitted-sheet _ (called c).requires.left-fits
+bounds-left-0 c = fitted-sheet _ c.requires.left-fits
 
 pub overflow_cast-dl : goal.overflow_cast-dl
 overflow_cast-dl c = omega (arith, c.type_inv.left 0)
 
 pub bounds-right-0 : goal.bounds-right-0
-bounds-right-0 c = fitted-sheet _ (called c.before).requires.right-fits
+bounds-right-0 c = fitted-sheet _ c.requires.right-fits
 
 pub overflow_cast-dr : goal.overflow_cast-dr
 overflow_cast-dr c = omega (arith, c.type_inv.right 0)
 
 pub overflow_mul-nl : goal.overflow_mul-nl
 unfolding degree
-overflow_mul-nl c = omega (arith, fitted-edges (called c.before).requires.left-fits)
+overflow_mul-nl c = omega (arith, fitted-edges c.requires.left-fits)
 
 pub note_ends-requires : goal.note_ends-requires
 unfolding degree
 note_ends-requires c =
-    let start = called c.before.before.before in
-    let fits = room (plan_in start) start.requires in
-    wired-notable start.requires fits fits
+    let fits = room (plan_in (goal.at.note_ends-requires c).Start) c.requires in
+    wired-notable c.requires fits fits
 
 -- ---- past the notes of all edges
 
-abbrev start : After-note_ends → Start
-start c = called c.before.before.before.before
-
 noted : (c : After-note_ends)
-    → let plan = plan_in (start c) in
+    → let plan = plan_in c.before.before.before.before.before.before.before.before.before in
     Noted (edge_of plan.wiring) (degree plan.left_sheet) (degree plan.right_sheet) (edge_count plan)
     c.note_ends.new.lefts c.note_ends.new.rights
 unfolding degree
 noted c = c.note_ends.ensures.noted
 
-abbrev ends : After-rights-3-1 → After-note_ends
-ends c = c.before.before.before.before
-
 pub largest_unevenness-requires : goal.largest_unevenness-requires
 unfolding degree
 largest_unevenness-requires c =
-    let after = ends c in
-    let plan : Plan = plan_in (start after) in
-    let fits = room plan (start after).requires in
-    noted-walk plan (start after).requires (noted after)
-    (subst (λ (m : ℕ). edge_count plan ≤ m) (sym after.note_ends.auto.lefts) fits)
-    (subst (λ (m : ℕ). edge_count plan ≤ m) (sym after.note_ends.auto.rights) fits)
+    let plan : Plan = plan_in (goal.at.largest_unevenness-requires c).Start in
+    let fits = room plan c.requires in
+    noted-walk plan c.requires (noted (goal.at.largest_unevenness-requires c).After-note_ends)
+    (subst (λ (m : ℕ). edge_count plan ≤ m) (sym c.note_ends.auto.lefts) fits)
+    (subst (λ (m : ℕ). edge_count plan ≤ m) (sym c.note_ends.auto.rights) fits)
 
 pub returns : goal.returns
 unfolding degree
 returns c =
-    let after = ends c.before in
-    walked-spread (plan_in (start after)) (start after).requires (noted after) c.largest_unevenness.result c.largest_unevenness.ensures
+    walked-spread (plan_in (goal.at.returns c).Start) c.requires (noted (goal.at.returns c).After-note_ends) c.largest_unevenness.result c.largest_unevenness.ensures

@@ -26,18 +26,16 @@ overflow_mul-met c = omega (arith, met-le c.requires.summable c.loop-w.w (omega 
 
 pub overflow_add-sum : goal.overflow_add-sum
 overflow_add-sum c =
-    let start = c.before.before.before.before in
     let before = c.loop-w in
-    let low = uneven-le start.requires.summable _ start.requires.dl_bound before.w (omega arith) in
-    omega (arith, before.invariant.1, low, start.requires.summable.nl-high, degrees-le _ _ start.requires.dl_bound start.requires.dl_bound)
+    let low = uneven-le c.requires.summable _ c.requires.dl_bound before.w (omega arith) in
+    omega (arith, before.invariant.1, low, c.requires.summable.nl-high, degrees-le _ _ c.requires.dl_bound c.requires.dl_bound)
 
 pub overflow_add-sum-else-met-even : goal.overflow_add-sum-else-met-even
 unfolding at
 overflow_add-sum-else-met-even c =
-    let start = c.before.before.before.before in
     let before = c.loop-w in
-    let low = uneven-le start.requires.summable _ start.requires.dl_bound before.w (omega arith) in
-    omega (arith, before.invariant.1, low, start.requires.summable.nl-high, met-le start.requires.summable before.w (omega arith))
+    let low = uneven-le c.requires.summable _ c.requires.dl_bound before.w (omega arith) in
+    omega (arith, before.invariant.1, low, c.requires.summable.nl-high, met-le c.requires.summable before.w (omega arith))
 
 pub loop-w-preserved : goal.loop-w-preserved
 unfolding at
@@ -54,9 +52,8 @@ loop-w-preserved c =
 
 pub overflow_cast-result : goal.overflow_cast-result
 overflow_cast-result c =
-    let start = c.before.before in
     let before = c.loop-w in
-    omega (arith, before.invariant.1, uneven-le start.requires.summable _ start.requires.dl_bound before.w (omega arith), start.requires.summable.nl-high)
+    omega (arith, before.invariant.1, uneven-le c.requires.summable _ c.requires.dl_bound before.w (omega arith), c.requires.summable.nl-high)
 
 pub returns : goal.returns
 returns c =

@@ -8,39 +8,33 @@ use Rattle.bits.specs.Window.{at}
 use Rattle.meetings.specs.Walk.{walked, Counted}
 use Rattle.meetings.proofs.Walks.{walk_none, walk-one-more, walk-countable}
 use Rattle.meetings.proofs.spread.walk.Goals as goal
-use Rattle.meetings.proofs.spread.walk.Goals.{At-loop-j, Start}
 
 pub loop-j-init : goal.loop-j-init
 loop-j-init c =
     let args = c.args in
     (search rules, refl, walk_none args.lefts.now args.rights.now args.base args.dr args.counts.now)
 
-abbrev start : At-loop-j → Start
-start c = c.before.before.before.before
-
 pub overflow_cast-right : goal.overflow_cast-right
-overflow_cast-right c = omega (arith, c.type_inv.rights ((start c.before.before).args.base + c.loop-j.j))
+overflow_cast-right c = omega (arith, c.type_inv.rights (c.args.base + c.loop-j.j))
 
 pub overflow_mul-right : goal.overflow_mul-right
 unfolding at
-overflow_mul-right c = let turn = c.before.before in omega (arith, (start turn).requires.entries-inside turn.loop-j.j (omega arith))
+overflow_mul-right c = omega (arith, c.requires.entries-inside c.loop-j.j (omega arith))
 
 pub count_edges-requires : goal.count_edges-requires
 unfolding at
 count_edges-requires c =
-    let turn = c.before.before.before in
-    let before = turn.loop-j in
-    let args = (start turn).args in
+    let before = c.loop-j in
+    let args = c.args in
     walk-countable args.lefts.now args.rights.now args.base args.dr args.dl before.j args.counts.now before.counts
-    (start turn).requires (omega arith) before.invariant.1 before.invariant.2
+    c.requires (omega arith) before.invariant.1 before.invariant.2
 
 pub loop-j-preserved : goal.loop-j-preserved
 unfolding at
 loop-j-preserved c =
     let counting = c.count_edges in
-    let turn = c.before.before.before.before.before.before in
-    let before = turn.loop-j in
-    let args = (start turn).args in (
+    let before = c.loop-j in
+    let args = c.args in (
       search rules,
       counting.auto.1.1.1.0 ∙ before.invariant.1,
       walk-one-more args.lefts.now args.rights.now args.base args.dr before.j args.counts.now before.counts
@@ -49,5 +43,5 @@ loop-j-preserved c =
 
 pub returns : goal.returns
 returns c =
-    let end : c.loop-j.j ≡ (start c.before).args.dl = omega arith in
+    let end : c.loop-j.j ≡ c.args.dl = omega arith in
     rw end at c.loop-j.invariant.2

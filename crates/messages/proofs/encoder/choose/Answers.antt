@@ -11,10 +11,6 @@ use Rattle.messages.proofs.StoredRows.{row_bit-lt, length-no_rows}
 use Rattle.bits.proofs.Xor.{digits_product}
 use Rattle.messages.proofs.LiveRows.{live-none, live-one-more, live-le, chosen_none, chosen-one-more}
 use Rattle.messages.proofs.encoder.choose.Goals as goal
-use Rattle.messages.proofs.encoder.choose.Goals.{At-loop-p, Start}
-
-abbrev start : At-loop-p → Start
-start c = c.before.before.before.before
 
 pub loop-p-init : goal.loop-p-init
 loop-p-init c =
@@ -29,14 +25,13 @@ overflow_mul-bit c =
 
 pub overflow_add-rank : goal.overflow_add-rank
 overflow_add-rank c =
-    let turn = c.before.before.before.before in
     let live : c.row_bit-live.result < 2 = rw c.row_bit-live.ensures (row_bit-lt _ _ _) in
-    omega (arith, turn.loop-p.invariant.2, live-le (start turn).args.columns.now turn.loop-p.p)
+    omega (arith, c.loop-p.invariant.2, live-le c.args.columns.now c.loop-p.p)
 
 pub loop-p-preserved : goal.loop-p-preserved
 loop-p-preserved c =
     let before = c.loop-p in
-    let args = (start c.before.before.before.before).args in
+    let args = c.args in
     let live = c.row_bit-live.ensures in
     let bit = ap₂ ◌*◌ live (c.bit.ensures ∙ ap (bit_at args.message.now) before.invariant.2) in (
       search rules,
@@ -46,9 +41,9 @@ loop-p-preserved c =
     )
 
 pub shape_of-chosen : goal.shape_of-chosen
-shape_of-chosen c = c.loop-p.invariant.1 ∙ sym (ap length (start c.before).requires.chosen_value ∙ length-no_rows)
+shape_of-chosen c = c.loop-p.invariant.1 ∙ sym (ap length c.requires.chosen_value ∙ length-no_rows)
 
 pub returns : goal.returns
 returns c =
-    let end : c.loop-p.p ≡ (start c.before).args.edges = omega arith in
+    let end : c.loop-p.p ≡ c.args.edges = omega arith in
     rw end at c.loop-p.invariant.3

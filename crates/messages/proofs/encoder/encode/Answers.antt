@@ -10,29 +10,23 @@ use Rattle.messages.specs.Columns.{no_columns}
 use Rattle.messages.proofs.Answers.{encode-plan, encode-long}
 use Rattle.messages.proofs.Solving.{plan-wired-by, plan-stored}
 use Rattle.messages.proofs.encoder.encode.Goals as goal
-use Rattle.messages.proofs.encoder.encode.Goals.{After-check_plan-plan, In-Passed, Start}
-
-abbrev checked : In-Passed → After-check_plan-plan
-checked c = c.before.before
-
-abbrev start : In-Passed → Start
-start c = (checked c).before.before.before.before.before.before
+use Rattle.messages.proofs.encoder.encode.Goals.{In-Passed, Start}
 
 abbrev plan_in : Start → Plan
 plan_in c = plan_of c.args.left.now c.args.right.now c.args.nl c.args.nr c.args.wiring.now
 
 -- what an accepted plan says
-plan : (c : In-Passed) → PlanAccepted (plan_in (start c)) (checked c).check_plan-plan.result
-plan c = plan-accepted _ _ (checked c).check_plan-plan.ensures c.enum_told-1.given.1
+plan : (c : In-Passed) → PlanAccepted (plan_in c.before.before.before.before.before.before.before.before.before) c.check_plan-plan.result
+plan c = plan-accepted _ _ c.check_plan-plan.ensures c.in-Passed.is
 
 pub overflow_mul-edges : goal.overflow_mul-edges
 overflow_mul-edges c =
-    let p = plan c.before in
+    let p = plan (goal.at.overflow_mul-edges c).In-Passed in
     omega (arith, accepted-edges p, fitted-edges p.plan-wired.left-fits)
 
 pub returns-then-edges-gt-MAX_EDGES : goal.returns-then-edges-gt-MAX_EDGES
 returns-then-edges-gt-MAX_EDGES c =
-    let p = plan c.before.before in
+    let p = plan (goal.at.returns-then-edges-gt-MAX_EDGES c).In-Passed in
     let long = encode-long _ _ _ p.plan-done (omega (arith, c.if-edges-gt-MAX_EDGES.true, accepted-edges p)) in
     record {
       result_value = sym long.answer;
@@ -42,16 +36,15 @@ returns-then-edges-gt-MAX_EDGES c =
 pub solve-requires : goal.solve-requires
 unfolding no_columns
 solve-requires c =
-    let short = c.before in
     record {
-      wired = plan-wired-by _ _ (plan short.before.before);
-      d_bound = short.if-edges-gt-MAX_EDGES.false;
+      wired = plan-wired-by _ _ (plan (goal.at.solve-requires c).In-Passed);
+      d_bound = c.if-edges-gt-MAX_EDGES.false;
       columns_value = refl;
     }
 
 pub returns-in-Refused : goal.returns-in-Refused
 returns-in-Refused c =
-    let back = encode-plan _ _ _ _ _ (plan-refused _ _ c.check_plan-plan.ensures _ c.checked.given.1) in
+    let back = encode-plan _ _ _ _ _ (plan-refused _ _ c.check_plan-plan.ensures _ c.in-Refused.is) in
     record {
       result_value = sym back.answer;
       output_after = sym back.leaves;
@@ -59,11 +52,8 @@ returns-in-Refused c =
 
 pub returns-else-edges-gt-MAX_EDGES : goal.returns-else-edges-gt-MAX_EDGES
 returns-else-edges-gt-MAX_EDGES c =
-    let encoded = c.before.before in
-    let solved = encoded.before.before.before.before in
-    let short = solved.before.before in
-    let stored = plan-stored _ _ (plan short.before.before) _ short.if-edges-gt-MAX_EDGES.false solved.solve.ensures in
-    let rows = encoded.encode_rows.ensures in
+    let stored = plan-stored _ _ (plan (goal.at.returns-else-edges-gt-MAX_EDGES c).In-Passed) _ c.if-edges-gt-MAX_EDGES.false c.solve.ensures in
+    let rows = c.encode_rows.ensures in
     record {
       result_value = rows.answer _ stored;
       output_after = rows.leaves _ stored;

@@ -13,12 +13,10 @@ loop-e-init c = (search rules, refl, put-none _ _ _)
 
 pub loop-e-preserved : goal.loop-e-preserved
 loop-e-preserved c =
-    let put = c.before.before in
-    let turn = put.before.before.before.before in
-    let before = turn.loop-e in (
+    let before = c.loop-e in (
       search rules,
-      put.put_bit.auto.bytes ∙ before.invariant.1,
-      put-one-more _ _ _ _ _ _ _ before.invariant.2 put.parity_of.ensures put.put_bit.ensures,
+      c.put_bit.auto.bytes ∙ before.invariant.1,
+      put-one-more _ _ _ _ _ _ _ before.invariant.2 c.parity_of.ensures c.put_bit.ensures,
     )
 
 pub returns : goal.returns

@@ -19,29 +19,23 @@ use Rattle.messages.proofs.Answers.{read-plan, read-long, read-block, read-stran
 use Rattle.messages.proofs.Solving.{plan-wired-by, plan-stored}
 use Rattle.messages.proofs.Outcomes.{located-refused, located-nowhere, located-at}
 use Rattle.messages.proofs.reader.read_block.Goals as goal
-use Rattle.messages.proofs.reader.read_block.Goals.{After-check_block, After-check_plan-plan, After-first_unsatisfied, Else-edges-gt-MAX_EDGES, In-Passed, In-Passed-check_block, Start}
-
-abbrev planned : In-Passed → After-check_plan-plan
-planned c = c.before.before
-
-abbrev start : In-Passed → Start
-start c = (planned c).before.before.before.before.before.before
+use Rattle.messages.proofs.reader.read_block.Goals.{After-check_block, Else-edges-gt-MAX_EDGES, In-Passed, In-Passed-check_block, Start}
 
 abbrev plan_in : Start → Plan
 plan_in c = plan_of c.args.left.now c.args.right.now c.args.nl c.args.nr c.args.wiring.now
 
 -- what an accepted plan says
-plan : (c : In-Passed) → PlanAccepted (plan_in (start c)) (planned c).check_plan-plan.result
-plan c = plan-accepted _ _ (planned c).check_plan-plan.ensures c.enum_told-1.given.1
+plan : (c : In-Passed) → PlanAccepted (plan_in c.before.before.before.before.before.before.before.before.before) c.check_plan-plan.result
+plan c = plan-accepted _ _ c.check_plan-plan.ensures c.in-Passed.is
 
 pub overflow_mul-edges : goal.overflow_mul-edges
 overflow_mul-edges c =
-    let p = plan c.before in
+    let p = plan (goal.at.overflow_mul-edges c).In-Passed in
     omega (arith, accepted-edges p, fitted-edges p.plan-wired.left-fits)
 
 pub returns-then-edges-gt-MAX_EDGES : goal.returns-then-edges-gt-MAX_EDGES
 returns-then-edges-gt-MAX_EDGES c =
-    let p = plan c.before.before in
+    let p = plan (goal.at.returns-then-edges-gt-MAX_EDGES c).In-Passed in
     let long = read-long _ _ _ p.plan-done (omega (arith, c.if-edges-gt-MAX_EDGES.true, accepted-edges p)) in
     record {
       result_value = sym long.answer;
@@ -49,48 +43,37 @@ returns-then-edges-gt-MAX_EDGES c =
     }
 
 -- a plan of at most 512 edges
-short : (c : Else-edges-gt-MAX_EDGES) → edge_count (plan_in (start c.before.before)) ≤ 512
-short c = omega (arith, c.if-edges-gt-MAX_EDGES.false, accepted-edges (plan c.before.before))
-
-abbrev accepted : After-check_block → In-Passed
-accepted c = c.before.before.before
+short : (c : Else-edges-gt-MAX_EDGES) → edge_count (plan_in c.before.before.before.before.before.before.before.before.before.before.before) ≤ 512
+short c = omega (arith, c.if-edges-gt-MAX_EDGES.false, accepted-edges (plan (record { before = c.before.before.before; type_inv = record { output = c.slice_known-1.given; block = c.shared_slice_known-4-1.given; wiring = c.shared_slice_known-3-1.given; right = c.shared_slice_known-2-1.given; left = c.shared_slice_known-1.given; } })))
 
 abbrev block_in : After-check_block → List ℕ
-block_in c = (start (accepted c)).args.block.now
+block_in c = c.args.block.now
 
-checked : (c : After-check_block) → check_reply c.check_block.result ≡ block_check (edge_count (plan_in (start (accepted c)))) (block_in c)
-checked c = c.check_block.ensures ∙ ap (λ (N : ℕ). block_check N (block_in c)) (accepted-edges (plan (accepted c)))
+checked : (c : After-check_block) → check_reply c.check_block.result ≡ block_check (edge_count (plan_in c.before.before.before.before.before.before.before.before.before.before.before.before)) (block_in c)
+checked c = c.check_block.ensures ∙ ap (λ (N : ℕ). block_check N (block_in c)) (accepted-edges (plan (record { before = c.before.before.before.before; type_inv = record { output = c.slice_known-1.given; block = c.shared_slice_known-4-1.given; wiring = c.shared_slice_known-3-1.given; right = c.shared_slice_known-2-1.given; left = c.shared_slice_known-1.given; } })))
 
 -- a block of the plan
 passed : (c : In-Passed-check_block)
-    → block_check (edge_count (plan_in (start (accepted c.before.before)))) (block_in c.before.before) ≡ done []
-passed c = sym (checked c.before.before) ∙ ap check_reply c.enum_told-in-Passed-check_block-1.given.1
+    → block_check (edge_count (plan_in c.before.before.before.before.before.before.before.before.before.before.before.before.before.before)) (block_in (record { before = c.before.before.before; type_inv = record { output = c.slice_known-1.given; block = c.shared_slice_known-4-1.given; wiring = c.shared_slice_known-3-1.given; right = c.shared_slice_known-2-1.given; left = c.shared_slice_known-1.given; } })) ≡ done []
+passed c = sym (checked (record { before = c.before.before.before; type_inv = record { output = c.slice_known-1.given; block = c.shared_slice_known-4-1.given; wiring = c.shared_slice_known-3-1.given; right = c.shared_slice_known-2-1.given; left = c.shared_slice_known-1.given; } })) ∙ ap check_reply c.in-Passed-check_block.is
 
 pub first_unsatisfied-requires : goal.first_unsatisfied-requires
 first_unsatisfied-requires c =
-    let p = plan (accepted c.before.before) in
-    codes-readable _ p.plan-done _ (block_room _ _ (passed c)) (p.code_is left) (p.code_is right)
-
--- the search for an unsatisfied vertex, which follows the block's check
-abbrev searched : After-first_unsatisfied → In-Passed-check_block
-searched c = c.before
-
-abbrev blocked : After-first_unsatisfied → After-check_block
-blocked c = (searched c).before.before
+    let p = plan (goal.at.first_unsatisfied-requires c).In-Passed in
+    codes-readable _ p.plan-done _ (block_room _ _ (passed (goal.at.first_unsatisfied-requires c).In-Passed-check_block)) (p.code_is left) (p.code_is right)
 
 pub solve-requires : goal.solve-requires
 unfolding no_columns
 solve-requires c =
-    let block = blocked c.before.before.before in
     record {
-      wired = plan-wired-by _ _ (plan (accepted block));
-      d_bound = block.if-edges-gt-MAX_EDGES.false;
+      wired = plan-wired-by _ _ (plan (goal.at.solve-requires c).In-Passed);
+      d_bound = c.if-edges-gt-MAX_EDGES.false;
       columns_value = refl;
     }
 
 pub returns-in-Refused : goal.returns-in-Refused
 returns-in-Refused c =
-    let back = read-plan _ _ _ _ _ (plan-refused _ _ c.check_plan-plan.ensures _ c.checked.given.1) in
+    let back = read-plan _ _ _ _ _ (plan-refused _ _ c.check_plan-plan.ensures _ c.in-Refused.is) in
     record {
       result_value = sym back.answer;
       output_after = sym back.leaves;
@@ -98,9 +81,8 @@ returns-in-Refused c =
 
 pub returns-in-Refused-check_block : goal.returns-in-Refused-check_block
 returns-in-Refused-check_block c =
-    let block = c.before.before.before in
-    let refused = sym (checked block) ∙ ap check_reply c.r.given.1 in
-    let back = read-block _ _ _ (plan (accepted block)).plan-done (short block.before) _ _ refused in
+    let refused = sym (checked (goal.at.returns-in-Refused-check_block c).After-check_block) ∙ ap check_reply c.in-Refused-check_block.is in
+    let back = read-block _ _ _ (plan (goal.at.returns-in-Refused-check_block c).In-Passed).plan-done (short (goal.at.returns-in-Refused-check_block c).Else-edges-gt-MAX_EDGES) _ _ refused in
     record {
       result_value = sym back.answer;
       output_after = sym back.leaves;
@@ -108,16 +90,14 @@ returns-in-Refused-check_block c =
 
 pub returns-in-Refused-first_unsatisfied : goal.returns-in-Refused-first_unsatisfied
 returns-in-Refused-first_unsatisfied c =
-    absurd (located-refused _ _ _ (sym (ap locate_reply c.r2.given.1) ∙ c.first_unsatisfied.ensures))
+    absurd (located-refused _ _ _ (sym (ap locate_reply c.in-Refused-first_unsatisfied.is) ∙ c.first_unsatisfied.ensures))
 
 pub returns-in-At : goal.returns-in-At
 returns-in-At c =
-    let found = c.before.before in
-    let block = blocked found in
-    let p = plan (accepted block) in
-    let somewhere = sym (ap locate_reply c.enum_told-in-At-1.given.1) ∙ found.first_unsatisfied.ensures in
+    let p = plan (goal.at.returns-in-At c).In-Passed in
+    let somewhere = sym (ap locate_reply c.in-At.is) ∙ c.first_unsatisfied.ensures in
     let other = located-at _ _ _ p _ _ somewhere in
-    let back = read-stranger _ _ _ p.plan-done (short block.before) (passed (searched found)) other in
+    let back = read-stranger _ _ _ p.plan-done (short (goal.at.returns-in-At c).Else-edges-gt-MAX_EDGES) (passed (goal.at.returns-in-At c).In-Passed-check_block) other in
     record {
       result_value = sym back.answer;
       output_after = sym back.leaves;
@@ -125,17 +105,12 @@ returns-in-At c =
 
 pub returns-in-Nowhere : goal.returns-in-Nowhere
 returns-in-Nowhere c =
-    let took = c.before.before in
-    let solved = took.before.before.before.before in
-    let told = solved.before.before in
-    let found = told.before.before in
-    let block = blocked found in
-    let p = plan (accepted block) in
-    let nowhere = sym (ap locate_reply told.enum_told-in-Nowhere-1.given.1) ∙ found.first_unsatisfied.ensures in
+    let p = plan (goal.at.returns-in-Nowhere c).In-Passed in
+    let nowhere = sym (ap locate_reply c.in-Nowhere.is) ∙ c.first_unsatisfied.ensures in
     let codeword = located-nowhere _ _ _ p nowhere in
-    let stored = plan-stored _ _ p _ block.if-edges-gt-MAX_EDGES.false solved.solve.ensures in
-    let passes = sym block.check_block.ensures ∙ ap check_reply (searched found).enum_told-in-Passed-check_block-1.given.1 in
-    let rows = took.take_message.ensures in
+    let stored = plan-stored _ _ p _ c.if-edges-gt-MAX_EDGES.false c.solve.ensures in
+    let passes = sym c.check_block.ensures ∙ ap check_reply c.in-Passed-check_block.is in
+    let rows = c.take_message.ensures in
     record {
       result_value = rows.answer _ stored passes codeword;
       output_after = rows.leaves _ stored passes codeword;

@@ -9,44 +9,36 @@ use Rattle.messages.specs.Columns.{live_before, bits_taken}
 use Rattle.messages.proofs.LiveRows.{live-none, live-le}
 use Rattle.messages.proofs.Written.{taken_none, taken-one-more, taken-kept}
 use Rattle.messages.proofs.reader.take_bits.Goals as goal
-use Rattle.messages.proofs.reader.take_bits.Goals.{After-row_bit, At-loop-p, Start, else-row_bit-eq1, then-row_bit-eq1}
-
-abbrev start : At-loop-p → Start
-start c = c.before.before.before.before
-
-abbrev turn : After-row_bit → At-loop-p
-turn c = c.before.before
+use Rattle.messages.proofs.reader.take_bits.Goals.{else-row_bit-eq1, then-row_bit-eq1}
 
 pub loop-p-init : goal.loop-p-init
 loop-p-init c = (search rules, refl, sym (live-none _), sym (taken_none _ _ _))
 
 pub overflow_add-rank : goal.overflow_add-rank
 overflow_add-rank c =
-    let put = c.before.before in
-    let head = turn put.before.before.before.before in
-    omega (arith, head.loop-p.invariant.2, live-le (start head).args.columns.now head.loop-p.p)
+    omega (arith, c.loop-p.invariant.2, live-le c.args.columns.now c.loop-p.p)
 
 pub loop-p-preserved : goal.loop-p-preserved
 loop-p-preserved c =
-    let before = (turn c.before).loop-p in
-    let args = (start (turn c.before)).args in
+    let before = c.loop-p in
+    let args = c.args in
     let columns = args.columns.now in
     let block = args.block.now in
     let read = c.row_bit.ensures in
     (elim c.if-row_bit-eq1.branch [
           | then-row_bit-eq1 w ↦ 
     let (counted, taken) =
-    taken-one-more columns block before.p before.rank _ _ before.output before.inv.2 before.inv.3 read _ _ w.if-row_bit-eq1.true
+    taken-one-more columns block before.p before.rank _ _ before.output before.invariant.2 before.invariant.3 read _ _ w.if-row_bit-eq1.true
     w.2.ensures w.3.ensures in
-    (omega arith, ap length w.6 ∙ w.3.kept.0 ∙ before.inv.1, w.7 ∙ counted, w.6 ∙ taken)
+    (omega arith, ap length w.6 ∙ w.3.kept.0 ∙ before.invariant.1, w.7 ∙ counted, w.6 ∙ taken)
           | else-row_bit-eq1 w ↦ 
     let (counted, taken) =
-    taken-kept columns block before.p before.rank _ _ before.output before.inv.2 before.inv.3 read w.if-row_bit-eq1.false in
-    (omega arith, ap length w.1 ∙ before.inv.1, w.2 ∙ counted, w.1 ∙ taken)
+    taken-kept columns block before.p before.rank _ _ before.output before.invariant.2 before.invariant.3 read w.if-row_bit-eq1.false in
+    (omega arith, ap length w.1 ∙ before.invariant.1, w.2 ∙ counted, w.1 ∙ taken)
         ])
 
 pub returns : goal.returns
 returns c =
-    let args = (start c.before).args in
+    let args = c.args in
     let end : c.loop-p.p ≡ args.edges = omega arith in
     c.loop-p.invariant.3 ∙ ap (λ (j : ℕ). bits_taken args.columns.now args.block.now j args.output.now) end

@@ -18,8 +18,5 @@ returns-then-output-bytes c = taken-short _ _ _ _ _ (ap (λ (x : ℕ). (x + 7) /
 pub returns : goal.returns
 unfolding block_bytes
 returns c =
-    let took = c.before.before in
-    let cleared = took.before.before.before.before in
-    let fits = cleared.before.before in
-    taken-whole _ _ _ _ _ (ap (λ (x : ℕ). (x + 7) / 8) fits.count_live.ensures) _ _ fits.if-output-bytes.false
-    cleared.clear.ensures took.take_bits.ensures
+    taken-whole _ _ _ _ _ (ap (λ (x : ℕ). (x + 7) / 8) c.count_live.ensures) _ _ c.if-output-bytes.false
+    c.clear.ensures c.take_bits.ensures

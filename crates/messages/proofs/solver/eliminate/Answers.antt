@@ -11,45 +11,36 @@ use Rattle.messages.specs.Columns.{Eliminated}
 use Rattle.messages.proofs.Pivots.{check-digit-lt, check-within, made-unused}
 use Rattle.messages.proofs.Solving.{eliminated-none, eliminated-one-more}
 use Rattle.messages.proofs.solver.eliminate.Goals as goal
-use Rattle.messages.proofs.solver.eliminate.Goals.{After-unit_residues, At-loop-m, Start, else-used-digit-eq1, then-used-digit-eq1}
-
-abbrev residued : At-loop-m → After-unit_residues
-residued c = c.before.before.before.before
-
-abbrev start : At-loop-m → Start
-start c = (residued c).before.before.before.before.before.before
+use Rattle.messages.proofs.solver.eliminate.Goals.{else-used-digit-eq1, then-used-digit-eq1}
 
 pub loop-m-init : goal.loop-m-init
 loop-m-init c = (search rules, search rules, eliminated-none _ _ _)
 
 pub overflow_cast-digit : goal.overflow_cast-digit
-overflow_cast-digit c = omega (arith, check-digit-lt (start c.before.before).requires.fitted c.loop-m.m)
+overflow_cast-digit c = omega (arith, check-digit-lt c.requires.fitted c.loop-m.m)
 
 pub overflow_shr-used : goal.overflow_shr-used
-overflow_shr-used c = check-digit-lt (start c.before.before).requires.fitted c.loop-m.m
+overflow_shr-used c = check-digit-lt c.requires.fitted c.loop-m.m
 
 pub overflow_mul-base : goal.overflow_mul-base
 overflow_mul-base c =
-    let turn = c.before.before.before.before.before in
-    omega (arith, div-add-mod' turn.loop-m.m (start turn).args.code.d)
+    omega (arith, div-add-mod' c.loop-m.m c.args.code.d)
 
 pub put_check-requires : goal.put_check-requires
 put_check-requires c =
-    let turn = c.before.before.before.before.before.before.before in
-    let (fits, (even, (permuted, (short, sized)))) = (start turn).requires in record {
-      within = check-within fits even permuted _ turn.loop-m.m (omega arith) short;
+    let (fits, (even, (permuted, (short, sized)))) = c.requires in record {
+      within = check-within fits even permuted _ c.loop-m.m (omega arith) short;
       edges_bound = short;
-      residues_len = (residued turn).unit_residues.auto.residues;
-      columns_len = turn.loop-m.invariant.1;
+      residues_len = c.unit_residues.auto.residues;
+      columns_len = c.loop-m.invariant.1;
     }
 
 pub loop-m-preserved : goal.loop-m-preserved
 unfolding digit
 loop-m-preserved c =
-    let turn = c.before.before.before in
-    let before = turn.loop-m in
-    let (fits, (even, (permuted, (short, sized)))) = (start turn).requires in
-    let more = eliminated-one-more _ _ _ fits even permuted _ (residued turn).unit_residues.ensures before.m (omega arith) _ before.invariant.2 in
+    let before = c.loop-m in
+    let (fits, (even, (permuted, (short, sized)))) = c.requires in
+    let more = eliminated-one-more _ _ _ fits even permuted _ c.unit_residues.ensures before.m (omega arith) _ before.invariant.2 in
     (elim c.if-used-digit-eq1.branch [
           | then-used-digit-eq1 w ↦ (
       omega arith,
@@ -59,11 +50,11 @@ loop-m-preserved c =
           | else-used-digit-eq1 w ↦ (
       omega arith,
       ap length w.1 ∙ before.invariant.1,
-      rw w.1 (more _ (made-unused _ short _ _ _ _ _ _ turn.used_digits-used.ensures w.if-used-digit-eq1.false)),
+      rw w.1 (more _ (made-unused _ short _ _ _ _ _ _ c.used_digits-used.ensures w.if-used-digit-eq1.false)),
     )
         ])
 
 pub returns : goal.returns
 returns c =
-    let end : c.loop-m.m ≡ (start c.before).args.edges = omega arith in
+    let end : c.loop-m.m ≡ c.args.edges = omega arith in
     rw end at c.loop-m.invariant.2

@@ -10,36 +10,28 @@ use Rattle.messages.specs.Columns.{FailSet}
 use Rattle.messages.proofs.StoredRows.{length-no_rows}
 use Rattle.messages.proofs.Pivots.{hits-none, hits-put, hits-kept}
 use Rattle.messages.proofs.solver.find_hits.Goals as goal
-use Rattle.messages.proofs.solver.find_hits.Goals.{After-slice_known-1, At-loop-i, Start, else-residues-i-eq1, then-residues-i-eq1}
-
-abbrev called : After-slice_known-1 → Start
-called c = c.before.before.before.before
-
-abbrev start : At-loop-i → Start
-start c = called c.before
+use Rattle.messages.proofs.solver.find_hits.Goals.{else-residues-i-eq1, then-residues-i-eq1}
 
 pub loop-i-init : goal.loop-i-init
 loop-i-init c =
-    let empty = (called c).requires.hits_value in
+    let empty = c.requires.hits_value in
     (search rules, ap length empty ∙ length-no_rows, rw empty (hits-none _ _ _ _))
 
 pub overflow_cast-digit : goal.overflow_cast-digit
-overflow_cast-digit c = omega (arith, (start c.before.before).requires.within.digit_lt)
+overflow_cast-digit c = omega (arith, c.requires.within.digit_lt)
 
 pub overflow_shr-residues : goal.overflow_shr-residues
-overflow_shr-residues c = (start c.before.before).requires.within.digit_lt
+overflow_shr-residues c = c.requires.within.digit_lt
 
 pub overflow_add-base : goal.overflow_add-base
-overflow_add-base c = omega (arith, (start c.before.before.before).requires.within.sized)
+overflow_add-base c = omega (arith, c.requires.within.sized)
 
 pub bit_of-requires : goal.bit_of-requires
-bit_of-requires c = omega (arith, (start c.before.before.before).requires.within.sized)
+bit_of-requires c = omega (arith, c.requires.within.sized)
 
 pub add_column-requires : goal.add_column-requires
 add_column-requires c =
-    let bit = c.before in
-    let turn = bit.before.before.before.before in
-    omega (arith, bit.bit_of.ensures, (start turn).requires.within.bit-lt turn.loop-i.i (omega arith))
+    omega (arith, c.bit_of.ensures, c.requires.within.bit-lt c.loop-i.i (omega arith))
 
 pub loop-i-preserved : goal.loop-i-preserved
 unfolding digit
@@ -59,9 +51,9 @@ loop-i-preserved c =
         ])
 
 pub shape_of-hits : goal.shape_of-hits
-shape_of-hits c = c.loop-i.invariant.1 ∙ sym (ap length (start c.before).requires.hits_value ∙ length-no_rows)
+shape_of-hits c = c.loop-i.invariant.1 ∙ sym (ap length c.requires.hits_value ∙ length-no_rows)
 
 pub returns : goal.returns
 returns c =
-    let end : c.loop-i.i ≡ (start c.before).args.d = omega arith in
+    let end : c.loop-i.i ≡ c.args.d = omega arith in
     rw end at c.loop-i.invariant.2

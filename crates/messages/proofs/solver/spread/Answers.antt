@@ -7,15 +7,12 @@ use mathlib.Core.Logic.{⊎_elim}
 use lib.ListN.{length}
 use Rattle.messages.proofs.Pivots.{SpreadSoFar, spread-put, spread-kept, spread-last}
 use Rattle.messages.proofs.solver.spread.Goals as goal
-use Rattle.messages.proofs.solver.spread.Goals.{At-loop-e, Start, else-row_bit-eq1, then-row_bit-eq1}
-
-abbrev start : At-loop-e → Start
-start c = c.before.before.before
+use Rattle.messages.proofs.solver.spread.Goals.{else-row_bit-eq1, then-row_bit-eq1}
 
 pub loop-e-preserved : goal.loop-e-preserved
 loop-e-preserved c =
     let before = c.loop-e in
-    let args = (start c.before.before.before.before).args in
+    let args = c.args in
     let read = c.row_bit.ensures in
     (elim c.if-row_bit-eq1.branch [
           | then-row_bit-eq1 w ↦ (

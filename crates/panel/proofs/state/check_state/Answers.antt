@@ -10,19 +10,13 @@ use Rattle.wiring.proofs.Plans.{PlanAccepted, plan-accepted, plan-refused, accep
 use Rattle.panel.proofs.States.{block-lent}
 use Rattle.panel.proofs.Answers.{state-long}
 use Rattle.panel.proofs.state.check_state.Goals as goal
-use Rattle.panel.proofs.state.check_state.Goals.{After-check_plan-plan, After-struct_known-1, Start}
-
-abbrev checked : After-struct_known-1 → After-check_plan-plan
-checked c = c.before.before.before
-
-abbrev start : After-check_plan-plan → Start
-start c = c.before.before.before.before.before
+use Rattle.panel.proofs.state.check_state.Goals.{After-struct_known-1, Start}
 
 abbrev plan_in : Start → Plan
 plan_in c = plan_of c.args.left.now c.args.right.now c.args.nl c.args.nr c.args.wiring.now
 
-plan : (c : After-struct_known-1) → PlanAccepted (plan_in (start (checked c))) (checked c).check_plan-plan.result
-plan c = plan-accepted _ _ (checked c).check_plan-plan.ensures c.enum_told-1.given.1
+plan : (c : After-struct_known-1) → PlanAccepted (plan_in c.before.before.before.before.before.before.before.before.before) c.check_plan-plan.result
+plan c = plan-accepted _ _ c.check_plan-plan.ensures c.in-Passed.is
 
 pub overflow_mul-plan : goal.overflow_mul-plan
 overflow_mul-plan c =
@@ -31,15 +25,11 @@ overflow_mul-plan c =
 
 pub returns-in-Refused : goal.returns-in-Refused
 returns-in-Refused c =
-    let asked = c.before.before.before in
-    let s = start asked in
-    let refuses = plan-refused (plan_in s) _ asked.check_plan-plan.ensures _ c.checked.given.1 in
-    sym (state-long (plan_in s) s.args.state.now s.requires ∙ and_then-refused _ _ _ _ refuses)
+    let refuses = plan-refused (plan_in (goal.at.returns-in-Refused c).Start) _ c.check_plan-plan.ensures _ c.in-Refused.is in
+    sym (state-long (plan_in (goal.at.returns-in-Refused c).Start) c.args.state.now c.requires ∙ and_then-refused _ _ _ _ refuses)
 
 pub returns-in-Passed : goal.returns-in-Passed
 returns-in-Passed c =
-    let told = c.before.before in
-    let p = plan told in
-    let s = start (checked told) in
-    c.check_block.ensures ∙ ap₂ block_check (accepted-edges p) (block-lent s.args.state.now)
-    ∙ sym (state-long (plan_in s) s.args.state.now s.requires ∙ and_then-passed _ _ _ p.plan-done)
+    let p = plan (goal.at.returns-in-Passed c).After-struct_known-1 in
+    c.check_block.ensures ∙ ap₂ block_check (accepted-edges p) (block-lent c.args.state.now)
+    ∙ sym (state-long (plan_in (goal.at.returns-in-Passed c).Start) c.args.state.now c.requires ∙ and_then-passed _ _ _ p.plan-done)

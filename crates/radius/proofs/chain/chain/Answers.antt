@@ -14,65 +14,54 @@ use Rattle.wiring.specs.declared.side.SideName.{SideName}
 use Rattle.radius.proofs.MarginChain.{sweeps_from, covered-slack, next-falls, slack-covered}
 use Rattle.radius.proofs.ChainWalk.{counted, walk-starts, walk_steps, walk-stops, walk_ends}
 use Rattle.radius.proofs.chain.chain.Goals as goal
-use Rattle.radius.proofs.chain.chain.Goals.{After-distance_to, At-loop-b, Else-square-limit, Start}
+use Rattle.radius.proofs.chain.chain.Goals.{After-distance_to, At-loop-b, Else-square-limit}
 
 square-fits : (s : ℕ) → s ≤ 32768 → s * s < 2 ^ 64
 square-fits s l = omega (arith, mul-le-mul l l)
 
 -- ---- a turn: the call and the loop's head, and from these the step that the turn takes
 
-abbrev start : At-loop-b → Start
-start c = c.before.before.before
-
 abbrev numbers : At-loop-b → PlanNumbers
-numbers c = (start c).args.plan
-
-abbrev head : After-distance_to → At-loop-b
-head c = c.before.before
-
-abbrev stepped : Else-square-limit → After-distance_to
-stepped c = c.before.before.before.before
+numbers c = c.args.plan
 
 -- A as the code has it, with the distance of the side that the step goes to
 abbrev slack_now : After-distance_to → ℕ
-slack_now c = c.distance_to.result * (numbers (head c)).nr - 2 * (numbers (head c)).dl * (head c).loop-b.b
+slack_now c = c.distance_to.result * (numbers c.before.before).nr - 2 * (numbers c.before.before).dl * c.loop-b.b
 
-slack-is : (c : After-distance_to) → slack (measures_by (numbers (head c))) (head c).loop-b.to (head c).loop-b.b ≡ slack_now c
+slack-is : (c : After-distance_to) → slack (measures_by (numbers c.before.before)) c.loop-b.to c.loop-b.b ≡ slack_now c
 unfolding slack
-slack-is c = ap (λ (D : ℕ). D * (numbers (head c)).nr - 2 * (numbers (head c)).dl * (head c).loop-b.b) (sym c.distance_to.ensures)
+slack-is c = ap (λ (D : ℕ). D * (numbers c.before.before).nr - 2 * (numbers c.before.before).dl * c.loop-b.b) (sym c.distance_to.ensures)
 
 next-is : (c : After-distance_to)
-    → next_bound (measures_by (numbers (head c))) (head c).loop-b.to (head c).loop-b.b
-    ≡ 4 * (numbers (head c)).nr * (numbers (head c)).spread * (head c).loop-b.b / (slack_now c * slack_now c)
+    → next_bound (measures_by (numbers c.before.before)) c.loop-b.to c.loop-b.b
+    ≡ 4 * (numbers c.before.before).nr * (numbers c.before.before).spread * c.loop-b.b / (slack_now c * slack_now c)
 unfolding next_bound
 next-is c = rw (slack-is c)
 
-whole-most : (c : After-distance_to) → c.distance_to.result * (numbers (head c)).nr ≤ 32768
+whole-most : (c : After-distance_to) → c.distance_to.result * (numbers c.before.before).nr ≤ 32768
 whole-most c =
-    let r = (start (head c)).requires.in_range in
-    let low : c.distance_to.result ≤ 16 = omega (arith, r.distance_high (head c).loop-b.to) in
+    let r = c.requires.in_range in
+    let low : c.distance_to.result ≤ 16 = omega (arith, r.distance_high c.loop-b.to) in
     omega (arith, mul-le-mul low r.nr-high)
 
 -- where neither test has returned, A is above 0 and the step from b is covered
-slack-pos : (c : Else-square-limit) → 0 < slack_now (stepped c)
+slack-pos : (c : Else-square-limit) → 0 < slack_now c.before.before.before.before
 slack-pos c = omega arith
 
 covered : (c : Else-square-limit)
-    → let at = head (stepped c) in
-    step_covered (measures_by (numbers at)) at.loop-b.to at.loop-b.b ≡ true
-covered c = slack-covered _ _ _ (rw (slack-is (stepped c)) (slack-pos c)) (rw (slack-is (stepped c)) c.if-square-limit.false)
+    → step_covered (measures_by (numbers c.before.before.before.before.before.before)) c.loop-b.to c.loop-b.b ≡ true
+covered c = slack-covered _ _ _ (rw (slack-is c.before.before.before.before) (slack-pos c)) (rw (slack-is c.before.before.before.before) c.if-square-limit.false)
 
 falls : (c : Else-square-limit)
-    → let at = head (stepped c) in
-    next_bound (measures_by (numbers at)) at.loop-b.to at.loop-b.b < at.loop-b.b
-falls c = next-falls _ _ _ (covered c) (stepped c).loop-b-test.true
+    → next_bound (measures_by (numbers c.before.before.before.before.before.before)) c.loop-b.to c.loop-b.b < c.loop-b.b
+falls c = next-falls _ _ _ (covered c) c.loop-b-test.true
 
 -- a step that is not covered ends the walk
 stops : (c : After-distance_to)
-    → ((0 < slack_now c) × (4 * (numbers (head c)).nr * (numbers (head c)).spread < slack_now c * slack_now c) → ⊥)
-    → 0 ≡ sweeps_from (measures_by (numbers (head c))) right (start (head c)).args.first
+    → ((0 < slack_now c) × (4 * (numbers c.before.before).nr * (numbers c.before.before).spread < slack_now c * slack_now c) → ⊥)
+    → 0 ≡ sweeps_from (measures_by (numbers c.before.before)) right c.args.first
 stops c never =
-    sym (walk-stops _ _ _ _ _ (head c).loop-b.invariant.1 c.loop-b-test.true
+    sym (walk-stops _ _ _ _ _ c.loop-b.invariant.1 c.loop-b-test.true
     (λ step. never (rw (slack-is c) at (covered-slack _ _ _ step))))
 
 pub overflow_mul-limit-2 : goal.overflow_mul-limit-2
@@ -82,44 +71,40 @@ pub loop-b-init : goal.loop-b-init
 loop-b-init c = (search rules, walk-starts _)
 
 pub overflow_mul-whole : goal.overflow_mul-whole
-overflow_mul-whole c = omega (arith, whole-most c.before)
+overflow_mul-whole c = omega (arith, whole-most (goal.at.overflow_mul-whole c).After-distance_to)
 
 pub overflow_mul-taken-in-loop-b : goal.overflow_mul-taken-in-loop-b
 overflow_mul-taken-in-loop-b c =
-    let at = head c.before.before in
-    let bound : at.loop-b.b ≤ 65537 = omega arith in
-    omega (arith, mul-le-mul (start at).requires.in_range.dl-high bound)
+    let bound : c.loop-b.b ≤ 65537 = omega arith in
+    omega (arith, mul-le-mul c.requires.in_range.dl-high bound)
 
 pub returns-then-whole-taken : goal.returns-then-whole-taken
-returns-then-whole-taken c = stops c.before.before.before (λ step. omega arith)
+returns-then-whole-taken c = stops (goal.at.returns-then-whole-taken c).After-distance_to (λ step. omega arith)
 
 pub overflow_mul-square : goal.overflow_mul-square
-overflow_mul-square c = record { fits = square-fits _ (omega (arith, whole-most c.before.before.before)) }
+overflow_mul-square c = record { fits = square-fits _ (omega (arith, whole-most (goal.at.overflow_mul-square c).After-distance_to)) }
 
 pub returns-then-square-limit : goal.returns-then-square-limit
-returns-then-square-limit c = stops c.before.before.before.before (λ step. omega (arith, step.1))
+returns-then-square-limit c = stops (goal.at.returns-then-square-limit c).After-distance_to (λ step. omega (arith, step.1))
 
 pub overflow_mul-b : goal.overflow_mul-b
 overflow_mul-b c =
-    let at = head (stepped c) in
-    let r = (start at).requires.in_range in
-    let bound : at.loop-b.b ≤ 65537 = omega arith in
+    let r = c.requires.in_range in
+    let bound : c.loop-b.b ≤ 65537 = omega arith in
     omega (arith, mul-le-mul (mul-le-mul r.nr-high r.spread-high) bound)
 
 pub nonzero_div-b : goal.nonzero_div-b
 nonzero_div-b c = omega (arith, mul-pos (slack-pos c) (slack-pos c))
 
 pub loop-b-smaller : goal.loop-b-smaller
-loop-b-smaller c = let passed = c.before in rw (next-is (stepped passed)) at (falls passed)
+loop-b-smaller c = rw (next-is (goal.at.loop-b-smaller c).After-distance_to) at (falls (goal.at.loop-b-smaller c).Else-square-limit)
 
 pub loop-b-preserved : goal.loop-b-preserved
 loop-b-preserved c =
-    let passed = c.before in
-    let at = head (stepped passed) in
-    let bound = next-is (stepped passed) in (
-      omega (arith, falls passed, bound),
-      walk_steps _ _ _ _ _ at.loop-b.invariant.1 (stepped passed).loop-b-test.true (covered passed)
-          ∙ ap₂ (λ (to : SideName) (b : ℕ). counted (at.loop-b.place + 1) (sweeps_from (measures_by (numbers at)) to b)) (sym c.other_side-to.ensures) bound,
+    let bound = next-is (goal.at.loop-b-preserved c).After-distance_to in (
+      omega (arith, falls (goal.at.loop-b-preserved c).Else-square-limit, bound),
+      walk_steps _ _ _ _ _ c.loop-b.invariant.1 c.loop-b-test.true (covered (goal.at.loop-b-preserved c).Else-square-limit)
+          ∙ ap₂ (λ (to : SideName) (b : ℕ). counted (c.loop-b.place + 1) (sweeps_from (measures_by (numbers (goal.at.loop-b-preserved c).At-loop-b)) to b)) (sym c.other_side-to.ensures) bound,
     )
 
 pub returns : goal.returns

@@ -11,23 +11,20 @@ use Rattle.radius.specs.Ranges.{measures_by}
 use Rattle.radius.proofs.MarginChain.{named_small}
 use Rattle.radius.proofs.Uncovered.{beyond-is}
 use Rattle.radius.proofs.chain.first_uncovered.Goals as goal
-use Rattle.radius.proofs.chain.first_uncovered.Goals.{In-loop-plan, Start}
+use Rattle.radius.proofs.chain.first_uncovered.Goals.{In-loop-plan}
 
 pub loop-plan-init : goal.loop-plan-init
 loop-plan-init c F l = absurd (not-suc-le-zero l)
 
-abbrev start : In-loop-plan → Start
-start c = c.before.before.before
-
-covered : (c : In-loop-plan) → 0 < sweeps_named (measures_by (start c).args.plan) c.loop-plan.flips
+covered : (c : In-loop-plan) → 0 < sweeps_named (measures_by c.args.plan) c.loop-plan.flips
 covered c = omega (arith, c.sweeps_named.ensures)
 
 -- a covered F is at most N
-within : (c : In-loop-plan) → c.loop-plan.flips ≤ (start c).args.plan.nl * (start c).args.plan.dl
-within c = named_small (measures_by (start c).args.plan) c.loop-plan.flips (λ none. omega (arith, covered c))
+within : (c : In-loop-plan) → c.loop-plan.flips ≤ c.args.plan.nl * c.args.plan.dl
+within c = named_small (measures_by c.args.plan) c.loop-plan.flips (λ none. omega (arith, covered c))
 
 pub overflow_add-flips : goal.overflow_add-flips
-overflow_add-flips c = omega (arith, within c, edges_le _ _ (start c).requires.nl-high (start c).requires.dl-high)
+overflow_add-flips c = omega (arith, within c, edges_le _ _ c.requires.nl-high c.requires.dl-high)
 
 pub loop-plan-smaller : goal.loop-plan-smaller
 loop-plan-smaller c = omega (arith, within c)

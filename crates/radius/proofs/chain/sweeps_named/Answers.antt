@@ -14,23 +14,21 @@ bits_most : (c : Start) → c.args.plan.nl * c.args.plan.dl ≤ 32768
 bits_most c = edges_le _ _ c.requires.nl-high c.requires.dl-high
 
 pub overflow_mul-plan : goal.overflow_mul-plan
-overflow_mul-plan c = omega (arith, bits_most c.before)
+overflow_mul-plan c = omega (arith, bits_most (goal.at.overflow_mul-plan c).Start)
 
 pub returns-then-plan-flips : goal.returns-then-plan-flips
 returns-then-plan-flips c = sym (named-over _ _ c.if-plan-flips.true)
 
 pub first_bound-requires : goal.first_bound-requires
 first_bound-requires c =
-    let start = c.before.before in
-    let low = start.requires.distance-low in
-    (omega (arith, low left, low right), omega (arith, bits_most start))
+    let low = c.requires.distance-low in
+    (omega (arith, low left, low right), omega (arith, bits_most (goal.at.first_bound-requires c).Start))
 
 pub chain-requires : goal.chain-requires
 chain-requires c =
-    let start = c.before.before.before in
-    let most = bits_most start in
+    let most = bits_most (goal.at.chain-requires c).Start in
     record {
-      in_range = start.requires;
+      in_range = c.requires;
       first_bound = rw c.first_bound.ensures (le_trans (div-le_self _ _) (omega arith));
     }
 

@@ -11,47 +11,39 @@ use Rattle.wiring.proofs.Permutation.{fitted-edges}
 use Rattle.wiring.proofs.Plans.{PlanAccepted, plan-accepted, plan-refused, accepted-edges}
 use Rattle.radius.proofs.Answers.{margin-plan, margin-over, margin-uncovered, margin-covered}
 use Rattle.radius.proofs.margins.margin_sweeps.Goals as goal
-use Rattle.radius.proofs.margins.margin_sweeps.Goals.{After-check_plan-plan, After-struct_known-1, Else-edges-flips, Start}
+use Rattle.radius.proofs.margins.margin_sweeps.Goals.{After-check_plan-plan, After-struct_known-1, Else-edges-flips}
 
 -- ---- past the check: the call, the plan that it is about, and what is known of it
 
-abbrev start : After-check_plan-plan → Start
-start c = c.before.before.before.before
-
 abbrev plan_in : After-check_plan-plan → Plan
 plan_in c =
-    let args = (start c).args in
+    let args = c.args in
     plan_of args.left.now args.right.now args.nl args.nr args.wiring.now
 
-abbrev checked : After-struct_known-1 → After-check_plan-plan
-checked c = c.before.before.before.before
-
-plan : (c : After-struct_known-1) → PlanAccepted (plan_in (checked c)) (checked c).check_plan-plan.result
-plan c = plan-accepted _ _ (checked c).check_plan-plan.ensures c.enum_told-1.given.1
+plan : (c : After-struct_known-1) → PlanAccepted (plan_in (record { before = c.before.before.before.before.before; type_inv = record { wiring = c.shared_slice_known-3-1.given; right = c.shared_slice_known-2-1.given; left = c.shared_slice_known-1.given; } })) c.check_plan-plan.result
+plan c = plan-accepted _ _ c.check_plan-plan.ensures c.in-Passed.is
 
 pub overflow_mul-edges : goal.overflow_mul-edges
 overflow_mul-edges c = omega (arith, accepted-edges (plan c), fitted-edges (plan c).plan-wired.left-fits)
 
 pub returns-then-edges-flips : goal.returns-then-edges-flips
-returns-then-edges-flips c = sym (margin-over _ _ (plan c.before).plan-done (rw (← accepted-edges (plan c.before)) c.if-edges-flips.true))
+returns-then-edges-flips c = sym (margin-over _ _ (plan (goal.at.returns-then-edges-flips c).After-struct_known-1).plan-done (rw (← accepted-edges (plan (goal.at.returns-then-edges-flips c).After-struct_known-1)) c.if-edges-flips.true))
 
-within : (c : Else-edges-flips) → (start (checked c.before)).args.flips ≤ edge_count (plan_in (checked c.before))
-within c = rw (← accepted-edges (plan c.before)) c.if-edges-flips.false
+within : (c : Else-edges-flips) → c.args.flips ≤ edge_count (plan_in (record { before = c.before.before.before.before.before.before; type_inv = record { wiring = c.shared_slice_known-3-1.given; right = c.shared_slice_known-2-1.given; left = c.shared_slice_known-1.given; } }))
+within c = rw (← accepted-edges (plan (record { before = c.before.before; type_inv = record { wiring = c.shared_slice_known-3-1.given; right = c.shared_slice_known-2-1.given; left = c.shared_slice_known-1.given; } }))) c.if-edges-flips.false
 
 pub measured_sweeps-sweeps-requires : goal.measured_sweeps-sweeps-requires
-measured_sweeps-sweeps-requires c = ((plan c.before).plan-done, within c)
+measured_sweeps-sweeps-requires c = ((plan (goal.at.measured_sweeps-sweeps-requires c).After-struct_known-1).plan-done, within c)
 
 pub returns-then-sweeps-eq0 : goal.returns-then-sweeps-eq0
 returns-then-sweeps-eq0 c =
-    let tested = c.before.before in
-    sym (margin-uncovered _ _ (plan tested.before).plan-done (within tested) (sym c.measured_sweeps-sweeps.ensures ∙ c.if-sweeps-eq0.true))
+    sym (margin-uncovered _ _ (plan (goal.at.returns-then-sweeps-eq0 c).After-struct_known-1).plan-done (within (goal.at.returns-then-sweeps-eq0 c).Else-edges-flips) (sym c.measured_sweeps-sweeps.ensures ∙ c.if-sweeps-eq0.true))
 
 pub returns-in-Refused : goal.returns-in-Refused
-returns-in-Refused c = sym (margin-plan _ _ _ _ (plan-refused _ _ c.check_plan-plan.ensures _ c.checked.given.1))
+returns-in-Refused c = sym (margin-plan _ _ _ _ (plan-refused _ _ c.check_plan-plan.ensures _ c.in-Refused.is))
 
 pub returns-else-sweeps-eq0 : goal.returns-else-sweeps-eq0
 returns-else-sweeps-eq0 c =
-    let tested = c.before.before in
     let named = c.measured_sweeps-sweeps.ensures in
     ap (λ (x : ℕ). done (x ∷ [])) named
-    ∙ sym (margin-covered _ _ (plan tested.before).plan-done (within tested) (λ z. c.if-sweeps-eq0.false (named ∙ z)))
+    ∙ sym (margin-covered _ _ (plan (goal.at.returns-else-sweeps-eq0 c).After-struct_known-1).plan-done (within (goal.at.returns-else-sweeps-eq0 c).Else-edges-flips) (λ z. c.if-sweeps-eq0.false (named ∙ z)))

@@ -16,10 +16,9 @@ slice_bounds-distance-end c = omega (arith, lists-fits _ _ c.list_codewords-coun
 
 pub returns : goal.returns
 returns c =
-    let listed = c.before.before.before.before in
-    let args = listed.args in
-    let words = listed.list_codewords-count.new.words in
-    let all : listed.list_codewords-count.result - 0 ≡ listed.list_codewords-count.result = omega arith in
+    let args = c.args in
+    let words = c.list_codewords-count.new.words in
+    let all : c.list_codewords-count.result - 0 ≡ c.list_codewords-count.result = omega arith in
     c.distance.ensures
     ∙ ap (λ (m : ℕ). fewest_ones (at (take m words)) (length (take m words))) all
-    ∙ listed-distance (row_of args.sheet.now) args.k listed.list_codewords-count.ensures (words-most args.k)
+    ∙ listed-distance (row_of args.sheet.now) args.k c.list_codewords-count.ensures (words-most args.k)

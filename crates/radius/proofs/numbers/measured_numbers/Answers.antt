@@ -8,7 +8,7 @@ use Rattle.wiring.specs.declared.side.SideName.{SideName}
 use Rattle.wiring.proofs.Plans.{plan-sound}
 use Rattle.radius.proofs.PlanNumbers.{distance_is}
 use Rattle.radius.proofs.numbers.measured_numbers.Goals as goal
-use Rattle.radius.proofs.numbers.measured_numbers.Goals.{After-measured_distance, After-shared_slice_known-4-1, Start}
+use Rattle.radius.proofs.numbers.measured_numbers.Goals.{Start}
 
 abbrev plan_in : Start → Plan
 plan_in c = plan_of c.args.left.now c.args.right.now c.args.nl c.args.nr c.args.wiring.now
@@ -16,47 +16,39 @@ plan_in c = plan_of c.args.left.now c.args.right.now c.args.nl c.args.nr c.args.
 sheet : (c : Start) (name : SideName) → Sound (sheet_of (plan_in c) name)
 sheet c = (plan-sound _ c.requires).0
 
-abbrev called : After-shared_slice_known-4-1 → Start
-called c = c.before.before.before.before
-
 pub bounds-left-0 : goal.bounds-left-0
-bounds-left-0 c = omega (arith, (sheet (called c) left).sized)
+bounds-left-0 c = omega (arith, (sheet (goal.at.bounds-left-0 c).Start left).sized)
 
 pub overflow_cast-dl : goal.overflow_cast-dl
 overflow_cast-dl c = omega (arith, c.type_inv.left 0)
 
 pub bounds-right-0 : goal.bounds-right-0
-bounds-right-0 c = omega (arith, (sheet (called c.before) right).sized)
+bounds-right-0 c = omega (arith, (sheet (goal.at.bounds-right-0 c).Start right).sized)
 
 pub overflow_cast-dr : goal.overflow_cast-dr
 overflow_cast-dr c = omega (arith, c.type_inv.right 0)
 
 pub bounds-left-1 : goal.bounds-left-1
-bounds-left-1 c = omega (arith, (sheet (called c.before.before) left).sized)
+bounds-left-1 c = omega (arith, (sheet (goal.at.bounds-left-1 c).Start left).sized)
 
 pub overflow_cast-kl : goal.overflow_cast-kl
 overflow_cast-kl c = omega (arith, c.type_inv.left 1)
 
 pub bounds-right-1 : goal.bounds-right-1
-bounds-right-1 c = omega (arith, (sheet (called c.before.before.before) right).sized)
+bounds-right-1 c = omega (arith, (sheet (goal.at.bounds-right-1 c).Start right).sized)
 
 pub overflow_cast-kr : goal.overflow_cast-kr
 overflow_cast-kr c = omega (arith, c.type_inv.right 1)
 
-abbrev start : After-measured_distance → Start
-start c = called c.before.before.before.before
-
 pub measured_spread-requires : goal.measured_spread-requires
-measured_spread-requires c = (plan-sound _ (start c.before).requires).1
+measured_spread-requires c = (plan-sound _ c.requires).1
 
 pub returns : goal.returns
 unfolding degree row_count
 returns c =
-    let second = c.before in
-    let first = second.before in
-    let plan = plan_in (start first) in
+    let plan = plan_in (goal.at.returns c).Start in
     rw (
-      distance_is plan left (sheet (start first) left) _ first.measured_distance.ensures,
-      distance_is plan right (sheet (start first) right) _ second.measured_distance-2.ensures,
+      distance_is plan left (sheet (goal.at.returns c).Start left) _ c.measured_distance.ensures,
+      distance_is plan right (sheet (goal.at.returns c).Start right) _ c.measured_distance-2.ensures,
       c.measured_spread.ensures,
     )

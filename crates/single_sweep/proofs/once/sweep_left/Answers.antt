@@ -23,33 +23,29 @@ accepted c = check-accepted (plan_in c) _ c.requires.wiring_value
 
 pub prepare_finder-requires : goal.prepare_finder-requires
 prepare_finder-requires c =
-    let first = c.before.before.before.before.before.before.before in
-    side-preparable (plan_in first) (accepted first) left first.requires.block_value refl
+    side-preparable (plan_in (goal.at.prepare_finder-requires c).Start) (accepted (goal.at.prepare_finder-requires c).Start) left c.requires.block_value refl
 
 pub note_places-requires : goal.note_places-requires
 note_places-requires c =
-    let first = c.before.before.before.before.before.before.before.before.before.before in
-    let entries = plan-entries (plan_in first) (accepted first) in
-    let few = plan-few (plan_in first) (accepted first) in
+    let entries = plan-entries (plan_in (goal.at.note_places-requires c).Start) (accepted (goal.at.note_places-requires c).Start) in
+    let few = plan-few (plan_in (goal.at.note_places-requires c).Start) (accepted (goal.at.note_places-requires c).Start) in
     record {
-      permuted = plan-permuted (plan_in first) (accepted first);
+      permuted = plan-permuted (plan_in (goal.at.note_places-requires c).Start) (accepted (goal.at.note_places-requires c).Start);
       wiring_len_bound = omega (arith, entries, few);
       wiring_in_bounds = omega (arith, entries, few, length-replicate {A = ℕ} 32768 0);
     }
 
 pub sweep_told-requires : goal.sweep_told-requires
 sweep_told-requires c =
-    let first = c.before.before.before.before.before.before.before.before.before.before.before.before.before.before.before in
-    let prepares = c.before.before.before.before.before.before.before in
-    let notes = c.before.before.before.before in (
-      first.requires.wiring_value,
+    (
+      c.requires.wiring_value,
       (
-        first.requires.block_value,
+        c.requires.block_value,
         (
-          first.requires.1.1,
+          c.requires.1.1,
           (
-            prepares.prepare_finder.ensures,
-            across-left (plan_in first) (accepted first) notes.note_places.ensures.places_noted,
+            c.prepare_finder.ensures,
+            across-left (plan_in (goal.at.sweep_told-requires c).Start) (accepted (goal.at.sweep_told-requires c).Start) c.note_places.ensures.places_noted,
           ),
         ),
       ),

@@ -19,21 +19,19 @@ accepted c = check-accepted (plan_in c) _ c.requires.wiring_value
 
 pub prepare_finder-requires : goal.prepare_finder-requires
 prepare_finder-requires c =
-    let first = c.before.before.before.before.before.before.before in
-    side-preparable (plan_in first) (accepted first) right first.requires.1.1 refl
+    side-preparable (plan_in (goal.at.prepare_finder-requires c).Start) (accepted (goal.at.prepare_finder-requires c).Start) right c.requires.1.1 refl
 
 pub sweep_told-requires : goal.sweep_told-requires
 sweep_told-requires c =
-    let first = c.before.before.before.before.before.before.before.before.before.before.before.before in
-    let prepares = c.before.before.before.before in (
-      first.requires.wiring_value,
+    (
+      c.requires.wiring_value,
       (
-        first.requires.block_value,
+        c.requires.block_value,
         (
-          first.requires.1.1,
+          c.requires.1.1,
           (
-            prepares.prepare_finder.ensures,
-            across-right (plan_in first) (accepted first),
+            c.prepare_finder.ensures,
+            across-right (plan_in (goal.at.sweep_told-requires c).Start) (accepted (goal.at.sweep_told-requires c).Start),
           ),
         ),
       ),

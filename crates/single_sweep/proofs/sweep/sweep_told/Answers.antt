@@ -36,124 +36,98 @@ plan_in c = plan_of c.args.left.now c.args.right.now c.args.nl c.args.nr c.args.
 accepted : (c : Start) → plan_check (plan_in c) ≡ done []
 accepted c = check-accepted (plan_in c) _ c.requires.wiring_value
 
-abbrev start : After-code_of-code → Start
-start c = c.before.before.before.before.before.before.before
-
 -- the side as its check has told it
-held : (c : After-code_of-code) → c.code_of_lem.result ≡ code_of (plan_in (start c)) (start c).args.side
+held : (c : After-code_of-code) → c.code_of_lem.result ≡ code_of (plan_in c.before.before.before.before.before.before.before.before) c.args.side
 held c =
-    let first = start c in
-    c.code_of_lem.ensures ∙ code-named (plan_in first) first.requires.block_value first.requires.left_code_value first.args.side
+    c.code_of_lem.ensures ∙ code-named (plan_in c.before.before.before.before.before.before.before.before) c.requires.block_value c.requires.left_code_value c.args.side
 
 pub loop-v-init : goal.loop-v-init
-loop-v-init c = (search rules, visited-none (plan_in (start c)) (accepted (start c)) (start c).args.side _, (start c).requires.right_code_value)
+loop-v-init c = (search rules, visited-none (plan_in (goal.at.loop-v-init c).Start) (accepted (goal.at.loop-v-init c).Start) c.args.side _, c.requires.right_code_value)
 
 -- ---- the loop's head, and the word that is read there
 
-abbrev head : After-read_word-word → At-loop-v
-head c = c.before.before.before
-
-abbrev begin : After-read_word-word → Start
-begin c = start (head c).before
-
-more : (c : After-read_word-word) → (head c).loop-v.v < (head c).code_of_lem.result.n
+more : (c : After-read_word-word) → c.loop-v.v < c.code_of_lem.result.n
 more c = omega arith
 
-below : (c : After-read_word-word) → (head c).loop-v.v < count_of (plan_in (begin c)) (begin c).args.side
-below c = omega (arith, more c, ap (λ (x : SideCode). x.n) (held (head c).before))
+below : (c : After-read_word-word) → c.loop-v.v < count_of (plan_in c.before.before.before.before.before.before.before.before.before.before.before) c.args.side
+below c = omega (arith, more c, ap (λ (x : SideCode). x.n) (held (record { before = c.before.before.before.before; type_inv = record { block = c.slice_known-2-1.given; places = c.shared_slice_known-4-1.given; finder = c.slice_known-1.given; wiring = c.shared_slice_known-3-1.given; right = c.shared_slice_known-2-1.given; left = c.shared_slice_known-1.given; } })))
 
 ready : (c : After-read_word-word)
-    → SideReady (sheet_of (plan_in (begin c)) (begin c).args.side) (count_of (plan_in (begin c)) (begin c).args.side) (begin c).args.wiring.now
-    (head c).loop-v.finder
-ready c = ready-side (plan_in (begin c)) (accepted (begin c)) (begin c).args.side (head c).loop-v.invariant.2
+    → SideReady (sheet_of (plan_in c.before.before.before.before.before.before.before.before.before.before.before) c.args.side) (count_of (plan_in c.before.before.before.before.before.before.before.before.before.before.before) c.args.side) c.args.wiring.now
+    c.loop-v.finder
+ready c = ready-side (plan_in c.before.before.before.before.before.before.before.before.before.before.before) (accepted c.before.before.before.before.before.before.before.before.before.before.before) c.args.side c.loop-v.invariant.2
 
 -- the word read is the vertex's
 read_is : (c : After-read_word-word)
-    → c.read_word-word.result ≡ vertex_word (side_of (plan_in (begin c)) (begin c).args.side) (head c).loop-v.block (head c).loop-v.v
+    → c.read_word-word.result ≡ vertex_word (side_of (plan_in c.before.before.before.before.before.before.before.before.before.before.before) c.args.side) c.loop-v.block c.loop-v.v
 read_is c =
-    let first = begin c in
-    rw (ap (λ (x : SideCode). x.d) (held (head c).before)) at c.read_word-word.ensures
-    ∙ read-vertex (sheet_of (plan_in first) first.args.side) _ _ first.args.side _ _
+    rw (ap (λ (x : SideCode). x.d) (held (record { before = c.before.before.before.before; type_inv = record { block = c.slice_known-2-1.given; places = c.shared_slice_known-4-1.given; finder = c.slice_known-1.given; wiring = c.shared_slice_known-3-1.given; right = c.shared_slice_known-2-1.given; left = c.shared_slice_known-1.given; } }))) at c.read_word-word.ensures
+    ∙ read-vertex (sheet_of (plan_in c.before.before.before.before.before.before.before.before.before.before.before) c.args.side) _ _ c.args.side _ _
 
 -- the block has room for all bits
-room : (c : At-loop-v) → edge_count (plan_in (start c.before)) ≤ length c.loop-v.block * 8
+room : (c : At-loop-v) → edge_count (plan_in c.before.before.before.before.before.before.before.before.before) ≤ length c.loop-v.block * 8
 room c =
-    let first = start c.before in
     omega (
       arith,
-      visited-length (plan_in first) (accepted first) first.args.side c.loop-v.invariant.1,
-      check-room (plan_in first) _ first.requires.wiring_value,
+      visited-length (plan_in c.before.before.before.before.before.before.before.before.before) (accepted c.before.before.before.before.before.before.before.before.before) c.args.side c.loop-v.invariant.1,
+      check-room (plan_in c.before.before.before.before.before.before.before.before.before) _ c.requires.wiring_value,
     )
 
 pub read_word-word-requires : goal.read_word-word-requires
 read_word-word-requires c =
-    let turn = c.before.before in
-    let first = start turn.before in
-    let side = first.args.side in
-    let is = held turn.before in
-    let below : turn.loop-v.v < count_of (plan_in first) side = omega (arith, ap (λ (x : SideCode). x.n) is) in
-    rw (ap (λ (x : SideCode). x.d) is) (plan-readable (plan_in first) (accepted first) turn.loop-v.block (room turn) side turn.loop-v.v below)
+    let side = c.args.side in
+    let is = held (goal.at.read_word-word-requires c).After-code_of-code in
+    let below : c.loop-v.v < count_of (plan_in (goal.at.read_word-word-requires c).Start) side = omega (arith, ap (λ (x : SideCode). x.n) is) in
+    rw (ap (λ (x : SideCode). x.d) is) (plan-readable (plan_in (goal.at.read_word-word-requires c).Start) (accepted (goal.at.read_word-word-requires c).Start) c.loop-v.block (room (goal.at.read_word-word-requires c).At-loop-v) side c.loop-v.v below)
 
 pub is_codeword-requires : goal.is_codeword-requires
-is_codeword-requires c = (head c.before).loop-v.invariant.2.sized
+is_codeword-requires c = c.loop-v.invariant.2.sized
 
 pub loop-v-preserved-then-is_codeword : goal.loop-v-preserved-then-is_codeword
 loop-v-preserved-then-is_codeword c =
-    let read = c.before.before.before in
-    let turn = (head read).loop-v in
-    let first = begin read in
+    let turn = c.loop-v in
     let member = member-means _ _ c.is_codeword.ensures in (
-      omega (arith, more read),
-      visited-kept (plan_in first) (accepted first) first.args.side turn.inv.1
-          (word-stays (ready read) first.args.side turn.block (below read) (read_is read) member c.if-is_codeword.true),
-      turn.inv.2,
+      omega (arith, more (goal.at.loop-v-preserved-then-is_codeword c).After-read_word-word),
+      visited-kept (plan_in (goal.at.loop-v-preserved-then-is_codeword c).Start) (accepted (goal.at.loop-v-preserved-then-is_codeword c).Start) c.args.side turn.invariant.1
+          (word-stays (ready (goal.at.loop-v-preserved-then-is_codeword c).After-read_word-word) c.args.side turn.block (below (goal.at.loop-v-preserved-then-is_codeword c).After-read_word-word) (read_is (goal.at.loop-v-preserved-then-is_codeword c).After-read_word-word) member c.if-is_codeword.true),
+      turn.invariant.2,
     )
 
 pub nearest_on-step-requires : goal.nearest_on-step-requires
 nearest_on-step-requires c =
-    let read = c.before.before.before.before in
-    let first = begin read in
-    nearest-asked (plan_in first) first.args.side (head read).loop-v.invariant.2 (head read).loop-v.block (head read).loop-v.v (read_is read)
+    nearest-asked (plan_in (goal.at.nearest_on-step-requires c).Start) c.args.side c.loop-v.invariant.2 c.loop-v.block c.loop-v.v (read_is (goal.at.nearest_on-step-requires c).After-read_word-word)
 
 -- ---- a word that is no codeword
-
-abbrev word : After-nearest_on-step → After-read_word-word
-word c = c.before.before.before.before.before
 
 abbrev stepped : After-nearest_on-step → List ℕ
 stepped c = c.nearest_on-step.new.finder
 
 found : (c : After-nearest_on-step)
-    → Found (sheet_of (plan_in (begin (word c))) (begin (word c)).args.side) (word c).read_word-word.result c.nearest_on-step.result (stepped c)
+    → Found (sheet_of (plan_in c.before.before.before.before.before.before.before.before.before.before.before.before.before.before.before) c.args.side) c.read_word-word.result c.nearest_on-step.result (stepped c)
 found c =
-    let first = begin (word c) in
-    rw (sheet-for (plan_in first) first.args.side) at c.nearest_on-step.ensures
+    rw (sheet-for (plan_in c.before.before.before.before.before.before.before.before.before.before.before.before.before.before.before) c.args.side) at c.nearest_on-step.ensures
 
 missed : (c : After-nearest_on-step)
-    → is_codeword (side_of (plan_in (begin (word c))) (begin (word c)).args.side).row (side_of (plan_in (begin (word c))) (begin (word c)).args.side).k
-    (vertex_word (side_of (plan_in (begin (word c))) (begin (word c)).args.side) (head (word c)).loop-v.block (head (word c)).loop-v.v)
+    → is_codeword (side_of (plan_in c.before.before.before.before.before.before.before.before.before.before.before.before.before.before.before) c.args.side).row (side_of (plan_in c.before.before.before.before.before.before.before.before.before.before.before.before.before.before.before) c.args.side).k
+    (vertex_word (side_of (plan_in c.before.before.before.before.before.before.before.before.before.before.before.before.before.before.before) c.args.side) c.loop-v.block c.loop-v.v)
     ≡ false
 missed c =
-    let read = word c in
-    let first = begin read in
-    word-missed (plan_in first) (accepted first) first.args.side (head read).loop-v.invariant.2
-    (member-means _ _ c.is_codeword.ensures) _ _ (read_is read) c.if-is_codeword.false
+    word-missed (plan_in c.before.before.before.before.before.before.before.before.before.before.before.before.before.before.before) (accepted c.before.before.before.before.before.before.before.before.before.before.before.before.before.before.before) c.args.side c.loop-v.invariant.2
+    (member-means _ _ c.is_codeword.ensures) _ _ (read_is (record { before = c.before.before.before.before.before; type_inv = record { places = c.shared_slice_known-4-1.given; wiring = c.shared_slice_known-3-1.given; right = c.shared_slice_known-2-1.given; left = c.shared_slice_known-1.given; } })) c.if-is_codeword.false
 
 pub put_told-told-requires : goal.put_told-told-requires
 put_told-told-requires c =
-    let last = c.before.before.before.before in
-    let read = word last in
-    let first = begin read in (
-      accepted first,
+    (
+      accepted (goal.at.put_told-told-requires c).Start,
       (
-        first.requires.block_value,
+        c.requires.block_value,
         (
-          first.requires.left_code_value,
+          c.requires.left_code_value,
           (
-            below read,
+            below (goal.at.put_told-told-requires c).After-read_word-word,
             (
-              pattern_lt (ready read) first.args.side (head read).loop-v.block (below read) (read_is read) (found last),
-              (first.requires.1.1.1.1, room (head read)),
+              pattern_lt (ready (goal.at.put_told-told-requires c).After-read_word-word) c.args.side c.loop-v.block (below (goal.at.put_told-told-requires c).After-read_word-word) (read_is (goal.at.put_told-told-requires c).After-read_word-word) (found (goal.at.put_told-told-requires c).After-nearest_on-step),
+              (c.requires.1.1.1.1, room (goal.at.put_told-told-requires c).At-loop-v),
             ),
           ),
         ),
@@ -162,70 +136,57 @@ put_told-told-requires c =
 
 -- ---- the vertex mended
 
-abbrev last : After-put_told-told → After-nearest_on-step
-last c = c.before.before.before.before.before
-
 abbrev put_block : After-put_told-told → List ℕ
 put_block c = c.put_told-told.new.block
 
-mends : (c : After-put_told-told) (settled : ℕ) → settled ≡ cond (eqb (last c).nearest_on-step.result.changed 0) 0 1
-    → (65536 + settled ≤ (head (word (last c))).loop-v.change + c.put_told-told.result)
-    × Visited (plan_in (begin (word (last c)))) (begin (word (last c))).args.side (begin (word (last c))).args.block.now
-    ((head (word (last c))).loop-v.v + 1) ((head (word (last c))).loop-v.change + c.put_told-told.result - 65536 - settled) (put_block c)
+mends : (c : After-put_told-told) (settled : ℕ) → settled ≡ cond (eqb c.nearest_on-step.result.changed 0) 0 1
+    → (65536 + settled ≤ c.loop-v.change + c.put_told-told.result)
+    × Visited (plan_in c.before.before.before.before.before.before.before.before.before.before.before.before.before.before.before.before.before.before.before.before) c.args.side c.args.block.now
+    (c.loop-v.v + 1) (c.loop-v.change + c.put_told-told.result - 65536 - settled) (put_block c)
 mends c settled told =
-    let read = word (last c) in
-    let turn = (head read).loop-v in
-    let first = begin read in
-    let side = first.args.side in
-    let mapped = word-found (ready read) side turn.block (below read) (read_is read) (found (last c)) in
-    let counted = word-counted (ready read) side turn.block (below read) (read_is read) (found (last c)) in
-    let puts = word-put (ready read) side turn.block (below read) (read_is read) (last c).nearest_on-step.result.word c.put_told-told.ensures.block_after in
-    let low = found_lt (ready read) side turn.block (below read) (read_is read) (found (last c)) in
-    visited-mended (plan_in first) (accepted first) side turn.inv.1 c.put_told-told.result settled (below read) mapped puts c.put_told-told.ensures.block_value
-    (rw told (word-mended (plan_in first) (accepted first) side turn.block (room (head read)) (below read) (missed (last c)) mapped counted puts low))
+    let turn = c.loop-v in
+    let side = c.args.side in
+    let mapped = word-found (ready (record { before = c.before.before.before.before.before.before.before.before.before.before; type_inv = record { places = c.shared_slice_known-4-1.given; wiring = c.shared_slice_known-3-1.given; right = c.shared_slice_known-2-1.given; left = c.shared_slice_known-1.given; } })) side turn.block (below (record { before = c.before.before.before.before.before.before.before.before.before.before; type_inv = record { places = c.shared_slice_known-4-1.given; wiring = c.shared_slice_known-3-1.given; right = c.shared_slice_known-2-1.given; left = c.shared_slice_known-1.given; } })) (read_is (record { before = c.before.before.before.before.before.before.before.before.before.before; type_inv = record { places = c.shared_slice_known-4-1.given; wiring = c.shared_slice_known-3-1.given; right = c.shared_slice_known-2-1.given; left = c.shared_slice_known-1.given; } })) (found (record { before = c.before.before.before.before.before.before; type_inv = record { places = c.shared_slice_known-4-1.given; wiring = c.shared_slice_known-3-1.given; right = c.shared_slice_known-2-1.given; left = c.shared_slice_known-1.given; } })) in
+    let counted = word-counted (ready (record { before = c.before.before.before.before.before.before.before.before.before.before; type_inv = record { places = c.shared_slice_known-4-1.given; wiring = c.shared_slice_known-3-1.given; right = c.shared_slice_known-2-1.given; left = c.shared_slice_known-1.given; } })) side turn.block (below (record { before = c.before.before.before.before.before.before.before.before.before.before; type_inv = record { places = c.shared_slice_known-4-1.given; wiring = c.shared_slice_known-3-1.given; right = c.shared_slice_known-2-1.given; left = c.shared_slice_known-1.given; } })) (read_is (record { before = c.before.before.before.before.before.before.before.before.before.before; type_inv = record { places = c.shared_slice_known-4-1.given; wiring = c.shared_slice_known-3-1.given; right = c.shared_slice_known-2-1.given; left = c.shared_slice_known-1.given; } })) (found (record { before = c.before.before.before.before.before.before; type_inv = record { places = c.shared_slice_known-4-1.given; wiring = c.shared_slice_known-3-1.given; right = c.shared_slice_known-2-1.given; left = c.shared_slice_known-1.given; } })) in
+    let puts = word-put (ready (record { before = c.before.before.before.before.before.before.before.before.before.before; type_inv = record { places = c.shared_slice_known-4-1.given; wiring = c.shared_slice_known-3-1.given; right = c.shared_slice_known-2-1.given; left = c.shared_slice_known-1.given; } })) side turn.block (below (record { before = c.before.before.before.before.before.before.before.before.before.before; type_inv = record { places = c.shared_slice_known-4-1.given; wiring = c.shared_slice_known-3-1.given; right = c.shared_slice_known-2-1.given; left = c.shared_slice_known-1.given; } })) (read_is (record { before = c.before.before.before.before.before.before.before.before.before.before; type_inv = record { places = c.shared_slice_known-4-1.given; wiring = c.shared_slice_known-3-1.given; right = c.shared_slice_known-2-1.given; left = c.shared_slice_known-1.given; } })) c.nearest_on-step.result.word c.put_told-told.ensures.block_after in
+    let low = found_lt (ready (record { before = c.before.before.before.before.before.before.before.before.before.before; type_inv = record { places = c.shared_slice_known-4-1.given; wiring = c.shared_slice_known-3-1.given; right = c.shared_slice_known-2-1.given; left = c.shared_slice_known-1.given; } })) side turn.block (below (record { before = c.before.before.before.before.before.before.before.before.before.before; type_inv = record { places = c.shared_slice_known-4-1.given; wiring = c.shared_slice_known-3-1.given; right = c.shared_slice_known-2-1.given; left = c.shared_slice_known-1.given; } })) (read_is (record { before = c.before.before.before.before.before.before.before.before.before.before; type_inv = record { places = c.shared_slice_known-4-1.given; wiring = c.shared_slice_known-3-1.given; right = c.shared_slice_known-2-1.given; left = c.shared_slice_known-1.given; } })) (found (record { before = c.before.before.before.before.before.before; type_inv = record { places = c.shared_slice_known-4-1.given; wiring = c.shared_slice_known-3-1.given; right = c.shared_slice_known-2-1.given; left = c.shared_slice_known-1.given; } })) in
+    visited-mended (plan_in c.before.before.before.before.before.before.before.before.before.before.before.before.before.before.before.before.before.before.before.before) (accepted c.before.before.before.before.before.before.before.before.before.before.before.before.before.before.before.before.before.before.before.before) side turn.invariant.1 c.put_told-told.result settled (below (record { before = c.before.before.before.before.before.before.before.before.before.before; type_inv = record { places = c.shared_slice_known-4-1.given; wiring = c.shared_slice_known-3-1.given; right = c.shared_slice_known-2-1.given; left = c.shared_slice_known-1.given; } })) mapped puts c.put_told-told.ensures.block_value
+    (rw told (word-mended (plan_in c.before.before.before.before.before.before.before.before.before.before.before.before.before.before.before.before.before.before.before.before) (accepted c.before.before.before.before.before.before.before.before.before.before.before.before.before.before.before.before.before.before.before.before) side turn.block (room (record { before = c.before.before.before.before.before.before.before.before.before.before.before.before; type_inv = record { places = c.shared_slice_known-4-1.given; wiring = c.shared_slice_known-3-1.given; right = c.shared_slice_known-2-1.given; left = c.shared_slice_known-1.given; } })) (below (record { before = c.before.before.before.before.before.before.before.before.before.before; type_inv = record { places = c.shared_slice_known-4-1.given; wiring = c.shared_slice_known-3-1.given; right = c.shared_slice_known-2-1.given; left = c.shared_slice_known-1.given; } })) (missed (record { before = c.before.before.before.before.before.before; type_inv = record { places = c.shared_slice_known-4-1.given; wiring = c.shared_slice_known-3-1.given; right = c.shared_slice_known-2-1.given; left = c.shared_slice_known-1.given; } })) mapped counted puts low))
 
 pub overflow_add-change : goal.overflow_add-change
 overflow_add-change c =
-    let put = c.before.before in
-    let read = word (last put) in
-    let first = begin read in
     omega (
       arith,
-      change-few (plan_in first) (accepted first) first.args.side (head read).loop-v.invariant.1,
-      put.put_told-told.ensures.block_value,
-      side-few (plan_in first) (accepted first) (other first.args.side) (put_block put),
+      change-few (plan_in (goal.at.overflow_add-change c).Start) (accepted (goal.at.overflow_add-change c).Start) c.args.side c.loop-v.invariant.1,
+      c.put_told-told.ensures.block_value,
+      side-few (plan_in (goal.at.overflow_add-change c).Start) (accepted (goal.at.overflow_add-change c).Start) (other c.args.side) (put_block (goal.at.overflow_add-change c).After-put_told-told),
     )
 
 pub overflow_sub-change : goal.overflow_sub-change
-overflow_sub-change c = omega (arith, (mends c.before.before _ refl).0)
+overflow_sub-change c = omega (arith, (mends (goal.at.overflow_sub-change c).After-put_told-told _ refl).0)
 
 pub overflow_sub-change-else-is_codeword : goal.overflow_sub-change-else-is_codeword
-overflow_sub-change-else-is_codeword c = omega (arith, (mends c.before.before.before _ c.mended.ensures).0)
+overflow_sub-change-else-is_codeword c = omega (arith, (mends (goal.at.overflow_sub-change-else-is_codeword c).After-put_told-told _ c.mended.ensures).0)
 
 pub overflow_add-v-else-is_codeword : goal.overflow_add-v-else-is_codeword
 overflow_add-v-else-is_codeword c =
-    let read = word (last c.before.before.before) in
-    omega (arith, below read, (plan-fits (plan_in (begin read)) (accepted (begin read)) (begin read).args.side).n-high)
+    omega (arith, below (goal.at.overflow_add-v-else-is_codeword c).After-read_word-word, (plan-fits (plan_in (goal.at.overflow_add-v-else-is_codeword c).Start) (accepted (goal.at.overflow_add-v-else-is_codeword c).Start) c.args.side).n-high)
 
 pub loop-v-smaller : goal.loop-v-smaller
-loop-v-smaller c = omega (arith, more (word (last c.before.before.before)))
+loop-v-smaller c = omega (arith, more (goal.at.loop-v-smaller c).After-read_word-word)
 
 pub loop-v-preserved : goal.loop-v-preserved
 loop-v-preserved c =
-    let put = c.before.before.before in
-    (omega (arith, more (word (last put))), (mends put _ c.mended.ensures).1, (found (last put)).finds)
+    (omega (arith, more (goal.at.loop-v-preserved c).After-read_word-word), (mends (goal.at.loop-v-preserved c).After-put_told-told _ c.mended.ensures).1, (found (goal.at.loop-v-preserved c).After-nearest_on-step).finds)
 
 pub shape_of-finder : goal.shape_of-finder
-shape_of-finder c = c.loop-v.invariant.2.sized ∙ sym (start c.before.before).requires.right_code_value.sized
+shape_of-finder c = c.loop-v.invariant.2.sized ∙ sym c.requires.right_code_value.sized
 
 pub shape_of-block : goal.shape_of-block
 shape_of-block c =
-    let first = start c.before.before in
-    visited-length (plan_in first) (accepted first) first.args.side c.loop-v.invariant.1
+    visited-length (plan_in (goal.at.shape_of-block c).Start) (accepted (goal.at.shape_of-block c).Start) c.args.side c.loop-v.invariant.1
 
 pub returns : goal.returns
 returns c =
-    let named = c.before.before in
-    let first = start named in
-    visited-all (plan_in first) (accepted first) first.args.side c.loop-v.invariant.1
-    (omega (arith, c.loop-v.invariant.0, ap (λ (x : SideCode). x.n) (held named)))
+    visited-all (plan_in (goal.at.returns c).Start) (accepted (goal.at.returns c).Start) c.args.side c.loop-v.invariant.1
+    (omega (arith, c.loop-v.invariant.0, ap (λ (x : SideCode). x.n) (held (goal.at.returns c).After-code_of-code)))

@@ -7,15 +7,15 @@ use Rattle.single_sweep.specs.Telling.{across_from}
 use Rattle.single_sweep.proofs.telling.place_across.Goals as goal
 
 pub bounds-places-i : goal.bounds-places-i
-bounds-places-i c = c.requires.i_in_bounds c.enum_told-1.given.1
+bounds-places-i c = c.requires.i_in_bounds c.in-Left.is
 
 pub overflow_cast-result : goal.overflow_cast-result
 overflow_cast-result c = omega (arith, c.type_inv.places c.args.i)
 
 pub returns-in-Left : goal.returns-in-Left
 unfolding across_from at
-returns-in-Left c = rw c.enum_told-1.given.1
+returns-in-Left c = rw c.in-Left.is
 
 pub returns-in-Right : goal.returns-in-Right
 unfolding across_from edge_of
-returns-in-Right c = rw c.enum_told-in-Right-1.given.1 c.pair.ensures
+returns-in-Right c = rw c.in-Right.is c.pair.ensures

@@ -21,7 +21,7 @@ use Rattle.single_sweep.specs.Telling.{across_from}
 use Rattle.single_sweep.proofs.TurnedBits.{code-named, across-meets}
 use Rattle.single_sweep.proofs.Visits.{side-few}
 use Rattle.single_sweep.proofs.telling.put_told.Goals as goal
-use Rattle.single_sweep.proofs.telling.put_told.Goals.{After-code_of-here, After-highest-high, After-place_across-place, After-turn_told-one, At-loop-rest, Start}
+use Rattle.single_sweep.proofs.telling.put_told.Goals.{After-code_of-here, After-highest-high, After-place_across-place, After-turn_told-one, Start}
 
 abbrev plan_in : Start → Plan
 plan_in c = plan_of c.args.left.now c.args.right.now c.args.nl c.args.nr c.args.wiring.now
@@ -29,14 +29,10 @@ plan_in c = plan_of c.args.left.now c.args.right.now c.args.nl c.args.nr c.args.
 accepted : (c : Start) → plan_check (plan_in c) ≡ done []
 accepted c = c.requires.wiring_value
 
-abbrev start : After-code_of-here → Start
-start c = c.before.before.before.before.before.before
-
 -- the degree of the side, as its check has told it
-degree-is : (c : After-code_of-here) → c.code_of_lem.result.d ≡ degree (sheet_of (plan_in (start c)) (start c).args.side)
+degree-is : (c : After-code_of-here) → c.code_of_lem.result.d ≡ degree (sheet_of (plan_in c.before.before.before.before.before.before.before) c.args.side)
 degree-is c =
-    let first = start c in
-    ap (λ (x : SideCode). x.d) (c.code_of_lem.ensures ∙ code-named (plan_in first) first.requires.plan_value first.requires.left_code_value first.args.side)
+    ap (λ (x : SideCode). x.d) (c.code_of_lem.ensures ∙ code-named (plan_in c.before.before.before.before.before.before.before) c.requires.plan_value c.requires.left_code_value c.args.side)
 
 -- an entry of vertex v
 entry_lt : (c : Start) (j : ℕ) → j < degree (sheet_of (plan_in c) c.args.side)
@@ -45,138 +41,116 @@ entry_lt c j l = rw (plan-whole (plan_in c) (accepted c) c.args.side).entries at
 
 pub overflow_mul-base : goal.overflow_mul-base
 overflow_mul-base c =
-    let first = start c in
-    let fits = plan-fits (plan_in first) (accepted first) first.args.side in
-    rw (degree-is c) (omega (arith, entry_lt first 0 (omega (arith, fits.d-low)), plan-few (plan_in first) (accepted first)))
+    let fits = plan-fits (plan_in (goal.at.overflow_mul-base c).Start) (accepted (goal.at.overflow_mul-base c).Start) c.args.side in
+    rw (degree-is c) (omega (arith, entry_lt (goal.at.overflow_mul-base c).Start 0 (omega (arith, fits.d-low)), plan-few (plan_in (goal.at.overflow_mul-base c).Start) (accepted (goal.at.overflow_mul-base c).Start)))
 
 pub loop-rest-init : goal.loop-rest-init
-loop-rest-init c = (record { low = (start c).requires.v_bound; putting = refl }, refl)
-
-abbrev named : After-highest-high → After-code_of-here
-named c = c.before.before.before
-
-abbrev begin : After-highest-high → Start
-begin c = start (named c)
-
-abbrev head : After-highest-high → At-loop-rest
-head c = c.before.before
+loop-rest-init c = (record { low = c.requires.v_bound; putting = refl }, refl)
 
 abbrev degree_in : After-highest-high → ℕ
-degree_in c = degree (sheet_of (plan_in (begin c)) (begin c).args.side)
+degree_in c = degree (sheet_of (plan_in c.before.before.before.before.before.before.before.before.before.before) c.args.side)
 
 -- the highest one is within the word
 within : (c : After-highest-high) → c.highest-high.result < degree_in c
-within c = rest-high (head c).loop-rest.invariant.0 _ c.highest-high.ensures.power_low c.highest-high.ensures.power_high
+within c = rest-high c.loop-rest.invariant.0 _ c.highest-high.ensures.power_low c.highest-high.ensures.power_high
 
 abbrev entry_in : After-highest-high → ℕ
-entry_in c = (begin c).args.v * degree_in c + (degree_in c - 1 - c.highest-high.result)
+entry_in c = c.args.v * degree_in c + (degree_in c - 1 - c.highest-high.result)
 
-entry-few : (c : After-highest-high) → (entry_in c < edge_count (plan_in (begin c))) × (entry_in c < 32768)
+entry-few : (c : After-highest-high) → (entry_in c < edge_count (plan_in c.before.before.before.before.before.before.before.before.before.before)) × (entry_in c < 32768)
 entry-few c =
-    let below = entry_lt (begin c) (degree_in c - 1 - c.highest-high.result) (omega (arith, within c)) in
-    (below, omega (arith, below, plan-few (plan_in (begin c)) (accepted (begin c))))
+    let below = entry_lt c.before.before.before.before.before.before.before.before.before.before (degree_in c - 1 - c.highest-high.result) (omega (arith, within c)) in
+    (below, omega (arith, below, plan-few (plan_in c.before.before.before.before.before.before.before.before.before.before) (accepted c.before.before.before.before.before.before.before.before.before.before)))
 
 pub overflow_sub-d : goal.overflow_sub-d
-overflow_sub-d c = omega (arith, degree-is (named c), within c)
+overflow_sub-d c = omega (arith, degree-is (goal.at.overflow_sub-d c).After-code_of-here, within c)
 
 pub overflow_sub-d-in-loop-rest : goal.overflow_sub-d-in-loop-rest
-overflow_sub-d-in-loop-rest c = omega (arith, degree-is (named c), within c)
+overflow_sub-d-in-loop-rest c = omega (arith, degree-is (goal.at.overflow_sub-d-in-loop-rest c).After-code_of-here, within c)
 
 pub overflow_add-base : goal.overflow_add-base
-overflow_add-base c = rw (degree-is (named c)) (omega (arith, (entry-few c).1))
+overflow_add-base c = rw (degree-is (goal.at.overflow_add-base c).After-code_of-here) (omega (arith, (entry-few c).1))
 
 pub place_across-place-requires : goal.place_across-place-requires
 place_across-place-requires c =
-    rw (degree-is (named c))
-    ((entry-few c).1, λ is-left. omega (arith, (entry-few c).0, plan-entries (plan_in (begin c)) (accepted (begin c)), ((begin c).requires.pattern_bound.noted is-left).sized))
+    rw (degree-is (goal.at.place_across-place-requires c).After-code_of-here)
+    ((entry-few c).1, λ is-left. omega (arith, (entry-few c).0, plan-entries (plan_in (goal.at.place_across-place-requires c).Start) (accepted (goal.at.place_across-place-requires c).Start), (c.requires.pattern_bound.noted is-left).sized))
 
 -- the entry of the other side that has the bit
 placed : (c : After-place_across-place)
-    → (c.place_across-place.result < edge_count (plan_in (begin c.before)))
-    × (side_bit (other (begin c.before).args.side) (begin c.before).args.wiring.now c.place_across-place.result
-    ≡ side_bit (begin c.before).args.side (begin c.before).args.wiring.now (entry_in c.before))
+    → (c.place_across-place.result < edge_count (plan_in c.before.before.before.before.before.before.before.before.before.before.before))
+    × (side_bit (other c.args.side) c.args.wiring.now c.place_across-place.result
+    ≡ side_bit c.args.side c.args.wiring.now (entry_in (record { before = c.before.before; type_inv = record { places = c.shared_slice_known-4-1.given; wiring = c.shared_slice_known-3-1.given; right = c.shared_slice_known-2-1.given; left = c.shared_slice_known-1.given; } })))
 placed c =
-    let top = c.before in
-    let first = begin top in
-    let is : c.place_across-place.result ≡ across_from first.args.side first.args.wiring.now first.args.places.now (entry_in top) =
-    rw (degree-is (named top)) at c.place_across-place.ensures in
-    rw is (across-meets (plan_in first) (accepted first) first.args.side first.requires.pattern_bound (entry_in top) (entry-few top).0)
+    let is : c.place_across-place.result ≡ across_from c.args.side c.args.wiring.now c.args.places.now (entry_in (record { before = c.before.before; type_inv = record { places = c.shared_slice_known-4-1.given; wiring = c.shared_slice_known-3-1.given; right = c.shared_slice_known-2-1.given; left = c.shared_slice_known-1.given; } })) =
+    rw (degree-is (record { before = c.before.before.before.before.before; type_inv = record { block = c.slice_known-1.given; places = c.shared_slice_known-4-1.given; wiring = c.shared_slice_known-3-1.given; right = c.shared_slice_known-2-1.given; left = c.shared_slice_known-1.given; } })) at c.place_across-place.ensures in
+    rw is (across-meets (plan_in c.before.before.before.before.before.before.before.before.before.before.before) (accepted c.before.before.before.before.before.before.before.before.before.before.before) c.args.side c.requires.pattern_bound (entry_in (record { before = c.before.before; type_inv = record { places = c.shared_slice_known-4-1.given; wiring = c.shared_slice_known-3-1.given; right = c.shared_slice_known-2-1.given; left = c.shared_slice_known-1.given; } })) (entry-few (record { before = c.before.before; type_inv = record { places = c.shared_slice_known-4-1.given; wiring = c.shared_slice_known-3-1.given; right = c.shared_slice_known-2-1.given; left = c.shared_slice_known-1.given; } })).0)
 
 -- the block has room for all bits
-room : (c : After-highest-high) → edge_count (plan_in (begin c)) ≤ length (head c).loop-rest.block * 8
+room : (c : After-highest-high) → edge_count (plan_in c.before.before.before.before.before.before.before.before.before.before) ≤ length c.loop-rest.block * 8
 room c =
     omega (
       arith,
-      rest-sized (head c).loop-rest.invariant.0,
-      length-pattern (side_bit (begin c).args.side (begin c).args.wiring.now) (degree_in c) ((begin c).args.v * degree_in c) (begin c).args.pattern
-          (degree_in c) (begin c).args.block.now,
-      (begin c).requires.1.1.1.1.1.1,
+      rest-sized c.loop-rest.invariant.0,
+      length-pattern (side_bit c.args.side c.args.wiring.now) (degree_in c) (c.args.v * degree_in c) c.args.pattern
+          (degree_in c) c.args.block.now,
+      c.requires.1.1.1.1.1.1,
     )
 
 pub turn_told-one-requires : goal.turn_told-one-requires
 turn_told-one-requires c =
-    let top = c.before.before.before in
-    (accepted (begin top), ((begin top).requires.plan_value, ((begin top).requires.left_code_value, ((placed c.before.before).0, room top))))
+    (accepted (goal.at.turn_told-one-requires c).Start, (c.requires.plan_value, (c.requires.left_code_value, ((placed (goal.at.turn_told-one-requires c).After-place_across-place).0, room (goal.at.turn_told-one-requires c).After-highest-high))))
 
 -- how many vertices of the other side are unsatisfied
 abbrev missing : After-highest-high → List ℕ → ℕ
-missing c block = unsatisfied_at (side_of (plan_in (begin c)) (other (begin c).args.side)) block
-
--- what one turn has told: of the other side, and of the block
-abbrev top : After-turn_told-one → After-highest-high
-top c = c.before.before.before.before
+missing c block = unsatisfied_at (side_of (plan_in c.before.before.before.before.before.before.before.before.before.before) (other c.args.side)) block
 
 abbrev turned_block : After-turn_told-one → List ℕ
 turned_block c = c.turn_told-one.new.block
 
 told-one : (c : After-turn_told-one)
-    → (c.turn_told-one.result + missing (top c) (head (top c)).loop-rest.block ≡ 1 + missing (top c) (turned_block c))
+    → (c.turn_told-one.result + missing (record { before = c.before.before.before.before.before; type_inv = record { places = c.shared_slice_known-4-1.given; wiring = c.shared_slice_known-3-1.given; right = c.shared_slice_known-2-1.given; left = c.shared_slice_known-1.given; } }) c.loop-rest.block ≡ 1 + missing (record { before = c.before.before.before.before.before; type_inv = record { places = c.shared_slice_known-4-1.given; wiring = c.shared_slice_known-3-1.given; right = c.shared_slice_known-2-1.given; left = c.shared_slice_known-1.given; } }) (turned_block c))
     × (turned_block c
-    ≡ turned (head (top c)).loop-rest.block (side_bit (begin (top c)).args.side (begin (top c)).args.wiring.now (entry_in (top c))) 1)
+    ≡ turned c.loop-rest.block (side_bit c.args.side c.args.wiring.now (entry_in (record { before = c.before.before.before.before.before; type_inv = record { places = c.shared_slice_known-4-1.given; wiring = c.shared_slice_known-3-1.given; right = c.shared_slice_known-2-1.given; left = c.shared_slice_known-1.given; } }))) 1)
 told-one c =
     let told = rw c.other_side.ensures at c.turn_told-one.ensures in
-    (told.0, told.1 ∙ ap (λ (e : ℕ). turned (head (top c)).loop-rest.block e 1) (placed c.before.before.before).1)
+    (told.0, told.1 ∙ ap (λ (e : ℕ). turned c.loop-rest.block e 1) (placed (record { before = c.before.before.before.before; type_inv = record { places = c.shared_slice_known-4-1.given; wiring = c.shared_slice_known-3-1.given; right = c.shared_slice_known-2-1.given; left = c.shared_slice_known-1.given; } })).1)
 
 -- the numbers are in range
 few : (c : After-highest-high) (block : List ℕ) → missing c block ≤ 2048
-few c block = side-few (plan_in (begin c)) (accepted (begin c)) (other (begin c).args.side) block
+few c block = side-few (plan_in c.before.before.before.before.before.before.before.before.before.before) (accepted c.before.before.before.before.before.before.before.before.before.before) (other c.args.side) block
 
 pub overflow_add-told : goal.overflow_add-told
 overflow_add-told c =
-    let one = c.before.before in
     omega (
       arith,
-      (head (top one)).loop-rest.invariant.1,
-      (told-one one).0,
-      few (top one) (head (top one)).loop-rest.block,
-      few (top one) (turned_block one),
+      c.loop-rest.invariant.1,
+      (told-one (goal.at.overflow_add-told c).After-turn_told-one).0,
+      few (goal.at.overflow_add-told c).After-highest-high c.loop-rest.block,
+      few (goal.at.overflow_add-told c).After-highest-high (turned_block (goal.at.overflow_add-told c).After-turn_told-one),
     )
 
 pub overflow_sub-told : goal.overflow_sub-told
 overflow_sub-told c =
-    let one = c.before.before in
-    omega (arith, (head (top one)).loop-rest.invariant.1, few (top one) (begin (top one)).args.block.now)
+    omega (arith, c.loop-rest.invariant.1, few (goal.at.overflow_sub-told c).After-highest-high c.args.block.now)
 
 pub power-rest-requires : goal.power-rest-requires
 power-rest-requires c =
-    let high = c.before.before.before.before.before.before in
-    omega (arith, within high, (plan-fits (plan_in (begin high)) (accepted (begin high)) (begin high).args.side).d-high)
+    omega (arith, within (goal.at.power-rest-requires c).After-highest-high, (plan-fits (plan_in (goal.at.power-rest-requires c).Start) (accepted (goal.at.power-rest-requires c).Start) c.args.side).d-high)
 
 pub overflow_sub-rest : goal.overflow_sub-rest
-overflow_sub-rest c = omega (arith, c.power-rest.ensures, (top c.before.before.before).highest-high.ensures.power_low)
+overflow_sub-rest c = omega (arith, c.power-rest.ensures, c.highest-high.ensures.power_low)
 
 pub loop-rest-smaller : goal.loop-rest-smaller
 loop-rest-smaller c =
-    let high = top c.before.before.before in
-    let some = pow_pos high.highest-high.result in
-    omega (arith, c.power-rest.ensures, high.highest-high.ensures.power_low)
+    let some = pow_pos c.highest-high.result in
+    omega (arith, c.power-rest.ensures, c.highest-high.ensures.power_low)
 
 pub loop-rest-preserved : goal.loop-rest-preserved
 loop-rest-preserved c =
-    let one = c.before.before.before in
-    let high = top one in (
-      rest_more (head high).loop-rest.invariant.0 _ high.highest-high.ensures.power_low high.highest-high.ensures.power_high refl c.power-rest.ensures (told-one one).1,
-      omega (arith, (head high).loop-rest.invariant.1, (told-one one).0, few high (begin high).args.block.now),
+    (
+      rest_more c.loop-rest.invariant.0 _ c.highest-high.ensures.power_low c.highest-high.ensures.power_high refl c.power-rest.ensures (told-one (goal.at.loop-rest-preserved c).After-turn_told-one).1,
+      omega (arith, c.loop-rest.invariant.1, (told-one (goal.at.loop-rest-preserved c).After-turn_told-one).0, few (goal.at.loop-rest-preserved c).After-highest-high c.args.block.now),
     )
 
 pub shape_of-block : goal.shape_of-block

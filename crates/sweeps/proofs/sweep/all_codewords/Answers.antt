@@ -16,13 +16,10 @@ use Rattle.wiring.specs.Plan.{side_by, left}
 use Rattle.wiring.specs.declared.side.SideName.{SideName}
 use Rattle.sweeps.proofs.Visiting.{left-tells}
 use Rattle.sweeps.proofs.sweep.all_codewords.Goals as goal
-use Rattle.sweeps.proofs.sweep.all_codewords.Goals.{After-is_codeword, After-shared_slice_known-4-1, Start}
-
-abbrev start : After-shared_slice_known-4-1 → Start
-start c = c.before.before.before.before
+use Rattle.sweeps.proofs.sweep.all_codewords.Goals.{After-is_codeword}
 
 pub bounds-sheet-0 : goal.bounds-sheet-0
-bounds-sheet-0 c = let s = sound _ [] (start c).requires.finds.accepted in sheet-some (start c).args.sheet.now (omega (arith, s.degree-low))
+bounds-sheet-0 c = let s = sound _ [] c.requires.finds.accepted in sheet-some c.args.sheet.now (omega (arith, s.degree-low))
 
 pub overflow_cast-d : goal.overflow_cast-d
 overflow_cast-d c = omega (arith, c.type_inv.sheet 0)
@@ -33,35 +30,31 @@ loop-v-init c = (search rules, λ _ u l. absurd (omega arith))
 pub left_word-word-requires : goal.left_word-word-requires
 unfolding degree
 left_word-word-requires c =
-    let first = start c.before.before in
     record {
-      v_bound = omega (arith, first.requires.n_bound);
-      d_bound = (sound _ [] first.requires.finds.accepted).degree-high;
+      v_bound = omega (arith, c.requires.n_bound);
+      d_bound = (sound _ [] c.requires.finds.accepted).degree-high;
     }
 
 pub is_codeword-requires : goal.is_codeword-requires
-is_codeword-requires c = (start c.before.before.before).requires.finds.sized
+is_codeword-requires c = c.requires.finds.sized
 
 -- the word of a vertex is tested by the side's inner code
 tells : (c : After-is_codeword) (wiring : List ℕ)
-    → let head = c.before.before.before in
-    let first = start head.before in
-    c.is_codeword.result ≡ satisfied (side_by first.args.sheet.now first.args.n wiring left) first.args.block.now head.loop-v.v
+    → c.is_codeword.result ≡ satisfied (side_by c.args.sheet.now c.args.n wiring left) c.args.block.now c.loop-v.v
 unfolding degree
 tells c wiring =
-    let head = c.before.before.before in
-    left-tells (start head.before).requires.finds _ wiring _ head.loop-v.v refl c.left_word-word.ensures (member-means _ _ c.is_codeword.ensures)
+    left-tells c.requires.finds _ wiring _ c.loop-v.v refl c.left_word-word.ensures (member-means _ _ c.is_codeword.ensures)
 
 pub returns-then-not-is_codeword : goal.returns-then-not-is_codeword
 returns-then-not-is_codeword c = record {
       when_true = λ e. absurd (true≢false (sym e));
-      when_false = λ _ wiring. (c.loop-v.v, omega arith, sym (tells c.before wiring) ∙ not-true _ c.if-not-is_codeword.true);
+      when_false = λ _ wiring. (c.loop-v.v, omega arith, sym (tells (goal.at.returns-then-not-is_codeword c).After-is_codeword wiring) ∙ not-true _ c.if-not-is_codeword.true);
     }
 
 pub loop-v-preserved : goal.loop-v-preserved
 loop-v-preserved c =
     let turn = c.loop-v in
-    (omega arith, λ wiring. below_more _ turn.v (turn.invariant.1 wiring) (sym (tells c.before wiring) ∙ not-false _ c.if-not-is_codeword.false))
+    (omega arith, λ wiring. below_more _ turn.v (turn.invariant.1 wiring) (sym (tells (goal.at.loop-v-preserved c).After-is_codeword wiring) ∙ not-false _ c.if-not-is_codeword.false))
 
 pub returns : goal.returns
 returns c = record {

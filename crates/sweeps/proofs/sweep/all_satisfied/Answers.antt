@@ -16,51 +16,45 @@ plan_in c = plan_of c.args.left.now c.args.right.now c.args.nl c.args.nr c.args.
 
 -- the left side is satisfied
 lefts : (c : Else-not-all_codewords)
-    → let s = c.before.before.before.before.before.before.before.before in (v : ℕ) → v < s.args.nl → satisfied (side_of (plan_in s) left) s.args.block.now v ≡ true
+    → (v : ℕ) → v < c.args.nl → satisfied (side_of (plan_in c.before.before.before.before.before.before.before.before.before) left) c.args.block.now v ≡ true
 lefts c = c.all_codewords.ensures.when_true (not-false _ c.if-not-all_codewords.false) _
 
 pub all_codewords-requires : goal.all_codewords-requires
 all_codewords-requires c =
-    let s = c.before.before.before.before.before.before in
     record {
-      n_bound = (plan-fits (plan_in s) s.requires.wiring_value.plan-done left).n-high;
-      finds = s.requires.wiring_value.left-finds;
+      n_bound = (plan-fits (plan_in (goal.at.all_codewords-requires c).Start) c.requires.wiring_value.plan-done left).n-high;
+      finds = c.requires.wiring_value.left-finds;
     }
 
 pub returns-then-not-all_codewords : goal.returns-then-not-all_codewords
 returns-then-not-all_codewords c =
-    let s = c.before.before.before.before.before.before.before.before in
-    let (v, l, missed) = c.all_codewords.ensures.when_false (not-true _ c.if-not-all_codewords.true) s.args.wiring.now in
-    sym (satisfied-not (side_of (plan_in s)) _ left v l missed)
+    let (v, l, missed) = c.all_codewords.ensures.when_false (not-true _ c.if-not-all_codewords.true) c.args.wiring.now in
+    sym (satisfied-not (side_of (plan_in (goal.at.returns-then-not-all_codewords c).Start)) _ left v l missed)
 
 pub kept_codewords-requires : goal.kept_codewords-requires
 kept_codewords-requires c =
-    let s = c.before.before.before.before.before.before.before.before.before in
     record {
-      n_bound = (plan-fits (plan_in s) s.requires.wiring_value.plan-done right).n-high;
-      kept_len = s.requires.1.sized;
-      finder_len = (ready-shared s.requires.wiring_value c.if-right_finder-eq0.true).sized;
+      n_bound = (plan-fits (plan_in (goal.at.kept_codewords-requires c).Start) c.requires.wiring_value.plan-done right).n-high;
+      kept_len = c.requires.1.sized;
+      finder_len = (ready-shared c.requires.wiring_value c.if-right_finder-eq0.true).sized;
     }
 
 pub returns-then-right_finder-eq0 : goal.returns-then-right_finder-eq0
 returns-then-right_finder-eq0 c =
-    let s = c.before.before.before.before.before.before.before.before.before.before in
     let none = c.if-right_finder-eq0.true in
-    satisfied-both (plan_in s) s.requires.wiring_value.plan-done s.args.block.now (lefts c.before.before)
-    s.requires.1 (ready-shared s.requires.wiring_value none) _ c.kept_codewords.ensures.when_true c.kept_codewords.ensures.when_false
+    satisfied-both (plan_in (goal.at.returns-then-right_finder-eq0 c).Start) c.requires.wiring_value.plan-done c.args.block.now (lefts (goal.at.returns-then-right_finder-eq0 c).Else-not-all_codewords)
+    c.requires.1 (ready-shared c.requires.wiring_value none) _ c.kept_codewords.ensures.when_true c.kept_codewords.ensures.when_false
 
 pub kept_codewords-requires-2 : goal.kept_codewords-requires-2
 kept_codewords-requires-2 c =
-    let s = c.before.before.before.before.before.before.before.before.before in
     record {
-      n_bound = (plan-fits (plan_in s) s.requires.wiring_value.plan-done right).n-high;
-      kept_len = s.requires.1.sized;
-      finder_len = (s.requires.wiring_value.right-finds c.if-right_finder-eq0.false).sized;
+      n_bound = (plan-fits (plan_in (goal.at.kept_codewords-requires-2 c).Start) c.requires.wiring_value.plan-done right).n-high;
+      kept_len = c.requires.1.sized;
+      finder_len = (c.requires.wiring_value.right-finds c.if-right_finder-eq0.false).sized;
     }
 
 pub returns : goal.returns
 returns c =
-    let s = c.before.before.before.before.before.before.before.before.before.before in
     let some = c.if-right_finder-eq0.false in
-    satisfied-both (plan_in s) s.requires.wiring_value.plan-done s.args.block.now (lefts c.before.before)
-    s.requires.1 (s.requires.wiring_value.right-finds some) _ c.kept_codewords-2.ensures.when_true c.kept_codewords-2.ensures.when_false
+    satisfied-both (plan_in (goal.at.returns c).Start) c.requires.wiring_value.plan-done c.args.block.now (lefts (goal.at.returns c).Else-not-all_codewords)
+    c.requires.1 (c.requires.wiring_value.right-finds some) _ c.kept_codewords-2.ensures.when_true c.kept_codewords-2.ensures.when_false

@@ -5,16 +5,16 @@ use Rattle.sweeps.proofs.sweep.nearest_on.Goals as goal
 
 pub find_nearest-requires : goal.find_nearest-requires
 unfolding sheet_for
-find_nearest-requires c = rw c.enum_told-1.given.1 at c.requires
+find_nearest-requires c = rw c.in-Left.is at c.requires
 
 pub find_nearest-requires-in-Right : goal.find_nearest-requires-in-Right
 unfolding sheet_for
-find_nearest-requires-in-Right c = rw c.enum_told-in-Right-1.given.1 at c.requires
+find_nearest-requires-in-Right c = rw c.in-Right.is at c.requires
 
 pub returns-in-Left : goal.returns-in-Left
 unfolding sheet_for
-returns-in-Left c = rw c.enum_told-1.given.1 c.find_nearest.ensures
+returns-in-Left c = rw c.in-Left.is c.find_nearest.ensures
 
 pub returns-in-Right : goal.returns-in-Right
 unfolding sheet_for
-returns-in-Right c = rw c.enum_told-in-Right-1.given.1 c.find_nearest-in-Right.ensures
+returns-in-Right c = rw c.in-Right.is c.find_nearest-in-Right.ensures

@@ -5,47 +5,41 @@ use Rattle.sweeps.proofs.sweep.sweep_turn.Goals as goal
 
 pub sweep_news-requires : goal.sweep_news-requires
 sweep_news-requires c =
-    let s = c.before.before.before.before.before.before.before.before.before.before.before.before in
-    let is = c.enum_told-1.given.1 in
-    (s.requires.wiring_value.plan-done, (rw is s.requires.wiring_value.left-finds, (s.requires.ready, s.requires.1.1)))
+    let is = c.in-Left.is in
+    (c.requires.wiring_value.plan-done, (rw is c.requires.wiring_value.left-finds, (c.requires.ready, c.requires.1.1)))
 
 pub sweep_news-requires-then-right_finder-eq0 : goal.sweep_news-requires-then-right_finder-eq0
 sweep_news-requires-then-right_finder-eq0 c =
-    let s = c.before.before.before.before.before.before.before.before.before.before.before.before.before in
-    let is = c.enum_told-in-Right-1.given.1 in
-    (s.requires.wiring_value.plan-done, (rw is (ready-shared s.requires.wiring_value c.if-right_finder-eq0.true), (s.requires.ready, s.requires.1.1)))
+    let is = c.in-Right.is in
+    (c.requires.wiring_value.plan-done, (rw is (ready-shared c.requires.wiring_value c.if-right_finder-eq0.true), (c.requires.ready, c.requires.1.1)))
 
 pub returns-then-right_finder-eq0 : goal.returns-then-right_finder-eq0
 returns-then-right_finder-eq0 c =
-    let s = c.before.before.before.before.before.before.before.before.before.before.before.before.before.before.before.before.before.before in
-    let is = c.enum_told-in-Right-1.given.1 in
+    let is = c.in-Right.is in
     let swept = c.sweep_news-then-right_finder-eq0.ensures in
     record {
       news_swept = swept.0;
-      still_ready = ready-shared-swept s.requires.wiring_value c.if-right_finder-eq0.true (rw is at swept.1);
+      still_ready = ready-shared-swept c.requires.wiring_value c.if-right_finder-eq0.true (rw is at swept.1);
     }
 
 pub sweep_news-requires-in-Right : goal.sweep_news-requires-in-Right
 sweep_news-requires-in-Right c =
-    let s = c.before.before.before.before.before.before.before.before.before.before.before.before.before in
-    let is = c.enum_told-in-Right-1.given.1 in
-    (s.requires.wiring_value.plan-done, (rw is (s.requires.wiring_value.right-finds c.if-right_finder-eq0.false), (s.requires.ready, s.requires.1.1)))
+    let is = c.in-Right.is in
+    (c.requires.wiring_value.plan-done, (rw is (c.requires.wiring_value.right-finds c.if-right_finder-eq0.false), (c.requires.ready, c.requires.1.1)))
 
 pub returns-in-Left : goal.returns-in-Left
 returns-in-Left c =
-    let s = c.before.before.before.before.before.before.before.before.before.before.before.before.before.before.before.before.before in
-    let is = c.enum_told-1.given.1 in
+    let is = c.in-Left.is in
     let swept = c.sweep_news.ensures in
     record {
       news_swept = swept.0;
-      still_ready = ready-left-swept s.requires.wiring_value (rw is at swept.1);
+      still_ready = ready-left-swept c.requires.wiring_value (rw is at swept.1);
     }
 
 pub returns-else-right_finder-eq0 : goal.returns-else-right_finder-eq0
 returns-else-right_finder-eq0 c =
-    let s = c.before.before.before.before.before.before.before.before.before.before.before.before.before.before.before.before.before.before in
-    let is = c.enum_told-in-Right-1.given.1 in
+    let is = c.in-Right.is in
     let swept = c.sweep_news-in-Right in record {
       news_swept = swept.ensures.0;
-      still_ready = ready-right-swept s.requires.wiring_value swept.auto.1.1.1.1.1.1.0 c.if-right_finder-eq0.false (rw is at swept.ensures.1);
+      still_ready = ready-right-swept c.requires.wiring_value swept.auto.1.1.1.1.1.1.0 c.if-right_finder-eq0.false (rw is at swept.ensures.1);
     }

@@ -19,8 +19,7 @@ vertex-few c = omega (arith, c.requires.plan_value, (plan-fits (plan_in c) c.req
 
 pub bounds-left-0 : goal.bounds-left-0
 bounds-left-0 c =
-    let s = c.before.before.before.before.before.before.before in
-    fitted-sheet _ (plan-fits (plan_in s) s.requires.wiring_value left)
+    fitted-sheet _ (plan-fits (plan_in (goal.at.bounds-left-0 c).Start) c.requires.wiring_value left)
 
 pub overflow_cast-left : goal.overflow_cast-left
 overflow_cast-left c = omega (arith, c.type_inv.left 0)
@@ -28,30 +27,27 @@ overflow_cast-left c = omega (arith, c.type_inv.left 0)
 pub left_word-requires : goal.left_word-requires
 unfolding degree
 left_word-requires c =
-    let s = c.before.before.before.before.before.before.before in
-    let fits = plan-fits (plan_in s) s.requires.wiring_value left in
-    let below : s.args.vertex.v < s.args.nl = rw c.enum_told-1.given.1 at s.requires.plan_value in
+    let fits = plan-fits (plan_in (goal.at.left_word-requires c).Start) c.requires.wiring_value left in
+    let below : c.args.vertex.v < c.args.nl = rw c.in-Left.is at c.requires.plan_value in
     record {
       v_bound = omega (arith, below, fits.n-high);
       d_bound = fits.d-high;
     }
 
 pub offset_bounds-kept-v : goal.offset_bounds-kept-v
-offset_bounds-kept-v c = let s = c.before.before.before.before.before.before in omega (arith, vertex-few s)
+offset_bounds-kept-v c = omega (arith, vertex-few (goal.at.offset_bounds-kept-v c).Start)
 
 pub bounds-kept-v : goal.bounds-kept-v
-bounds-kept-v c = let s = c.before.before.before.before.before.before in omega (arith, vertex-few s)
+bounds-kept-v c = omega (arith, vertex-few (goal.at.bounds-kept-v c).Start)
 
 pub returns-in-Left : goal.returns-in-Left
 unfolding degree
 returns-in-Left c =
-    let s = c.before.before.before.before.before.before.before.before in
-    rw c.enum_told-1.given.1 (left-read (plan_in s) _ _ refl c.left_word.ensures)
+    rw c.in-Left.is (left-read (plan_in (goal.at.returns-in-Left c).Start) _ _ refl c.left_word.ensures)
 
 pub returns-in-Right : goal.returns-in-Right
 unfolding at
 returns-in-Right c =
-    let s = c.before.before.before.before.before.before.before in
-    let is = c.enum_told-in-Right-1.given.1 in
-    let below : s.args.vertex.v < s.args.nr = rw is at s.requires.plan_value in
-    rw is (s.requires.1.1.each _ below)
+    let is = c.in-Right.is in
+    let below : c.args.vertex.v < c.args.nr = rw is at c.requires.plan_value in
+    rw is (c.requires.1.1.each _ below)

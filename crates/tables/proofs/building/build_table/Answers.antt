@@ -11,36 +11,26 @@ use Rattle.tables.specs.Answer.{table_bytes}
 use Rattle.tables.proofs.Tables.{size_is, table-length}
 use Rattle.tables.proofs.LookUps.{build-refused, build-short, build-done, build-left, build-written}
 use borrow.Author.Rules.{rules}
-use Rattle.tables.proofs.building.build_table.Reads as reads
-use Rattle.tables.proofs.building.build_table.Lts as lts
-use Rattle.inner_code.proofs.check_into.Reads as check-into-reads
-use Rattle.tables.proofs.building.fill_table.Reads as fill-table-reads
 use Rattle.tables.proofs.building.build_table.Goals as goal
-use Rattle.tables.proofs.building.build_table.Goals.{After-check_into, In-Accepted, Start}
+use Rattle.tables.proofs.building.build_table.Goals.{In-Accepted}
 
 -- ---- the sheet's check, the call, and what an accepted sheet gives
 
-abbrev checked : In-Accepted → After-check_into
-checked c = c.before.before.before
-
-abbrev start : After-check_into → Start
-start c = c.before.before.before.before
-
 plan : (c : In-Accepted)
-    → Accepted (start (checked c)).args.sheet.now (checked c).check_into.new.basis
-    c.d.given.0.0 c.d.given.0.1.0
-plan c = accepted (checked c).check_into.ensures c.d.given.1
+    → Accepted c.args.sheet.now c.check_into.new.basis
+    c.in-Accepted.d c.in-Accepted.k
+plan c = accepted c.check_into.ensures c.in-Accepted.is
 
 -- the number of bytes that a table takes
 size : (c : In-Accepted)
-    → (2 * 2 ^ (c.d.given.0.0 - c.d.given.0.1.0)) % 18446744073709551616
-    ≡ table_bytes (start (checked c)).args.sheet.now
+    → (2 * 2 ^ (c.in-Accepted.d - c.in-Accepted.k)) % 18446744073709551616
+    ≡ table_bytes c.args.sheet.now
 size c = size_is _ (plan c).sheet-sound _ _ (plan c).d-is (plan c).k-is
 
 -- as a part from the front on
 part : (c : In-Accepted)
-    → (2 * 2 ^ (c.d.given.0.0 - c.d.given.0.1.0)) % 18446744073709551616 - 0
-    ≡ table_bytes (start (checked c)).args.sheet.now
+    → (2 * 2 ^ (c.in-Accepted.d - c.in-Accepted.k)) % 18446744073709551616 - 0
+    ≡ table_bytes c.args.sheet.now
 part c = omega (arith, size c)
 
 pub overflow_sub-size : goal.overflow_sub-size
@@ -51,8 +41,8 @@ overflow_shl-size c = omega (arith, (plan c).d-is, (plan c).sheet-sound.degree-h
 
 pub returns-then-output-size : goal.returns-then-output-size
 returns-then-output-size c =
-    let args = (start (checked c.before)).args in
-    let told = build-short args.sheet.now args.output.now (plan c.before).sheet-done (omega (arith, size c.before, c.if-output-size.true)) in
+    let args = c.args in
+    let told = build-short args.sheet.now args.output.now (plan (goal.at.returns-then-output-size c).In-Accepted).sheet-done (omega (arith, size (goal.at.returns-then-output-size c).In-Accepted, c.if-output-size.true)) in
     record {
       result_value = told;
       output_after = build-left args.sheet.now args.output.now 13 0 told;
@@ -60,20 +50,20 @@ returns-then-output-size c =
 
 pub fill_table-requires : goal.fill_table-requires
 fill_table-requires c =
-    let p = plan c.before.before.before in
+    let p = plan (goal.at.fill_table-requires c).In-Accepted in
     record {
       accepted = p.sheet-done;
       echelon = p.basis-is;
       sized =
-          length-take-le _ (start (checked c.before.before.before)).args.output.now (omega (arith, c.if-output-size.false))
-          ∙ part c.before.before.before;
+          length-take-le _ c.args.output.now (omega (arith, c.if-output-size.false))
+          ∙ part (goal.at.fill_table-requires c).In-Accepted;
     }
 
 pub returns-in-Refused : goal.returns-in-Refused
 returns-in-Refused c =
     let args = c.args in
     let told = build-refused args.sheet.now args.output.now _ _
-    (turned-back c.check_into.ensures c.r.given.1) in
+    (turned-back c.check_into.ensures c.in-Refused.is) in
     record {
       result_value = told;
       output_after = build-left args.sheet.now args.output.now _ _ told;
@@ -82,13 +72,12 @@ returns-in-Refused c =
 pub returns-else-output-size : goal.returns-else-output-size
 unfolding written
 returns-else-output-size c =
-    let known = c.before.before.before.before.before.before in
-    let args = (start (checked known)).args in
+    let args = c.args in
     let sheet = args.sheet.now in
     let output = args.output.now in
-    let told = build-done sheet output (plan known).sheet-done (omega (arith, size known, c.if-output-size.false)) in record {
+    let told = build-done sheet output (plan (goal.at.returns-else-output-size c).In-Accepted).sheet-done (omega (arith, size (goal.at.returns-else-output-size c).In-Accepted, c.if-output-size.false)) in record {
       result_value = told;
       output_after = ap₂ (λ (front : List ℕ) (n : ℕ). front ++ drop n output) c.fill_table.ensures
-          (part known ∙ sym (table-length sheet (plan known).sheet-sound))
+          (part (goal.at.returns-else-output-size c).In-Accepted ∙ sym (table-length sheet (plan (goal.at.returns-else-output-size c).In-Accepted).sheet-sound))
           ∙ build-written sheet output told;
     }

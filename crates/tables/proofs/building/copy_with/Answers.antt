@@ -9,8 +9,6 @@ use lib.Seq.{get_or-set_other}
 use Rattle.bits.specs.Window.{at}
 use Rattle.tables.specs.Folding.{Copied}
 use Rattle.tables.proofs.Keys.{copied-start, copied_more}
-use Rattle.tables.proofs.building.copy_with.Reads as reads
-use Rattle.tables.proofs.building.copy_with.Lts as lts
 use Rattle.tables.proofs.building.copy_with.Goals as goal
 
 pub loop-c-init : goal.loop-c-init
@@ -19,8 +17,7 @@ loop-c-init c = (search rules, copied-start c.args.count c.args.digit c.args.tab
 pub overflow_add-costs : goal.overflow_add-costs
 unfolding at
 overflow_add-costs c =
-    let turn = c.before.before in
-    omega (arith, turn.loop-c.invariant.1.kept-cost turn.loop-c.c (omega arith), turn.requires.costs_low turn.loop-c.c (omega arith))
+    omega (arith, c.loop-c.invariant.1.kept-cost c.loop-c.c (omega arith), c.requires.costs_low c.loop-c.c (omega arith))
 
 pub bounds-table-c-in-loop-c : goal.bounds-table-c-in-loop-c
 bounds-table-c-in-loop-c c = simp length-set (omega (arith, c.loop-c.invariant.1.sized, c.requires.room.entries))
@@ -30,15 +27,14 @@ bounds-table-count-in-loop-c c = simp length-set (omega (arith, c.loop-c.invaria
 
 pub loop-c-preserved : goal.loop-c-preserved
 loop-c-preserved c =
-    let turn = c.before.before.before.before in
-    let args = turn.args in
-    let m = turn.loop-c.c in (
+    let args = c.args in
+    let m = c.loop-c.c in (
       search rules,
-      copied_more args.count args.digit m args.table.now args.costs.now turn.loop-c.table turn.loop-c.costs (omega arith)
-          (omega (arith, turn.requires.room.entries)) (omega (arith, turn.requires.room.weights)) turn.loop-c.invariant.1 _ _ _
+      copied_more args.count args.digit m args.table.now args.costs.now c.loop-c.table c.loop-c.costs (omega arith)
+          (omega (arith, c.requires.room.entries)) (omega (arith, c.requires.room.weights)) c.loop-c.invariant.1 _ _ _
           (λ i. (c.type_inv.table i).fits) refl
           (ap (λ (x : ℕ). bit_xor x (args.digit % 256))
-          (get_or-set_other turn.loop-c.table (2 * (args.count + m)) (2 * m + 1) _ 0 (λ e. omega (arith, e))))
+          (get_or-set_other c.loop-c.table (2 * (args.count + m)) (2 * m + 1) _ 0 (λ e. omega (arith, e))))
           refl,
     )
 

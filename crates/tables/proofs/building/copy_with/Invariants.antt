@@ -8,8 +8,6 @@ use lib.Seq.{get_or-set_other}
 use Rattle.bits.specs.Window.{at}
 use Rattle.tables.specs.Folding.{Copied}
 use Rattle.tables.proofs.Keys.{copied-start, copied_more}
-use Rattle.tables.proofs.building.copy_with.Reads as reads
-use Rattle.tables.proofs.building.copy_with.Lts as lts
 use Rattle.tables.proofs.building.copy_with.Given as goal
 
 abbrev pub invariant-loop-c : goal.invariant-loop-c

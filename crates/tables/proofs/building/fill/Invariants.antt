@@ -16,15 +16,6 @@ use Rattle.tables.specs.Numbering.{free_mask, squeezed_by, number_of}
 use Rattle.tables.specs.Folding.{Filled}
 use Rattle.tables.proofs.Tables.{classes-le, classes-few, left_is, number_is}
 use Rattle.tables.proofs.Tables.{filled-start, filled-small, doubled-room, filled-copied, folded-apart, filled-folded, filled-table, filled-same}
-use Rattle.tables.proofs.building.fill.Reads as reads
-use Rattle.tables.proofs.building.fill.Lts as lts
-use Rattle.inner_code.proofs.residue.Reads as residue-reads
-use Rattle.tables.proofs.building.copy_with.Reads as copy-with-reads
-use Rattle.tables.proofs.building.fold.Reads as fold-reads
-use Rattle.tables.proofs.building.mark_ties.Reads as mark-ties-reads
-use Rattle.tables.proofs.building.put_key.Reads as put-key-reads
-use Rattle.tables.proofs.numbering.free_digits.Reads as free-digits-reads
-use Rattle.tables.proofs.numbering.squeeze.Reads as squeeze-reads
 use Rattle.tables.proofs.building.fill.Given as goal
 
 abbrev pub invariant-loop-b : goal.invariant-loop-b

@@ -6,24 +6,17 @@ use Prim.Native.Nat.{ℕ, ◌-◌, ◌≤◌}
 use native.Mathlib.Omega.{arith}
 use Rattle.tables.specs.Folding.{Folded}
 use Rattle.tables.proofs.Keys.{folded_start, folded-passed, folded_both, folded-same}
-use Rattle.tables.proofs.building.fold.Reads as reads
-use Rattle.tables.proofs.building.fold.Lts as lts
-use Rattle.tables.proofs.building.fold_pair.Reads as fold-pair-reads
 use Rattle.tables.proofs.building.fold.Goals as goal
-use Rattle.tables.proofs.building.fold.Goals.{At-loop-c, Start, else-c-other, then-c-other}
+use Rattle.tables.proofs.building.fold.Goals.{else-c-other, then-c-other}
 
 pub loop-c-init : goal.loop-c-init
 loop-c-init c = (search rules, folded_start _ _ _ _ _)
 
-abbrev start : At-loop-c → Start
-start c = c.before.before.before
-
 pub fold_pair-requires : goal.fold_pair-requires
 fold_pair-requires c =
-    let head = c.before.before.before.before in
-    let room = (start head).requires.room in
-    let so = head.loop-c.invariant.1 in
-    let low = (start head).requires.apart_low head.loop-c.c (omega arith) in record {
+    let room = c.requires.room in
+    let so = c.loop-c.invariant.1 in
+    let low = c.requires.apart_low c.loop-c.c (omega arith) in record {
       c_lt_other = search rules;
       room = record {
         entries = omega (arith, low, so.sized, room.entries);
@@ -34,10 +27,9 @@ fold_pair-requires c =
 
 pub loop-c-preserved : goal.loop-c-preserved
 loop-c-preserved c =
-    let head = c.before.before in
-    let args = (start head).args in
-    let so = head.loop-c.invariant.1 in
-    let turn = head.loop-c.c in (
+    let args = c.args in
+    let so = c.loop-c.invariant.1 in
+    let turn = c.loop-c.c in (
       search rules,
       (elim c.if-c-other.branch [
           | then-c-other w ↦ folded-same _ _ _ _ w.8 w.9
@@ -49,7 +41,7 @@ loop-c-preserved c =
 
 pub returns : goal.returns
 returns c =
-    let args = (start c.before).args in
+    let args = c.args in
     let last = c.loop-c in
     let end : last.c ≡ args.count = omega arith in
     subst

@@ -5,9 +5,6 @@ use Prim.Native.Nat.{ℕ, ◌-◌, ◌≤◌}
 use native.Mathlib.Omega.{arith}
 use Rattle.tables.specs.Folding.{Folded}
 use Rattle.tables.proofs.Keys.{folded_start, folded-passed, folded_both, folded-same}
-use Rattle.tables.proofs.building.fold.Reads as reads
-use Rattle.tables.proofs.building.fold.Lts as lts
-use Rattle.tables.proofs.building.fold_pair.Reads as fold-pair-reads
 use Rattle.tables.proofs.building.fold.Given as goal
 
 abbrev pub invariant-loop-c : goal.invariant-loop-c

@@ -5,11 +5,6 @@ use native.Mathlib.Omega.{arith}
 use Rattle.tables.specs.Folding.{lighter}
 use Rattle.tables.proofs.Keys.{lighter-lt, paired}
 use borrow.Author.Rules.{rules}
-use Rattle.tables.proofs.building.fold_pair.Reads as reads
-use Rattle.tables.proofs.building.fold_pair.Lts as lts
-use Rattle.tables.proofs.building.key_at.Reads as key-at-reads
-use Rattle.tables.proofs.building.lighter.Reads as lighter-reads
-use Rattle.tables.proofs.building.put_key.Reads as put-key-reads
 use Rattle.tables.proofs.building.fold_pair.Goals as goal
 
 pub put_key-requires : goal.put_key-requires
@@ -31,13 +26,10 @@ put_key-requires-2 c =
 
 pub returns : goal.returns
 returns c =
-    let then = c.before.before.before.before.before in
-    let begun = then.before.before.before.before.before.before.before.before in
-    let start = begun.before.before.before.before.before.before.before.before.before.before.before in
-    let args = start.args in
-    let here = begun.key_at-here.ensures.0 in
-    let there = begun.key_at-there.ensures.0 in
-    paired args.c args.other args.digit args.table.now args.costs.now _ _ _ _ _ _ start.requires.c_lt_other
-    (begun.lighter.ensures ∙ ap₂ (λ (x y : ℕ). lighter x (y + (131072 + args.digit))) here there)
-    (then.lighter-2.ensures ∙ ap₂ (λ (x y : ℕ). lighter x (y + (131072 + args.digit))) there here)
-    then.put_key.ensures c.put_key-2.ensures
+    let args = c.args in
+    let here = c.key_at-here.ensures.0 in
+    let there = c.key_at-there.ensures.0 in
+    paired args.c args.other args.digit args.table.now args.costs.now _ _ _ _ _ _ c.requires.c_lt_other
+    (c.lighter.ensures ∙ ap₂ (λ (x y : ℕ). lighter x (y + (131072 + args.digit))) here there)
+    (c.lighter-2.ensures ∙ ap₂ (λ (x y : ℕ). lighter x (y + (131072 + args.digit))) there here)
+    c.put_key.ensures c.put_key-2.ensures

@@ -5,8 +5,6 @@ use lib.ListN.{get_or}
 use borrow.Author.Rules.{rules}
 use Rattle.bits.specs.Bit.{pair_at}
 use Rattle.tables.specs.Folding.{key_at}
-use Rattle.tables.proofs.building.key_at.Reads as reads
-use Rattle.tables.proofs.building.key_at.Lts as lts
 use Rattle.tables.proofs.building.key_at.Goals as goal
 use Rattle.tables.proofs.building.key_at.Goals.{After-shared_slice_known-3-1}
 

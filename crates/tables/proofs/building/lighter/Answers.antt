@@ -2,8 +2,6 @@
 use Prim.Native.Nat.{◌-◌}
 use borrow.Author.Rules.{rules}
 use Rattle.tables.proofs.Keys.{lighter-tie, lighter-other, lighter-here}
-use Rattle.tables.proofs.building.lighter.Reads as reads
-use Rattle.tables.proofs.building.lighter.Lts as lts
 use Rattle.tables.proofs.building.lighter.Goals as goal
 
 pub returns-then-here-other : goal.returns-then-here-other

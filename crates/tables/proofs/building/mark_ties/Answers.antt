@@ -7,9 +7,6 @@ use lib.ListN.{get_or, length-set}
 use lib.Seq.{get_or-set_other}
 use Rattle.tables.specs.Folding.{marked_byte, Marked}
 use Rattle.tables.proofs.Keys.{marked_more}
-use Rattle.tables.proofs.building.mark_ties.Reads as reads
-use Rattle.tables.proofs.building.mark_ties.Lts as lts
-use Rattle.tables.proofs.building.marked_byte.Reads as marked-byte-reads
 use Rattle.tables.proofs.building.mark_ties.Goals as goal
 
 pub bounds-table-c-in-loop-c-2 : goal.bounds-table-c-in-loop-c-2
@@ -20,15 +17,14 @@ bounds-table-c-in-loop-c-3 c = simp length-set (omega (arith, c.loop-c.invariant
 
 pub loop-c-preserved : goal.loop-c-preserved
 loop-c-preserved c =
-    let turn = c.before.before.before.before.before.before.before in
     let args = c.args in
-    let m = turn.loop-c.c in (
+    let m = c.loop-c.c in (
       search rules,
-      marked_more m args.table.now args.costs.now turn.loop-c.table _ _ turn.loop-c.invariant.1 (omega arith)
+      marked_more m args.table.now args.costs.now c.loop-c.table _ _ c.loop-c.invariant.1 (omega arith)
           c.marked_byte.ensures
           (c.marked_byte-in-loop-c.ensures
           ∙ ap (marked_byte (get_or args.costs.now m 0))
-          (get_or-set_other turn.loop-c.table (2 * m) (2 * m + 1) _ 0 (λ e. omega (arith, e)))),
+          (get_or-set_other c.loop-c.table (2 * m) (2 * m + 1) _ 0 (λ e. omega (arith, e)))),
     )
 
 pub returns : goal.returns

@@ -6,9 +6,6 @@ use lib.ListN.{get_or, length-set}
 use lib.Seq.{get_or-set_other}
 use Rattle.tables.specs.Folding.{marked_byte, Marked}
 use Rattle.tables.proofs.Keys.{marked_more}
-use Rattle.tables.proofs.building.mark_ties.Reads as reads
-use Rattle.tables.proofs.building.mark_ties.Lts as lts
-use Rattle.tables.proofs.building.marked_byte.Reads as marked-byte-reads
 use Rattle.tables.proofs.building.mark_ties.Given as goal
 
 abbrev pub invariant-loop-c : goal.invariant-loop-c

@@ -2,8 +2,6 @@
 use mathlib.Core.Path.{sym}
 use Prim.Native.Nat.{◌-◌}
 use Rattle.tables.proofs.Keys.{byte-marked, byte-kept}
-use Rattle.tables.proofs.building.marked_byte.Reads as reads
-use Rattle.tables.proofs.building.marked_byte.Lts as lts
 use Rattle.tables.proofs.building.marked_byte.Goals as goal
 
 pub returns-then-cost-eq1 : goal.returns-then-cost-eq1

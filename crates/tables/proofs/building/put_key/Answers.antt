@@ -4,8 +4,6 @@ use native.Mathlib.Omega.{arith}
 use borrow.Author.Rules.{rules}
 use lib.ListN.{length-set}
 use Rattle.tables.proofs.Keys.{puts-key}
-use Rattle.tables.proofs.building.put_key.Reads as reads
-use Rattle.tables.proofs.building.put_key.Lts as lts
 use Rattle.tables.proofs.building.put_key.Goals as goal
 
 pub bounds-table-c-2 : goal.bounds-table-c-2

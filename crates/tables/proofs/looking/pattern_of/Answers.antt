@@ -9,8 +9,6 @@ use borrow.Author.Tests.{eq-eqb, ne_eqb}
 use lib.Pow.{pow_pos}
 use Rattle.bits.proofs.Windows.{shifted_one}
 use Rattle.tables.specs.Classes.{tie_mark}
-use Rattle.tables.proofs.looking.pattern_of.Reads as reads
-use Rattle.tables.proofs.looking.pattern_of.Lts as lts
 use Rattle.tables.proofs.looking.pattern_of.Goals as goal
 use Rattle.tables.proofs.looking.pattern_of.Goals.{Else-entry-eq-MARK}
 

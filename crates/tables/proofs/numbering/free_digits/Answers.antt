@@ -7,9 +7,6 @@ use Rattle.bits.specs.Window.{at}
 use Rattle.tables.specs.Numbering.{free_mask}
 use lib.Bits.{bit_xor}
 use Rattle.tables.proofs.Numbers.{mask-one-more}
-use Rattle.tables.proofs.numbering.free_digits.Reads as reads
-use Rattle.tables.proofs.numbering.free_digits.Lts as lts
-use Rattle.tables.proofs.numbering.top_digit.Reads as top-digit-reads
 use Rattle.tables.proofs.numbering.free_digits.Goals as goal
 
 pub loop-i-init : goal.loop-i-init
@@ -25,11 +22,10 @@ returns-then-i-eq11 c =
 pub loop-i-preserved : goal.loop-i-preserved
 unfolding at
 loop-i-preserved c =
-    let head = c.before.before.before.before in
-    let basis = head.args.basis.now in (
+    let basis = c.args.basis.now in (
       search rules,
       search rules,
-      ap₂ bit_xor head.loop-i.invariant.2 c.top_digit-mask.ensures ∙ sym (mask-one-more (at basis) head.loop-i.i),
+      ap₂ bit_xor c.loop-i.invariant.2 c.top_digit-mask.ensures ∙ sym (mask-one-more (at basis) c.loop-i.i),
     )
 
 pub returns : goal.returns

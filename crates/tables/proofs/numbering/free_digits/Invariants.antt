@@ -6,9 +6,6 @@ use Rattle.bits.specs.Window.{at}
 use Rattle.tables.specs.Numbering.{free_mask}
 use lib.Bits.{bit_xor}
 use Rattle.tables.proofs.Numbers.{mask-one-more}
-use Rattle.tables.proofs.numbering.free_digits.Reads as reads
-use Rattle.tables.proofs.numbering.free_digits.Lts as lts
-use Rattle.tables.proofs.numbering.top_digit.Reads as top-digit-reads
 use Rattle.tables.proofs.numbering.free_digits.Given as goal
 
 abbrev pub invariant-loop-i : goal.invariant-loop-i

@@ -13,8 +13,6 @@ use Rattle.inner_code.specs.Code.{combination}
 use Rattle.tables.specs.Numbering.{squeezed_by}
 use Rattle.tables.proofs.Numbers.{squeezed-one-more, free-few}
 use Rattle.bits.proofs.Xor.{digits_product}
-use Rattle.tables.proofs.numbering.squeeze.Reads as reads
-use Rattle.tables.proofs.numbering.squeeze.Lts as lts
 use Rattle.tables.proofs.numbering.squeeze.Goals as goal
 use Rattle.tables.proofs.numbering.squeeze.Goals.{In-loop-b}
 

@@ -12,8 +12,6 @@ use Rattle.inner_code.specs.Code.{combination}
 use Rattle.tables.specs.Numbering.{squeezed_by}
 use Rattle.tables.proofs.Numbers.{squeezed-one-more, free-few}
 use Rattle.bits.proofs.Xor.{digits_product}
-use Rattle.tables.proofs.numbering.squeeze.Reads as reads
-use Rattle.tables.proofs.numbering.squeeze.Lts as lts
 use Rattle.tables.proofs.numbering.squeeze.Given as goal
 
 abbrev pub invariant-loop-b : goal.invariant-loop-b

@@ -6,8 +6,6 @@ use borrow.Author.Rules.{rules}
 use lib.Count.{count_leading_zeros, leading_top}
 use Rattle.bits.proofs.Windows.{shifted_one}
 use Rattle.tables.proofs.Numbers.{top-none, top-some}
-use Rattle.tables.proofs.numbering.top_digit.Reads as reads
-use Rattle.tables.proofs.numbering.top_digit.Lts as lts
 use Rattle.tables.proofs.numbering.top_digit.Goals as goal
 use Rattle.tables.proofs.numbering.top_digit.Goals.{Else-word-eq0}
 

@@ -12,8 +12,7 @@ loop-v-init c = (omega arith, omega arith, up-to-none _ _ _ _)
 
 pub missed_at-count-requires : goal.missed_at-count-requires
 missed_at-count-requires c =
-    let loop = c.before.before in
-    loop.requires loop.loop-v.v (omega arith)
+    c.requires c.loop-v.v (omega arith)
 
 pub loop-v-preserved : goal.loop-v-preserved
 loop-v-preserved c =
@@ -22,6 +21,5 @@ loop-v-preserved c =
 
 pub returns : goal.returns
 returns c =
-    let end = c.before.before in
-    let all : end.loop-v.v ≡ end.args.code.n = omega arith in
-    (rw all at end.loop-v.invariant.2, omega arith)
+    let all : c.loop-v.v ≡ c.args.code.n = omega arith in
+    (rw all at c.loop-v.invariant.2, omega arith)

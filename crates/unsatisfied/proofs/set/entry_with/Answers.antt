@@ -14,13 +14,11 @@ loop-i-init c = (omega arith, λ j l. absurd (omega arith))
 
 pub returns-then-edge_at-edge : goal.returns-then-edge_at-edge
 returns-then-edge_at-edge c =
-    let read = c.before in
-    entry_found _ _ _ read.loop-i.invariant.1 (omega arith) (sym read.edge_at.ensures ∙ c.if-edge_at-edge.true)
+    entry_found _ _ _ c.loop-i.invariant.1 (omega arith) (sym c.edge_at.ensures ∙ c.if-edge_at-edge.true)
 
 pub loop-i-preserved : goal.loop-i-preserved
 loop-i-preserved c =
-    let read = c.before in
-    (search rules, below_more _ _ read.loop-i.invariant.1 (λ e. c.if-edge_at-edge.false (read.edge_at.ensures ∙ e)))
+    (search rules, below_more _ _ c.loop-i.invariant.1 (λ e. c.if-edge_at-edge.false (c.edge_at.ensures ∙ e)))
 
 pub returns : goal.returns
 returns c =

@@ -14,74 +14,52 @@ use Rattle.wiring.proofs.Permutation.{fitted-edges}
 use Rattle.wiring.proofs.Plans.{PlanAccepted, plan-accepted, plan-refused, accepted-edges}
 use Rattle.unsatisfied.proofs.Answers.{bit-plan-refused, bit-block-refused, bit_past, bit-checked, bit_kept, bit-turned}
 use Rattle.unsatisfied.proofs.set.set_bit.Goals as goal
-use Rattle.unsatisfied.proofs.set.set_bit.Goals.{After-check_plan-plan, In-Passed, In-Passed-check_block, Start}
-
-abbrev checked : In-Passed → After-check_plan-plan
-checked c = c.before.before
-
-abbrev start : In-Passed → Start
-start c = (checked c).before.before.before.before.before
+use Rattle.unsatisfied.proofs.set.set_bit.Goals.{In-Passed, In-Passed-check_block, Start}
 
 abbrev plan_in : Start → Plan
 plan_in c = plan_of c.args.left.now c.args.right.now c.args.nl c.args.nr c.args.wiring.now
 
-plan : (c : In-Passed) → PlanAccepted (plan_in (start c)) (checked c).check_plan-plan.result
-plan c = plan-accepted _ _ (checked c).check_plan-plan.ensures c.enum_told-1.given.1
+plan : (c : In-Passed) → PlanAccepted (plan_in c.before.before.before.before.before.before.before.before) c.check_plan-plan.result
+plan c = plan-accepted _ _ c.check_plan-plan.ensures c.in-Passed.is
 
 pub overflow_mul-plan : goal.overflow_mul-plan
 overflow_mul-plan c =
-    let p = plan c.before in
+    let p = plan (goal.at.overflow_mul-plan c).In-Passed in
     omega (arith, accepted-edges p, fitted-edges p.plan-wired.left-fits)
 
--- past both checks
-abbrev past-plan : In-Passed-check_block → In-Passed
-past-plan c = c.before.before.before.before.before
-
 abbrev result_in : In-Passed-check_block → CheckedPlan
-result_in c = (checked (past-plan c)).check_plan-plan.result
+result_in c = c.check_plan-plan.result
 
 block-done : (c : In-Passed-check_block)
-    → block_check ((result_in c).left.n * (result_in c).left.d) (start (past-plan c)).args.block.now ≡ done []
-block-done c = sym c.check_block.ensures ∙ ap check_reply c.enum_told-in-Passed-check_block-1.given.1
+    → block_check ((result_in c).left.n * (result_in c).left.d) c.args.block.now ≡ done []
+block-done c = sym c.check_block.ensures ∙ ap check_reply c.in-Passed-check_block.is
 
 pub overflow_mul-plan-in-Passed-check_block : goal.overflow_mul-plan-in-Passed-check_block
 overflow_mul-plan-in-Passed-check_block c =
-    let p = plan (past-plan c.before) in
+    let p = plan (goal.at.overflow_mul-plan-in-Passed-check_block c).In-Passed in
     omega (arith, accepted-edges p, fitted-edges p.plan-wired.left-fits)
 
 pub returns-then-plan-bit : goal.returns-then-plan-bit
 returns-then-plan-bit c =
-    let told = c.before.before in
-    bit_past _ _ _ _ _ (plan (past-plan told)) (block-done told) c.if-plan-bit.true
+    bit_past _ _ _ _ _ (plan (goal.at.returns-then-plan-bit c).In-Passed) (block-done (goal.at.returns-then-plan-bit c).In-Passed-check_block) c.if-plan-bit.true
 
 pub returns-then-bit-value : goal.returns-then-bit-value
 returns-then-bit-value c =
-    let read = c.before in
-    let within = read.before.before in
-    let told = within.before.before in
-    bit_kept _ _ _ _ _ (plan (past-plan told)) (block-done told) within.if-plan-bit.false (sym read.bit.ensures ∙ c.if-bit-value.true)
+    bit_kept _ _ _ _ _ (plan (goal.at.returns-then-bit-value c).In-Passed) (block-done (goal.at.returns-then-bit-value c).In-Passed-check_block) c.if-plan-bit.false (sym c.bit.ensures ∙ c.if-bit-value.true)
 
 pub turn_counted-requires : goal.turn_counted-requires
 turn_counted-requires c =
-    let within = c.before.before.before.before in
-    let told = within.before.before in
-    bit-checked _ _ _ _ (plan (past-plan told)) (block-done told) within.if-plan-bit.false
+    bit-checked _ _ _ _ (plan (goal.at.turn_counted-requires c).In-Passed) (block-done (goal.at.turn_counted-requires c).In-Passed-check_block) c.if-plan-bit.false
 
 pub returns-in-Refused : goal.returns-in-Refused
-returns-in-Refused c = bit-plan-refused _ _ _ _ _ _ (plan-refused _ _ c.check_plan-plan.ensures _ c.checked.given.1)
+returns-in-Refused c = bit-plan-refused _ _ _ _ _ _ (plan-refused _ _ c.check_plan-plan.ensures _ c.in-Refused.is)
 
 pub returns-in-Refused-check_block : goal.returns-in-Refused-check_block
 returns-in-Refused-check_block c =
-    let block = c.before.before.before in
-    bit-block-refused _ _ _ _ _ (plan block.before.before.before) _ _
-    (sym block.check_block.ensures ∙ ap check_reply c.r.given.1)
+    bit-block-refused _ _ _ _ _ (plan (goal.at.returns-in-Refused-check_block c).In-Passed) _ _
+    (sym c.check_block.ensures ∙ ap check_reply c.in-Refused-check_block.is)
 
 pub returns-else-bit-value : goal.returns-else-bit-value
 returns-else-bit-value c =
-    let turns = c.before.before in
-    let apart = turns.before.before in
-    let read = apart.before in
-    let within = read.before.before in
-    let told = within.before.before in
-    bit-turned _ _ _ _ _ (plan (past-plan told)) (block-done told) within.if-plan-bit.false (λ e. apart.if-bit-value.false (read.bit.ensures ∙ e))
-    turns.turn_counted.ensures.value turns.turn_counted.ensures.block_after
+    bit-turned _ _ _ _ _ (plan (goal.at.returns-else-bit-value c).In-Passed) (block-done (goal.at.returns-else-bit-value c).In-Passed-check_block) c.if-plan-bit.false (λ e. c.if-bit-value.false (c.bit.ensures ∙ e))
+    c.turn_counted.ensures.value c.turn_counted.ensures.block_after

@@ -5,8 +5,8 @@ use Rattle.wiring.proofs.access.bit_of.Goals as goal
 
 pub returns-in-Left : goal.returns-in-Left
 unfolding side_bit
-returns-in-Left c = rw c.enum_told-1.given.1
+returns-in-Left c = rw c.in-Left.is
 
 pub returns-in-Right : goal.returns-in-Right
 unfolding side_bit
-returns-in-Right c = rw c.enum_told-in-Right-1.given.1 c.edge_at.ensures
+returns-in-Right c = rw c.in-Right.is c.edge_at.ensures

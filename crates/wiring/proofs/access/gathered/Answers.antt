@@ -25,42 +25,38 @@ word_lt c = word-from-lt _ _ _ c.loop-j.j (word c) refl (omega arith)
 
 pub bounds-block-edge : goal.bounds-block-edge
 bounds-block-edge c =
-    let read = c.before in
-    let args = read.before.before.before.before.before in
-    omega (arith, read.edge_at-edge.ensures, args.requires.edges_in_block read.loop-j.j (omega arith))
+    omega (arith, c.edge_at-edge.ensures, c.requires.edges_in_block c.loop-j.j (omega arith))
 
 pub overflow_cast-moved : goal.overflow_cast-moved
 overflow_cast-moved c = omega (arith, c.type_inv.block (c.edge_at-edge.result / 8))
 
 pub overflow_mul-scaled : goal.overflow_mul-scaled
-overflow_mul-scaled c = let turn = c.before.before.before in omega (arith, turn.loop-j.invariant.1, word_lt turn)
+overflow_mul-scaled c = omega (arith, c.loop-j.invariant.1, word_lt (goal.at.overflow_mul-scaled c).At-loop-j)
 
 pub overflow_add-scaled : goal.overflow_add-scaled
-overflow_add-scaled c = let turn = c.before.before.before in omega (arith, turn.loop-j.invariant.1, word_lt turn)
+overflow_add-scaled c = omega (arith, c.loop-j.invariant.1, word_lt (goal.at.overflow_add-scaled c).At-loop-j)
 
 pub loop-j-preserved : goal.loop-j-preserved
 unfolding bit_at
 loop-j-preserved c =
-    let turn = c.before.before.before in
     let edge = c.edge_at-edge in
-    let args = turn.args in
+    let args = c.args in
     let block = args.block.now in
     let byte = edge.result / 8 in
     let small : get_or block byte 0 < 256 = omega (arith, c.type_inv.block byte) in (
       search rules,
       omega (
         arith,
-        turn.loop-j.invariant.1,
+        c.loop-j.invariant.1,
         digit-moved 32 (get_or block byte 0) (edge.result % 8) (omega arith) small (omega arith),
-        word-from-one-more (edge_of args.wiring.now) block args.base turn.loop-j.j (word turn) _ _ refl refl edge.ensures,
+        word-from-one-more (edge_of args.wiring.now) block args.base c.loop-j.j (word (goal.at.loop-j-preserved c).At-loop-j) _ _ refl refl edge.ensures,
       ),
     )
 
 pub overflow_cast-result : goal.overflow_cast-result
-overflow_cast-result c = omega (arith, c.loop-j.invariant.1, word_lt c.before)
+overflow_cast-result c = omega (arith, c.loop-j.invariant.1, word_lt (goal.at.overflow_cast-result c).At-loop-j)
 
 pub returns : goal.returns
 returns c =
-    let turn = c.before in
-    let all : turn.loop-j.j ≡ turn.args.d = omega arith in
-    omega (arith, turn.loop-j.invariant.1) ∙ ap (word_from _ _ _) all
+    let all : c.loop-j.j ≡ c.args.d = omega arith in
+    omega (arith, c.loop-j.invariant.1) ∙ ap (word_from _ _ _) all

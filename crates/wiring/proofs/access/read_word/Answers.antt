@@ -10,8 +10,7 @@ use Rattle.wiring.proofs.access.read_word.Goals as goal
 pub gathered-requires : goal.gathered-requires
 unfolding side_bit
 gathered-requires c =
-    let s = c.before.before.before.before in
-    let read : Readable right s.args.wiring.now s.args.d s.args.block.now s.args.v = rw c.enum_told-in-Right-1.given.1 at s.requires in
+    let read : Readable right c.args.wiring.now c.args.d c.args.block.now c.args.v = rw c.in-Right.is at c.requires in
     record {
       d_bound = read.narrow;
       d_in_bounds = read.fits;
@@ -20,12 +19,10 @@ gathered-requires c =
 
 pub returns-in-Left : goal.returns-in-Left
 returns-in-Left c =
-    let s = c.before.before.before.before.before in
-    c.word_at.ensures ∙ read_left s.args.wiring.now s.args.d s.args.block.now s.args.v
-    ∙ ap (λ (side : SideName). read_word side s.args.wiring.now s.args.d s.args.block.now s.args.v) (sym c.enum_told-1.given.1)
+    c.word_at.ensures ∙ read_left c.args.wiring.now c.args.d c.args.block.now c.args.v
+    ∙ ap (λ (side : SideName). read_word side c.args.wiring.now c.args.d c.args.block.now c.args.v) (sym c.in-Left.is)
 
 pub returns-in-Right : goal.returns-in-Right
 returns-in-Right c =
-    let s = c.before.before.before.before.before in
-    c.gathered.ensures ∙ read_right s.args.wiring.now s.args.d s.args.block.now s.args.v
-    ∙ ap (λ (side : SideName). read_word side s.args.wiring.now s.args.d s.args.block.now s.args.v) (sym c.enum_told-in-Right-1.given.1)
+    c.gathered.ensures ∙ read_right c.args.wiring.now c.args.d c.args.block.now c.args.v
+    ∙ ap (λ (side : SideName). read_word side c.args.wiring.now c.args.d c.args.block.now c.args.v) (sym c.in-Right.is)

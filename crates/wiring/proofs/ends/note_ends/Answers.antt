@@ -12,26 +12,20 @@ use Rattle.wiring.specs.Plan.{edge_of}
 use Rattle.wiring.specs.Ends.{Noted}
 use Rattle.wiring.proofs.EdgeEnds.{noted-none, noted-one-more}
 use Rattle.wiring.proofs.ends.note_ends.Goals as goal
-use Rattle.wiring.proofs.ends.note_ends.Goals.{After-edge_at-edge, At-loop-i, Start}
+use Rattle.wiring.proofs.ends.note_ends.Goals.{After-edge_at-edge}
 
 pub loop-i-init : goal.loop-i-init
 loop-i-init c = (search rules, search rules, search rules, noted-none _ _ _ _ _, kept-start _ _, kept-start _ _)
 
-abbrev turn : After-edge_at-edge → At-loop-i
-turn c = c.before.before
-
-abbrev start : At-loop-i → Start
-start c = c.before.before.before.before
-
 -- an entry of the wiring is one of its edges
-edge-lt : (c : After-edge_at-edge) → c.edge_at-edge.result < (start (turn c)).args.edges
-edge-lt c = omega (arith, c.edge_at-edge.ensures, (start (turn c)).requires.permuted.edge-lt (turn c).loop-i.i (omega arith))
+edge-lt : (c : After-edge_at-edge) → c.edge_at-edge.result < c.args.edges
+edge-lt c = omega (arith, c.edge_at-edge.ensures, c.requires.permuted.edge-lt c.loop-i.i (omega arith))
 
 pub overflow_cast-lefts : goal.overflow_cast-lefts
-overflow_cast-lefts c = omega (arith, edge-lt c, div-le_self c.edge_at-edge.result (start (turn c)).args.dl)
+overflow_cast-lefts c = omega (arith, edge-lt c, div-le_self c.edge_at-edge.result c.args.dl)
 
 pub overflow_cast-rights : goal.overflow_cast-rights
-overflow_cast-rights c = omega (arith, div-le_self (turn c).loop-i.i (start (turn c)).args.dr)
+overflow_cast-rights c = omega (arith, div-le_self c.loop-i.i c.args.dr)
 
 pub offset_bounds-rights-edge : goal.offset_bounds-rights-edge
 offset_bounds-rights-edge c = omega (arith, edge-lt c)
@@ -41,19 +35,19 @@ bounds-rights-edge c = omega (arith, edge-lt c)
 
 pub loop-i-preserved : goal.loop-i-preserved
 loop-i-preserved c =
-    let before = (turn c).loop-i in (
+    let before = c.loop-i in (
       search rules,
-      simp length-set before.inv.1,
-      simp length-set before.inv.2,
-      noted-one-more (start (turn c)).requires.permuted (omega arith) (omega arith) before.i c.edge_at-edge.result (omega arith) c.edge_at-edge.ensures
-          before.inv.3,
-      kept_set before.inv.4 before.i _ (omega arith),
-      kept_set before.inv.5 c.edge_at-edge.result _ (edge-lt c),
+      simp length-set before.invariant.1,
+      simp length-set before.invariant.2,
+      noted-one-more c.requires.permuted (omega arith) (omega arith) before.i c.edge_at-edge.result (omega arith) c.edge_at-edge.ensures
+          before.invariant.3,
+      kept_set before.invariant.4 before.i _ (omega arith),
+      kept_set before.invariant.5 c.edge_at-edge.result _ (edge-lt c),
     )
 
 pub returns : goal.returns
 returns c =
-    let end : c.loop-i.i ≡ (start c.before).args.edges = omega arith in
+    let end : c.loop-i.i ≡ c.args.edges = omega arith in
     record {
       noted = rw end at c.loop-i.invariant.3;
       lefts_kept = c.loop-i.invariant.4;

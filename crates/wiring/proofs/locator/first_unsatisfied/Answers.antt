@@ -11,7 +11,7 @@ use Rattle.wiring.specs.declared.side.SideCode.{SideCode}
 use Rattle.wiring.specs.declared.side.SideName.{SideName}
 use Rattle.wiring.proofs.Locating.{found_by, by-none, by-one-more, by-found, located-found, located-nowhere}
 use Rattle.wiring.proofs.locator.first_unsatisfied.Goals as goal
-use Rattle.wiring.proofs.locator.first_unsatisfied.Goals.{After-residue, At-loop-v, Start}
+use Rattle.wiring.proofs.locator.first_unsatisfied.Goals.{Start}
 
 -- the sides still to come
 abbrev after : SideName → ℕ
@@ -39,58 +39,45 @@ search-init c = λ e. absurd (left-not-right e)
 pub loop-v-init : goal.loop-v-init
 loop-v-init c = (search rules, by-none _ _ _ _)
 
-abbrev start : At-loop-v → Start
-start c = c.before.before.before.before.before.before
-
 abbrev codes_in : Start → SideName → SideCode
 codes_in c = both_codes c.args.left c.args.right
 
 pub read_word-word-requires : goal.read_word-word-requires
 read_word-word-requires c =
-    let loop = c.before in
-    let told = loop.before.before in
-    let side = told.search.side in
-    let held = told.code_of_lem.ensures in
-    let below : loop.loop-v.v < (codes_in (start loop) side).n = omega (arith, ap (λ (x : SideCode). x.n) held) in
-    rw held ((start loop).requires.each side loop.loop-v.v below)
-
-abbrev turn : After-residue → At-loop-v
-turn c = c.before.before.before.before
+    let side = c.search.side in
+    let held = c.code_of_lem.ensures in
+    let below : c.loop-v.v < (codes_in (goal.at.read_word-word-requires c).Start side).n = omega (arith, ap (λ (x : SideCode). x.n) held) in
+    rw held (c.requires.each side c.loop-v.v below)
 
 pub loop-v-preserved : goal.loop-v-preserved
 loop-v-preserved c =
-    let reduced = c.before in (
+    (
       search rules,
-      by-one-more _ _ _ _ _ _ _ (turn reduced).loop-v.invariant.1 reduced.read_word-word.ensures reduced.residue.ensures c.if-residue-ne0.false,
+      by-one-more _ _ _ _ _ _ _ c.loop-v.invariant.1 c.read_word-word.ensures c.residue.ensures c.if-residue-ne0.false,
     )
 
 pub search-smaller : goal.search-smaller
-search-smaller c = rw c.enum_told-1.given.1 (omega arith)
+search-smaller c = rw c.in-Left.is (omega arith)
 
 pub search-preserved : goal.search-preserved
 search-preserved c =
-    let loop = c.before.before.before in
-    λ e. side-passed (codes_in (start loop)) _ _ _ _ loop.code_of_lem.ensures left _ c.enum_told-1.given.1 (omega arith) loop.loop-v.invariant.1
+    λ e. side-passed (codes_in (goal.at.search-preserved c).Start) _ _ _ _ c.code_of_lem.ensures left _ c.in-Left.is (omega arith) c.loop-v.invariant.1
 
 pub returns-then-residue-ne0 : goal.returns-then-residue-ne0
 returns-then-residue-ne0 c =
-    let reduced = c.before in
-    let before = (turn reduced).loop-v in
-    let told = (turn reduced).before.before in
-    let side = told.search in
-    let held = told.code_of_lem.ensures in
+    let before = c.loop-v in
+    let side = c.search in
+    let held = c.code_of_lem.ensures in
     ap done
     (sym
-    (located-found (codes_in (start (turn reduced))) _ _ side.side before.v side.inv
-    (side-found (codes_in (start (turn reduced))) _ _ _ _ held _
-    (by-found _ _ _ _ _ _ _ _ (omega arith) before.inv.1 reduced.read_word-word.ensures reduced.residue.ensures c.if-residue-ne0.true))
+    (located-found (codes_in (goal.at.returns-then-residue-ne0 c).Start) _ _ side.side before.v side.invariant
+    (side-found (codes_in (goal.at.returns-then-residue-ne0 c).Start) _ _ _ _ held _
+    (by-found _ _ _ _ _ _ _ _ (omega arith) before.invariant.1 c.read_word-word.ensures c.residue.ensures c.if-residue-ne0.true))
     (omega (arith, ap (λ (x : SideCode). x.n) held))))
 
 pub returns-in-Right : goal.returns-in-Right
 returns-in-Right c =
-    let loop = c.before.before.before in
-    let told = loop.before.before in
     ap done
     (sym
-    (located-nowhere (codes_in (start loop)) _ _ (told.search.invariant c.enum_told-in-Right-1.given.1)
-    (side-passed (codes_in (start loop)) _ _ _ _ told.code_of_lem.ensures right _ c.enum_told-in-Right-1.given.1 (omega arith) loop.loop-v.invariant.1)))
+    (located-nowhere (codes_in (goal.at.returns-in-Right c).Start) _ _ (c.search.invariant c.in-Right.is)
+    (side-passed (codes_in (goal.at.returns-in-Right c).Start) _ _ _ _ c.code_of_lem.ensures right _ c.in-Right.is (omega arith) c.loop-v.invariant.1)))

@@ -11,46 +11,36 @@ use Rattle.wiring.proofs.Locating.{answer-plan-refused, answer-block-refused, an
 use Rattle.wiring.proofs.VertexAccess.{codes-readable}
 use Rattle.wiring.proofs.Blocks.{block_room}
 use Rattle.wiring.proofs.locator.locate.Goals as goal
-use Rattle.wiring.proofs.locator.locate.Goals.{After-check_plan-plan, In-Passed, Start}
-
-abbrev checked : In-Passed → After-check_plan-plan
-checked c = c.before.before
-
-abbrev start : In-Passed → Start
-start c = (checked c).before.before.before.before.before
+use Rattle.wiring.proofs.locator.locate.Goals.{In-Passed, Start}
 
 abbrev plan_in : Start → Plan
 plan_in c = plan_of c.args.left.now c.args.right.now c.args.nl c.args.nr c.args.wiring.now
 
-plan : (c : In-Passed) → PlanAccepted (plan_in (start c)) (checked c).check_plan-plan.result
-plan c = plan-accepted _ _ (checked c).check_plan-plan.ensures c.enum_told-1.given.1
+plan : (c : In-Passed) → PlanAccepted (plan_in c.before.before.before.before.before.before.before.before) c.check_plan-plan.result
+plan c = plan-accepted _ _ c.check_plan-plan.ensures c.in-Passed.is
 
 pub overflow_mul-plan : goal.overflow_mul-plan
 overflow_mul-plan c =
-    let p = plan c.before in
+    let p = plan (goal.at.overflow_mul-plan c).In-Passed in
     omega (arith, accepted-edges p, fitted-edges p.plan-wired.left-fits)
 
 pub first_unsatisfied-requires : goal.first_unsatisfied-requires
 first_unsatisfied-requires c =
-    let block = c.before.before in
-    let p = plan block.before.before in
-    let pass = sym block.check_block.ensures ∙ ap check_reply c.enum_told-in-Passed-check_block-1.given.1 in
+    let p = plan (goal.at.first_unsatisfied-requires c).In-Passed in
+    let pass = sym c.check_block.ensures ∙ ap check_reply c.in-Passed-check_block.is in
     codes-readable _ p.plan-done _ (rw (accepted-edges p) at (block_room _ _ pass)) (p.code_is left) (p.code_is right)
 
 pub returns-in-Refused : goal.returns-in-Refused
 returns-in-Refused c =
     sym (answer-plan-refused _ _ _ _
-    (plan-refused _ _ c.check_plan-plan.ensures _ c.checked.given.1))
+    (plan-refused _ _ c.check_plan-plan.ensures _ c.in-Refused.is))
 
 pub returns-in-Refused-check_block : goal.returns-in-Refused-check_block
 returns-in-Refused-check_block c =
-    let block = c.before.before.before in
-    sym (answer-block-refused _ _ _ (plan block.before.before) _ _
-    (sym block.check_block.ensures ∙ ap check_reply c.r.given.1))
+    sym (answer-block-refused _ _ _ (plan (goal.at.returns-in-Refused-check_block c).In-Passed) _ _
+    (sym c.check_block.ensures ∙ ap check_reply c.in-Refused-check_block.is))
 
 pub returns-in-Passed-check_block : goal.returns-in-Passed-check_block
 returns-in-Passed-check_block c =
-    let told = c.before in
-    let block = told.before.before in
-    answer-located _ _ _ (plan block.before.before) (sym block.check_block.ensures ∙ ap check_reply told.enum_told-in-Passed-check_block-1.given.1) _
+    answer-located _ _ _ (plan (goal.at.returns-in-Passed-check_block c).In-Passed) (sym c.check_block.ensures ∙ ap check_reply c.in-Passed-check_block.is) _
     c.first_unsatisfied.ensures

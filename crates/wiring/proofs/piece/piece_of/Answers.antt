@@ -10,31 +10,25 @@ use Rattle.wiring.specs.declared.side.SideCode.{SideCode}
 use Rattle.wiring.proofs.Permutation.{fitted-vertex}
 use Rattle.wiring.proofs.Plans.{PlanAccepted, plan-accepted, plan-refused, piece-refused, piece-past, piece-part}
 use Rattle.wiring.proofs.piece.piece_of.Goals as goal
-use Rattle.wiring.proofs.piece.piece_of.Goals.{After-check_plan-plan, In-Passed, Start, Then-v-nr}
-
-abbrev checked : In-Passed → After-check_plan-plan
-checked c = c.before.before
-
-abbrev start : In-Passed → Start
-start c = (checked c).before.before.before.before
+use Rattle.wiring.proofs.piece.piece_of.Goals.{In-Passed, Start, Then-v-nr}
 
 abbrev plan_in : Start → Plan
 plan_in c = plan_of c.args.left.now c.args.right.now c.args.nl c.args.nr c.args.wiring.now
 
-plan : (c : In-Passed) → PlanAccepted (plan_in (start c)) (checked c).check_plan-plan.result
-plan c = plan-accepted _ _ (checked c).check_plan-plan.ensures c.enum_told-in-Passed-1.given.1
+plan : (c : In-Passed) → PlanAccepted (plan_in c.before.before.before.before.before.before.before) c.check_plan-plan.result
+plan c = plan-accepted _ _ c.check_plan-plan.ensures c.in-Passed.is
 
-d-is : (c : In-Passed) → (checked c).check_plan-plan.result.right.d ≡ degree (start c).args.right.now
+d-is : (c : In-Passed) → c.check_plan-plan.result.right.d ≡ degree c.args.right.now
 d-is c = ap (λ (x : SideCode). x.d) ((plan c).code_is right)
 
 -- the piece ends where the wiring ends, or before
 end-le : (c : Then-v-nr)
-    → let d : ℕ = (checked c.before).check_plan-plan.result.right.d in
-    2 * ((start c.before).args.v * d) + 2 * d ≤ length (start c.before).args.wiring.now
+    → let d : ℕ = c.check_plan-plan.result.right.d in
+    2 * (c.args.v * d) + 2 * d ≤ length c.args.wiring.now
 end-le c =
-    let v = (start c.before).args.v in
-    let fits = (plan c.before).plan-wired.right-fits in
-    omega (arith, fitted-vertex fits v c.if-v-nr.true, d-is c.before, ap (λ (x : ℕ). v * x) (d-is c.before))
+    let v = c.args.v in
+    let fits = (plan (record { before = c.before.before; type_inv = record { wiring = c.shared_slice_known-3-1.given; right = c.shared_slice_known-2-1.given; left = c.shared_slice_known-1.given; } })).plan-wired.right-fits in
+    omega (arith, fitted-vertex fits v c.if-v-nr.true, d-is (record { before = c.before.before; type_inv = record { wiring = c.shared_slice_known-3-1.given; right = c.shared_slice_known-2-1.given; left = c.shared_slice_known-1.given; } }), ap (λ (x : ℕ). v * x) (d-is (record { before = c.before.before; type_inv = record { wiring = c.shared_slice_known-3-1.given; right = c.shared_slice_known-2-1.given; left = c.shared_slice_known-1.given; } })))
 
 pub overflow_mul-start : goal.overflow_mul-start
 overflow_mul-start c = omega (arith, end-le c)
@@ -53,13 +47,12 @@ slice_bounds-result-end-then-v-nr c = end-le c
 
 pub returns-then-v-nr : goal.returns-then-v-nr
 returns-then-v-nr c =
-    let told = c.before.before in
-    piece-part _ _ _ _ _ (plan told).plan-done c.if-v-nr.true (d-is told) refl refl
+    piece-part _ _ _ _ _ (plan (goal.at.returns-then-v-nr c).In-Passed).plan-done c.if-v-nr.true (d-is (goal.at.returns-then-v-nr c).In-Passed) refl refl
 
 pub returns-in-Refused : goal.returns-in-Refused
 returns-in-Refused c =
     sym (piece-refused _ _ _ _
-    (plan-refused _ _ c.check_plan-plan.ensures _ c.enum_told-1.given.1))
+    (plan-refused _ _ c.check_plan-plan.ensures _ c.in-Refused.is))
 
 pub returns-else-v-nr : goal.returns-else-v-nr
-returns-else-v-nr c = sym (piece-past _ _ (plan c.before.before).plan-done c.if-v-nr.false)
+returns-else-v-nr c = sym (piece-past _ _ (plan (goal.at.returns-else-v-nr c).In-Passed).plan-done c.if-v-nr.false)

@@ -10,35 +10,32 @@ use Rattle.wiring.specs.Plan.{edge_of}
 use Rattle.wiring.specs.Checking.{Permuted}
 use Rattle.wiring.proofs.EdgePlaces.{places-more}
 use Rattle.wiring.proofs.places.note_places.Goals as goal
-use Rattle.wiring.proofs.places.note_places.Goals.{After-edge_at, At-loop-i, Start}
-
-abbrev start : At-loop-i → Start
-start c = c.before.before.before
+use Rattle.wiring.proofs.places.note_places.Goals.{After-edge_at, At-loop-i}
 
 -- the edges stand at the entries, each once
-abbrev stand : (c : At-loop-i) → Permuted (length (start c).args.wiring.now / 2) (start c).args.wiring.now
-stand c = (start c).requires.permuted
+abbrev stand : (c : At-loop-i) → Permuted (length c.args.wiring.now / 2) c.args.wiring.now
+stand c = c.requires.permuted
 
 pub loop-i-init : goal.loop-i-init
 loop-i-init c = (search rules, refl, λ j l. absurd (omega arith), kept-start _ _)
 
-edge-lt : (c : After-edge_at) → c.edge_at.result < length (start c.before.before).args.wiring.now / 2
-edge-lt c = rw c.edge_at.ensures ((stand c.before.before).edge-lt c.loop-i.i (omega arith))
+edge-lt : (c : After-edge_at) → c.edge_at.result < length c.args.wiring.now / 2
+edge-lt c = rw c.edge_at.ensures ((stand (record { before = c.before.before.before; type_inv = record { wiring = c.shared_slice_known-1.given; } })).edge-lt c.loop-i.i (omega arith))
 
 pub offset_bounds-places-edge_at : goal.offset_bounds-places-edge_at
-offset_bounds-places-edge_at c = omega (arith, edge-lt c, (start c.before.before).requires.wiring_len_bound)
+offset_bounds-places-edge_at c = omega (arith, edge-lt c, c.requires.wiring_len_bound)
 
 pub bounds-places-edge_at : goal.bounds-places-edge_at
-bounds-places-edge_at c = omega (arith, edge-lt c, (start c.before.before).requires.wiring_in_bounds, c.loop-i.invariant.1)
+bounds-places-edge_at c = omega (arith, edge-lt c, c.requires.wiring_in_bounds, c.loop-i.invariant.1)
 
 pub loop-i-preserved : goal.loop-i-preserved
 loop-i-preserved c =
     let turn = c.loop-i in
-    let once = (stand c.before.before).edge-once in (
+    let once = (stand (goal.at.loop-i-preserved c).At-loop-i).edge-once in (
       omega arith,
       length-set turn.places c.edge_at.result turn.i ∙ turn.invariant.1,
       places-more _ turn.places turn.i _ c.edge_at.ensures
-          (omega (arith, edge-lt c, c.edge_at.ensures, (start c.before.before).requires.wiring_in_bounds, turn.invariant.1))
+          (omega (arith, edge-lt c, c.edge_at.ensures, c.requires.wiring_in_bounds, turn.invariant.1))
           (λ j l e. let same = once j turn.i (omega arith) (omega arith) e in omega arith)
           turn.invariant.2 refl,
       kept_set turn.invariant.3 c.edge_at.result turn.i (edge-lt c),
@@ -49,8 +46,7 @@ shape_of-places c = c.loop-i.invariant.1
 
 pub returns : goal.returns
 returns c =
-    let first = start c.before in
-    let end : c.loop-i.i ≡ length first.args.wiring.now / 2 = omega arith in record {
-      places_noted = record { sized = omega (arith, first.requires.wiring_in_bounds, c.loop-i.invariant.1); each = rw end at c.loop-i.invariant.2 };
+    let end : c.loop-i.i ≡ length c.args.wiring.now / 2 = omega arith in record {
+      places_noted = record { sized = omega (arith, c.requires.wiring_in_bounds, c.loop-i.invariant.1); each = rw end at c.loop-i.invariant.2 };
       kept_from = c.loop-i.invariant.3;
     }

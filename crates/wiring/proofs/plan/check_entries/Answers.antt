@@ -11,7 +11,6 @@ use Rattle.wiring.specs.Access.{none_seen, seen_after}
 use Rattle.wiring.proofs.Permutation.{entries-refused, entries-one-more}
 use Rattle.wiring.proofs.SeenBits.{entry-high, entry_seen, entry-fresh, seen_stored}
 use Rattle.wiring.proofs.plan.check_entries.Goals as goal
-use Rattle.wiring.proofs.plan.check_entries.Goals.{After-edge_at-edge, At-loop-i, Start}
 
 pub returns-then-all_stand : goal.returns-then-all_stand
 returns-then-all_stand c = sym (c.all_stand.ensures c.if-all_stand.true)
@@ -20,48 +19,39 @@ pub loop-i-init : goal.loop-i-init
 unfolding entries_check seen_after none_seen
 loop-i-init c = (search rules, refl, refl)
 
-abbrev start : At-loop-i → Start
-start c = c.before.before.before.before
-
-abbrev head : After-edge_at-edge → At-loop-i
-head c = c.before.before
-
 pub returns-then-edges-edge : goal.returns-then-edges-edge
 returns-then-edges-edge c =
-    let read = c.before in
-    let turn = (head read).loop-i in
-    let args = (start (head read)).args in
+    let turn = c.loop-i in
+    let args = c.args in
     let edge = edge_of args.wiring.now in
-    sym (entries-refused args.edges edge args.edges turn.i 9 turn.i turn.inv.1
-    (entry-high args.edges edge turn.i _ read.edge_at-edge.ensures c.if-edges-edge.true) (omega arith))
+    sym (entries-refused args.edges edge args.edges turn.i 9 turn.i turn.invariant.1
+    (entry-high args.edges edge turn.i _ c.edge_at-edge.ensures c.if-edges-edge.true) (omega arith))
 
 pub returns-then-byte-bit-ne0 : goal.returns-then-byte-bit-ne0
 returns-then-byte-bit-ne0 c =
-    let read = c.before.before in
-    let turn = (head read).loop-i in
-    let args = (start (head read)).args in
+    let turn = c.loop-i in
+    let args = c.args in
     let edge = edge_of args.wiring.now in
-    sym (entries-refused args.edges edge args.edges turn.i 10 turn.i turn.inv.1
-    (entry_seen args.edges edge turn.i _ read.edge_at-edge.ensures turn.seen turn.inv.2 c.if-edges-edge.false (omega arith)
+    sym (entries-refused args.edges edge args.edges turn.i 10 turn.i turn.invariant.1
+    (entry_seen args.edges edge turn.i _ c.edge_at-edge.ensures turn.seen turn.invariant.2 c.if-edges-edge.false (omega arith)
     c.if-byte-bit-ne0.true)
     (omega arith))
 
 pub loop-i-preserved : goal.loop-i-preserved
 loop-i-preserved c =
-    let read = c.before.before in
-    let turn = (head read).loop-i in
-    let args = (start (head read)).args in
+    let turn = c.loop-i in
+    let args = c.args in
     let edge = edge_of args.wiring.now in
-    let is = read.edge_at-edge.ensures in
+    let is = c.edge_at-edge.ensures in
     let low = c.if-edges-edge.false in (
       omega arith,
-      entries-one-more args.edges edge turn.i turn.inv.1
-          (entry-fresh args.edges edge turn.i _ is turn.seen turn.inv.2 low (omega arith) c.if-byte-bit-ne0.false),
-      seen_stored args.edges edge turn.i _ is turn.seen turn.inv.2 low (omega arith) c.if-byte-bit-ne0.false,
+      entries-one-more args.edges edge turn.i turn.invariant.1
+          (entry-fresh args.edges edge turn.i _ is turn.seen turn.invariant.2 low (omega arith) c.if-byte-bit-ne0.false),
+      seen_stored args.edges edge turn.i _ is turn.seen turn.invariant.2 low (omega arith) c.if-byte-bit-ne0.false,
     )
 
 pub returns : goal.returns
 returns c =
-    let args = (start c.before).args in
+    let args = c.args in
     let end : c.loop-i.i ≡ args.edges = omega arith in
     sym (ap (entries_check args.edges (edge_of args.wiring.now)) (sym end) ∙ c.loop-i.invariant.1)

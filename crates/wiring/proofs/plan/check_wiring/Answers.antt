@@ -8,7 +8,7 @@ use Rattle.wiring.specs.Wiring.{count_faulty}
 use Rattle.wiring.proofs.Permutation.{edges_le, count-range, wiring-left-count, wiring-right-count}
 use Rattle.wiring.proofs.Permutation.{wiring-differing, wiring-unsized, wiring-entries}
 use Rattle.wiring.proofs.plan.check_wiring.Goals as goal
-use Rattle.wiring.proofs.plan.check_wiring.Goals.{Else-is_count_faulty-2, Start}
+use Rattle.wiring.proofs.plan.check_wiring.Goals.{Else-is_count_faulty-2}
 
 pub returns-then-is_count_faulty : goal.returns-then-is_count_faulty
 returns-then-is_count_faulty c = sym (wiring-left-count _ _ _ _ _ (sym c.is_count_faulty.ensures ∙ c.if-is_count_faulty.true))
@@ -18,19 +18,16 @@ returns-then-is_count_faulty-2 c = sym (wiring-right-count _ _ _ _ _ (sym c.is_c
 
 -- ---- once both counts have passed
 
-abbrev start : Else-is_count_faulty-2 → Start
-start c = c.before.before.before.before.before
-
-left-counted : (c : Else-is_count_faulty-2) → count_faulty (start c).args.nl ≡ false
+left-counted : (c : Else-is_count_faulty-2) → count_faulty c.args.nl ≡ false
 left-counted c = sym c.is_count_faulty.ensures ∙ c.if-is_count_faulty.false
 
-right-counted : (c : Else-is_count_faulty-2) → count_faulty (start c).args.nr ≡ false
+right-counted : (c : Else-is_count_faulty-2) → count_faulty c.args.nr ≡ false
 right-counted c = sym c.is_count_faulty-2.ensures ∙ c.if-is_count_faulty-2.false
 
-left-fits : (c : Else-is_count_faulty-2) → (start c).args.nl * (start c).args.dl ≤ 32768
+left-fits : (c : Else-is_count_faulty-2) → c.args.nl * c.args.dl ≤ 32768
 left-fits c = edges_le _ _ (count-range _ (left-counted c)).1 (omega arith)
 
-right-fits : (c : Else-is_count_faulty-2) → (start c).args.nr * (start c).args.dr ≤ 32768
+right-fits : (c : Else-is_count_faulty-2) → c.args.nr * c.args.dr ≤ 32768
 right-fits c = edges_le _ _ (count-range _ (right-counted c)).1 (omega arith)
 
 pub overflow_mul-edges : goal.overflow_mul-edges
@@ -40,20 +37,18 @@ pub overflow_mul-nr : goal.overflow_mul-nr
 overflow_mul-nr c = omega (arith, right-fits c)
 
 pub returns-then-edges-nr : goal.returns-then-edges-nr
-returns-then-edges-nr c = sym (wiring-differing _ _ _ _ _ (left-counted c.before) (right-counted c.before) c.if-edges-nr.true)
+returns-then-edges-nr c = sym (wiring-differing _ _ _ _ _ (left-counted (goal.at.returns-then-edges-nr c).Else-is_count_faulty-2) (right-counted (goal.at.returns-then-edges-nr c).Else-is_count_faulty-2) c.if-edges-nr.true)
 
 pub overflow_mul-edges-2 : goal.overflow_mul-edges-2
-overflow_mul-edges-2 c = omega (arith, left-fits c.before)
+overflow_mul-edges-2 c = omega (arith, left-fits (goal.at.overflow_mul-edges-2 c).Else-is_count_faulty-2)
 
 pub returns-then-wiring-edges : goal.returns-then-wiring-edges
 returns-then-wiring-edges c =
-    let counted = c.before.before in
-    sym (wiring-unsized _ _ _ _ _ (left-counted counted) (right-counted counted) (omega arith) c.if-wiring-edges.true)
+    sym (wiring-unsized _ _ _ _ _ (left-counted (goal.at.returns-then-wiring-edges c).Else-is_count_faulty-2) (right-counted (goal.at.returns-then-wiring-edges c).Else-is_count_faulty-2) (omega arith) c.if-wiring-edges.true)
 
 pub check_entries-requires : goal.check_entries-requires
-check_entries-requires c = omega (arith, left-fits c.before.before)
+check_entries-requires c = omega (arith, left-fits (goal.at.check_entries-requires c).Else-is_count_faulty-2)
 
 pub returns : goal.returns
 returns c =
-    let counted = c.before.before.before in
-    c.check_entries.ensures ∙ sym (wiring-entries _ _ _ _ _ (left-counted counted) (right-counted counted) (omega arith) (omega arith))
+    c.check_entries.ensures ∙ sym (wiring-entries _ _ _ _ _ (left-counted (goal.at.returns c).Else-is_count_faulty-2) (right-counted (goal.at.returns c).Else-is_count_faulty-2) (omega arith) (omega arith))

@@ -17,7 +17,7 @@ use Rattle.wiring.specs.Plan.{edge_of}
 use Rattle.wiring.specs.Access.{none_marked, marked_after}
 use Rattle.wiring.proofs.EdgeMarks.{marked-none-length, entries-marked, marked-one-more, digits-one-more, least-lowered, least_kept}
 use Rattle.wiring.proofs.plan.every_edge_stands.Goals as goal
-use Rattle.wiring.proofs.plan.every_edge_stands.Goals.{After-edge_at-edge, At-loop-e, At-loop-i, Start, else-mark-least, then-mark-least}
+use Rattle.wiring.proofs.plan.every_edge_stands.Goals.{Start, else-mark-least, then-mark-least}
 
 -- there are as many bytes as the mask says
 sized : (s : Start) → length s.args.marks.now ≡ s.args.mask + 1
@@ -25,35 +25,25 @@ sized s = ap length s.requires.marks_value ∙ marked-none-length _
 
 pub loop-i-init : goal.loop-i-init
 unfolding marked_after
-loop-i-init c = (search rules, sized c.before.before, λ j l. absurd (not-suc-le-zero l), c.requires.marks_value)
-
-abbrev start : At-loop-i → Start
-start c = c.before.before.before
-
-abbrev head : After-edge_at-edge → At-loop-i
-head c = c.before.before
-
--- the first loop, from within the second
-abbrev first : At-loop-e → At-loop-i
-first c = c.before.before.before
+loop-i-init c = (search rules, sized (goal.at.loop-i-init c).Start, λ j l. absurd (not-suc-le-zero l), c.requires.marks_value)
 
 pub bounds-marks-edge : goal.bounds-marks-edge
-bounds-marks-edge c = omega (arith, and_le_r c.edge_at-edge.result (start (head c)).args.mask)
+bounds-marks-edge c = omega (arith, and_le_r c.edge_at-edge.result c.args.mask)
 
 pub loop-i-preserved : goal.loop-i-preserved
 loop-i-preserved c =
-    let turn = (head c).loop-i in
-    let args = (start (head c)).args in
+    let turn = c.loop-i in
+    let args = c.args in
     let edge = edge_of args.wiring.now in
     let is = c.edge_at-edge.ensures in (
       omega arith,
-      simp length-set turn.inv.1,
-      digits-one-more edge turn.i _ turn.digits turn.inv.2 is,
-      marked-one-more args.mask edge turn.i _ turn.marks _ turn.inv.3 is,
+      simp length-set turn.invariant.1,
+      digits-one-more edge turn.i _ turn.digits turn.invariant.2 is,
+      marked-one-more args.mask edge turn.i _ turn.marks _ turn.invariant.3 is,
     )
 
 pub shape_of-marks-then-mask-digits : goal.shape_of-marks-then-mask-digits
-shape_of-marks-then-mask-digits c = c.loop-i.invariant.1 ∙ sym (sized (start c.before.before))
+shape_of-marks-then-mask-digits c = c.loop-i.invariant.1 ∙ sym (sized (goal.at.shape_of-marks-then-mask-digits c).Start)
 
 pub returns-then-mask-digits : goal.returns-then-mask-digits
 returns-then-mask-digits c e = absurd (false≢true e)
@@ -66,7 +56,7 @@ pub loop-e-preserved : goal.loop-e-preserved
 unfolding at
 loop-e-preserved c =
     let turn = c.loop-e in
-    let marks = at (first c.before.before.before).loop-i.marks in (
+    let marks = at c.loop-i.marks in (
       omega arith,
       (elim c.if-mark-least.branch [
           | then-mark-least w ↦ w.1 ∙ least-lowered marks turn.e turn.least turn.invariant.1 w.if-mark-least.true
@@ -75,21 +65,20 @@ loop-e-preserved c =
     )
 
 pub shape_of-marks : goal.shape_of-marks
-shape_of-marks c = (first c.before).loop-i.invariant.1 ∙ sym (sized (start (first c.before)))
+shape_of-marks c = c.loop-i.invariant.1 ∙ sym (sized (goal.at.shape_of-marks c).Start)
 
 pub returns : goal.returns
 returns c all =
     let last = c.loop-e in
-    let end = (first c.before).loop-i in
-    let call = start (first c.before) in
-    let args = call.args in
+    let end = c.loop-i in
+    let args = c.args in
     let N = args.edges in
     let edge = edge_of args.wiring.now in
     let after : ℕ → List ℕ = λ m. marked_after args.mask edge m (none_marked (args.mask + 1)) in
     let whole : end.i ≡ N = omega arith in
-    let marks : end.marks ≡ after N = end.inv.3 ∙ ap after whole in
+    let marks : end.marks ≡ after N = end.invariant.3 ∙ ap after whole in
     let every : last.e ≡ N = omega arith in
     let low : last.least ≡ Search.least 1 (at end.marks) N = last.invariant.1 ∙ ap (Search.least 1 (at end.marks)) every in
-    let (k, power) = call.requires.mask_is_power in
-    entries-marked k args.mask N edge power (λ i l. omega (arith, end.inv.2 i (rw whole l)))
+    let (k, power) = c.requires.mask_is_power in
+    entries-marked k args.mask N edge power (λ i l. omega (arith, end.invariant.2 i (rw whole l)))
     (ap (λ (l : List ℕ). Search.least 1 (at l) N) (sym marks) ∙ sym low ∙ eqb-true last.least 1 all)

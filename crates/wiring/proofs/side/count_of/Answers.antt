@@ -7,8 +7,8 @@ use Rattle.wiring.proofs.side.count_of.Goals as goal
 
 pub returns-in-Left : goal.returns-in-Left
 unfolding count_for
-returns-in-Left c = sym (ap (λ (side : SideName). count_for side c.args.nl c.args.nr) c.enum_told-1.given.1)
+returns-in-Left c = sym (ap (λ (side : SideName). count_for side c.args.nl c.args.nr) c.in-Left.is)
 
 pub returns-in-Right : goal.returns-in-Right
 unfolding count_for
-returns-in-Right c = sym (ap (λ (side : SideName). count_for side c.args.nl c.args.nr) c.enum_told-in-Right-1.given.1)
+returns-in-Right c = sym (ap (λ (side : SideName). count_for side c.args.nl c.args.nr) c.in-Right.is)

@@ -7,4 +7,4 @@ use Rattle.words.proofs.news.mark.Goals as goal
 
 pub returns : goal.returns
 unfolding digit at
-returns c = let s = c.before in marked-once s.args.kept.now s.args.from s.args.v
+returns c = marked-once c.args.kept.now c.args.from c.args.v

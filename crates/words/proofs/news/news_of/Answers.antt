@@ -6,8 +6,8 @@ use Rattle.words.proofs.news.news_of.Goals as goal
 
 pub returns-in-Left : goal.returns-in-Left
 unfolding news_of
-returns-in-Left c = sym (ap news_of c.enum_told-1.given.1)
+returns-in-Left c = sym (ap news_of c.in-Left.is)
 
 pub returns-in-Right : goal.returns-in-Right
 unfolding news_of
-returns-in-Right c = sym (ap news_of c.enum_told-in-Right-1.given.1)
+returns-in-Right c = sym (ap news_of c.in-Right.is)

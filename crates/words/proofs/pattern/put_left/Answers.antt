@@ -20,12 +20,9 @@ use Rattle.words.proofs.Patterns.{rest-sized, rest-high, length-pattern}
 use Rattle.words.proofs.Putting.{Putting, putting-start, putting-done, putting-more}
 use Rattle.wiring.proofs.EdgePlaces.{places-lt, places-bit}
 use Rattle.words.proofs.pattern.put_left.Goals as goal
-use Rattle.words.proofs.pattern.put_left.Goals.{After-highest-high, After-power-rest, After-shared_slice_known-6-1, At-loop-rest, Start}
+use Rattle.words.proofs.pattern.put_left.Goals.{After-highest-high, Start}
 
 -- ---- the call, the loop's head, and the plan
-
-abbrev start : After-shared_slice_known-6-1 → Start
-start c = c.before.before.before.before.before.before.before
 
 abbrev plan_in : Start → Plan
 plan_in c = plan_of c.args.left.now c.args.right.now c.args.nl c.args.nr c.args.wiring.now
@@ -35,14 +32,13 @@ accepted c = c.requires.wiring_value
 
 pub bounds-left-0 : goal.bounds-left-0
 bounds-left-0 c =
-    let first = c.before.before.before.before.before.before in
-    fitted-sheet _ (plan-fits (plan_in first) (accepted first) left)
+    fitted-sheet _ (plan-fits (plan_in (goal.at.bounds-left-0 c).Start) (accepted (goal.at.bounds-left-0 c).Start) left)
 
 pub overflow_cast-d : goal.overflow_cast-d
 overflow_cast-d c = omega (arith, c.type_inv.left 0)
 
 pub bounds-right-0 : goal.bounds-right-0
-bounds-right-0 c = fitted-sheet _ (plan-fits (plan_in (start c)) (accepted (start c)) right)
+bounds-right-0 c = fitted-sheet _ (plan-fits (plan_in (goal.at.bounds-right-0 c).Start) (accepted (goal.at.bounds-right-0 c).Start) right)
 
 pub overflow_cast-dr : goal.overflow_cast-dr
 overflow_cast-dr c = omega (arith, c.type_inv.right 0)
@@ -55,33 +51,26 @@ entry-few c j l = digits_lt c.requires.plan_value l
 pub overflow_mul-base : goal.overflow_mul-base
 unfolding degree
 overflow_mul-base c =
-    let fits = plan-fits (plan_in (start c)) (accepted (start c)) left in
-    omega (arith, entry-few (start c) 0 (omega (arith, fits.d-low)), plan-few (plan_in (start c)) (accepted (start c)))
+    let fits = plan-fits (plan_in (goal.at.overflow_mul-base c).Start) (accepted (goal.at.overflow_mul-base c).Start) left in
+    omega (arith, entry-few (goal.at.overflow_mul-base c).Start 0 (omega (arith, fits.d-low)), plan-few (plan_in (goal.at.overflow_mul-base c).Start) (accepted (goal.at.overflow_mul-base c).Start))
 
 pub loop-rest-init : goal.loop-rest-init
 loop-rest-init c =
-    let s = start c in
-    putting-start (plan_in s) (accepted s) left s.args.v s.requires.plan_value s.args.pattern _ _ s.requires.v_lt_nl s.requires.1.1.1.1
-
-abbrev head : After-highest-high → At-loop-rest
-head c = c.before.before
-
-abbrev begin : After-highest-high → Start
-begin c = start (head c).before
+    putting-start (plan_in (goal.at.loop-rest-init c).Start) (accepted (goal.at.loop-rest-init c).Start) left c.args.v c.requires.plan_value c.args.pattern _ _ c.requires.v_lt_nl c.requires.1.1.1.1
 
 -- the highest one is within the word, and the edge is one of the plan's
-within : (c : After-highest-high) → c.highest-high.result < degree (begin c).args.left.now
-within c = rest-high (head c).loop-rest.invariant.left_over _ c.highest-high.ensures.power_low c.highest-high.ensures.power_high
+within : (c : After-highest-high) → c.highest-high.result < degree c.args.left.now
+within c = rest-high c.loop-rest.invariant.left_over _ c.highest-high.ensures.power_low c.highest-high.ensures.power_high
 
 abbrev edge_in : After-highest-high → ℕ
 edge_in c =
-    (begin c).args.v * degree (begin c).args.left.now + (degree (begin c).args.left.now - 1 - c.highest-high.result)
+    c.args.v * degree c.args.left.now + (degree c.args.left.now - 1 - c.highest-high.result)
 
-edge-lt : (c : After-highest-high) → edge_in c < edge_count (plan_in (begin c))
-edge-lt c = entry-few (begin c) _ (omega (arith, within c))
+edge-lt : (c : After-highest-high) → edge_in c < edge_count (plan_in c.before.before.before.before.before.before.before.before.before.before.before)
+edge-lt c = entry-few c.before.before.before.before.before.before.before.before.before.before.before _ (omega (arith, within c))
 
 edge_few : (c : After-highest-high) → edge_in c < 32768
-edge_few c = omega (arith, edge-lt c, plan-few (plan_in (begin c)) (accepted (begin c)))
+edge_few c = omega (arith, edge-lt c, plan-few (plan_in c.before.before.before.before.before.before.before.before.before.before.before) (accepted c.before.before.before.before.before.before.before.before.before.before.before))
 
 pub overflow_sub-edge : goal.overflow_sub-edge
 unfolding degree
@@ -102,74 +91,64 @@ offset_bounds-places-edge c = omega (arith, edge_few c)
 pub bounds-places-edge : goal.bounds-places-edge
 unfolding degree
 bounds-places-edge c =
-    let s = begin c.before in
-    omega (arith, edge-lt c.before, plan-entries (plan_in s) (accepted s), s.requires.pattern_bound.sized)
+    omega (arith, edge-lt (goal.at.bounds-places-edge c).After-highest-high, plan-entries (plan_in (goal.at.bounds-places-edge c).Start) (accepted (goal.at.bounds-places-edge c).Start), c.requires.pattern_bound.sized)
 
 pub overflow_cast-place : goal.overflow_cast-place
 unfolding degree at
 overflow_cast-place c =
-    let top = c.before in
     omega (
       arith,
-      places-lt (plan_in (begin top)) (accepted (begin top)) (begin top).requires.pattern_bound (edge_in top) (edge-lt top),
-      plan-few (plan_in (begin top)) (accepted (begin top)),
+      places-lt (plan_in (goal.at.overflow_cast-place c).Start) (accepted (goal.at.overflow_cast-place c).Start) c.requires.pattern_bound (edge_in (goal.at.overflow_cast-place c).After-highest-high) (edge-lt (goal.at.overflow_cast-place c).After-highest-high),
+      plan-few (plan_in (goal.at.overflow_cast-place c).Start) (accepted (goal.at.overflow_cast-place c).Start),
     )
 
 -- ---- the place of the edge
 
 abbrev place_in : After-highest-high → ℕ
-place_in c = at (begin c).args.places.now (edge_in c)
+place_in c = at c.args.places.now (edge_in c)
 
-place-lt : (c : After-highest-high) → place_in c < edge_count (plan_in (begin c))
-place-lt c = places-lt (plan_in (begin c)) (accepted (begin c)) (begin c).requires.pattern_bound (edge_in c) (edge-lt c)
+place-lt : (c : After-highest-high) → place_in c < edge_count (plan_in c.before.before.before.before.before.before.before.before.before.before.before)
+place-lt c = places-lt (plan_in c.before.before.before.before.before.before.before.before.before.before.before) (accepted c.before.before.before.before.before.before.before.before.before.before.before) c.requires.pattern_bound (edge_in c) (edge-lt c)
 
-place-vertex : (c : After-highest-high) → place_in c / degree (begin c).args.right.now < (begin c).args.nr
+place-vertex : (c : After-highest-high) → place_in c / degree c.args.right.now < c.args.nr
 place-vertex c =
-    let w = plan-whole (plan_in (begin c)) (accepted (begin c)) right in
+    let w = plan-whole (plan_in c.before.before.before.before.before.before.before.before.before.before.before) (accepted c.before.before.before.before.before.before.before.before.before.before.before) right in
     (div-lt_iff_lt-mul w.degree-pos).1 (rw w.entries (place-lt c))
 
 pub tell_right-requires : goal.tell_right-requires
 unfolding degree at
 tell_right-requires c =
-    let top = c.before.before.before.before.before.before in
-    let fits = plan-fits (plan_in (begin top)) (accepted (begin top)) right in
+    let fits = plan-fits (plan_in (goal.at.tell_right-requires c).Start) (accepted (goal.at.tell_right-requires c).Start) right in
     record {
       d_nonzero = (omega (arith, fits.d-low), fits.d-high);
-      kept_len = (head top).loop-rest.invariant.keeps.reads.sized;
-      d_bound = omega (arith, place-vertex top, fits.n-high);
+      kept_len = c.loop-rest.invariant.keeps.reads.sized;
+      d_bound = omega (arith, place-vertex (goal.at.tell_right-requires c).After-highest-high, fits.n-high);
     }
 
 pub power-rest-requires : goal.power-rest-requires
 power-rest-requires c =
-    let top = c.before.before.before.before.before.before.before in
-    let fits = plan-fits (plan_in (begin top)) (accepted (begin top)) left in
-    omega (arith, within top, fits.d-high)
-
-abbrev high : After-power-rest → After-highest-high
-high c = c.before.before.before.before.before.before.before.before
+    let fits = plan-fits (plan_in (goal.at.power-rest-requires c).Start) (accepted (goal.at.power-rest-requires c).Start) left in
+    omega (arith, within (goal.at.power-rest-requires c).After-highest-high, fits.d-high)
 
 pub overflow_sub-rest : goal.overflow_sub-rest
-overflow_sub-rest c = omega (arith, c.power-rest.ensures, (high c).highest-high.ensures.power_low)
+overflow_sub-rest c = omega (arith, c.power-rest.ensures, c.highest-high.ensures.power_low)
 
 pub loop-rest-smaller : goal.loop-rest-smaller
 loop-rest-smaller c =
-    let some = pow_pos (high c).highest-high.result in
-    omega (arith, c.power-rest.ensures, (high c).highest-high.ensures.power_low)
+    let some = pow_pos c.highest-high.result in
+    omega (arith, c.power-rest.ensures, c.highest-high.ensures.power_low)
 
 pub loop-rest-preserved : goal.loop-rest-preserved
 unfolding degree at side_bit told_right news_of other
 loop-rest-preserved c =
-    let top = high c in
-    let s = begin top in
-    let bit = places-bit (plan_in s) (accepted s) s.requires.pattern_bound (edge_in top) (edge-lt top) in
-    putting-more (plan_in s) (accepted s) left s.args.v s.requires.plan_value s.args.pattern _ _ (head top).loop-rest.invariant _ top.highest-high.ensures.power_low
-    top.highest-high.ensures.power_high _ refl c.power-rest.ensures c.turn_bit.ensures
-    (place_in top) (place-lt top) bit refl (place_in top) (place-lt top) bit c.tell_right.ensures
+    let bit = places-bit (plan_in (goal.at.loop-rest-preserved c).Start) (accepted (goal.at.loop-rest-preserved c).Start) c.requires.pattern_bound (edge_in (goal.at.loop-rest-preserved c).After-highest-high) (edge-lt (goal.at.loop-rest-preserved c).After-highest-high) in
+    putting-more (plan_in (goal.at.loop-rest-preserved c).Start) (accepted (goal.at.loop-rest-preserved c).Start) left c.args.v c.requires.plan_value c.args.pattern _ _ c.loop-rest.invariant _ c.highest-high.ensures.power_low
+    c.highest-high.ensures.power_high _ refl c.power-rest.ensures c.turn_bit.ensures
+    (place_in (goal.at.loop-rest-preserved c).After-highest-high) (place-lt (goal.at.loop-rest-preserved c).After-highest-high) bit refl (place_in (goal.at.loop-rest-preserved c).After-highest-high) (place-lt (goal.at.loop-rest-preserved c).After-highest-high) bit c.tell_right.ensures
 
 pub shape_of-block : goal.shape_of-block
 shape_of-block c = rest-sized c.loop-rest.invariant.left_over ∙ length-pattern _ _ _ _ _ _
 
 pub returns : goal.returns
 returns c =
-    let s = start c.before.before in
-    putting-done (plan_in s) (accepted s) left s.args.v s.requires.plan_value s.args.pattern _ _ c.loop-rest.invariant (omega arith)
+    putting-done (plan_in (goal.at.returns c).Start) (accepted (goal.at.returns c).Start) left c.args.v c.requires.plan_value c.args.pattern _ _ c.loop-rest.invariant (omega arith)

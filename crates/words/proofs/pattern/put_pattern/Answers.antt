@@ -9,7 +9,7 @@ use Rattle.wiring.specs.Plan.{side_bit}
 use Rattle.words.specs.Words.{pattern_put}
 use Rattle.words.proofs.Patterns.{Rest, rest-sized, rest-none, rest-high, rest_more, length-pattern}
 use Rattle.words.proofs.pattern.put_pattern.Goals as goal
-use Rattle.words.proofs.pattern.put_pattern.Goals.{After-highest-high, After-power-rest}
+use Rattle.words.proofs.pattern.put_pattern.Goals.{After-highest-high}
 
 pub loop-rest-init : goal.loop-rest-init
 loop-rest-init c = record { low = c.requires.pattern_bound; putting = refl }
@@ -19,33 +19,28 @@ within : (c : After-highest-high) → c.highest-high.result < c.args.d
 within c = rest-high c.loop-rest.invariant _ c.highest-high.ensures.power_low c.highest-high.ensures.power_high
 
 pub overflow_sub-d : goal.overflow_sub-d
-overflow_sub-d c = omega (arith, within c.before)
+overflow_sub-d c = omega (arith, within (goal.at.overflow_sub-d c).After-highest-high)
 
 pub overflow_sub-d-in-loop-rest : goal.overflow_sub-d-in-loop-rest
-overflow_sub-d-in-loop-rest c = omega (arith, within c.before)
+overflow_sub-d-in-loop-rest c = omega (arith, within (goal.at.overflow_sub-d-in-loop-rest c).After-highest-high)
 
 pub bit_of-requires : goal.bit_of-requires
-bit_of-requires c = omega (arith, within c.before)
-
--- the turn, from where its power is known
-abbrev high : After-power-rest → After-highest-high
-high c = c.before.before.before.before.before.before
+bit_of-requires c = omega (arith, within (goal.at.bit_of-requires c).After-highest-high)
 
 pub power-rest-requires : goal.power-rest-requires
-power-rest-requires c = omega (arith, within c.before.before.before.before.before)
+power-rest-requires c = omega (arith, within (goal.at.power-rest-requires c).After-highest-high)
 
 pub overflow_sub-rest : goal.overflow_sub-rest
-overflow_sub-rest c = omega (arith, c.power-rest.ensures, (high c).highest-high.ensures.power_low)
+overflow_sub-rest c = omega (arith, c.power-rest.ensures, c.highest-high.ensures.power_low)
 
 pub loop-rest-smaller : goal.loop-rest-smaller
 loop-rest-smaller c =
-    let some = pow_pos (high c).highest-high.result in
-    omega (arith, c.power-rest.ensures, (high c).highest-high.ensures.power_low)
+    let some = pow_pos c.highest-high.result in
+    omega (arith, c.power-rest.ensures, c.highest-high.ensures.power_low)
 
 pub loop-rest-preserved : goal.loop-rest-preserved
 loop-rest-preserved c =
-    let top = high c in
-    rest_more top.loop-rest.invariant _ top.highest-high.ensures.power_low top.highest-high.ensures.power_high c.bit_of.ensures
+    rest_more c.loop-rest.invariant _ c.highest-high.ensures.power_low c.highest-high.ensures.power_high c.bit_of.ensures
     c.power-rest.ensures c.turn_bit.ensures
 
 pub shape_of-block : goal.shape_of-block

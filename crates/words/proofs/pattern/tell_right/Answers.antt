@@ -19,32 +19,29 @@ over : (c : After-vertex_at-v) → c.vertex_at-v.result * c.args.d + c.args.plac
 over c = rw c.vertex_at-v.ensures (div-add-mod' c.args.place c.args.d)
 
 pub overflow_mul-v : goal.overflow_mul-v
-overflow_mul-v c = omega (arith, over c.before)
+overflow_mul-v c = omega (arith, over (goal.at.overflow_mul-v c).After-vertex_at-v)
 
 pub overflow_sub-place : goal.overflow_sub-place
-overflow_sub-place c = omega (arith, over c.before)
+overflow_sub-place c = omega (arith, over (goal.at.overflow_sub-place c).After-vertex_at-v)
 
 pub overflow_sub-d-2 : goal.overflow_sub-d-2
-overflow_sub-d-2 c = omega (arith, over c.before, mod-lt c.args.place c.requires.d_nonzero.0)
+overflow_sub-d-2 c = omega (arith, over (goal.at.overflow_sub-d-2 c).After-vertex_at-v, mod-lt c.args.place c.requires.d_nonzero.0)
 
 pub mark-requires : goal.mark-requires
 mark-requires c =
-    let s = c.before.before.before.before.before in
     let v = c.vertex_at-v in record {
-      kept_len = length-set {A = ℕ} s.args.kept.now v.result _ ∙ s.requires.kept_len;
+      kept_len = length-set {A = ℕ} c.args.kept.now v.result _ ∙ c.requires.kept_len;
       from_bound = omega (arith, c.news_of.ensures, marks-high SideName.Right);
-      v_bound = omega (arith, v.ensures, s.requires.d_bound);
+      v_bound = omega (arith, v.ensures, c.requires.d_bound);
     }
 
 pub returns : goal.returns
 unfolding told_right at news_of
 returns c =
-    let one = c.before.before.before.before.before in
-    let s = one.before in
-    let kept : List ℕ = s.args.kept.now in
-    let digit : s.args.d - 1 - (s.args.place - one.vertex_at-v.result * s.args.d) ≡ s.args.d - 1 - s.args.place % s.args.d =
-    omega (arith, over one) in
+    let kept : List ℕ = c.args.kept.now in
+    let digit : c.args.d - 1 - (c.args.place - c.vertex_at-v.result * c.args.d) ≡ c.args.d - 1 - c.args.place % c.args.d =
+    omega (arith, over (goal.at.returns c).After-vertex_at-v) in
     c.mark.ensures
-    ∙ ap₂ (λ (x from : ℕ). marked (set kept one.vertex_at-v.result x) from one.vertex_at-v.result)
-    (ap (bit_xor (get_or kept one.vertex_at-v.result 0)) (c.power.ensures ∙ ap (λ (i : ℕ). 2 ^ i) digit)) c.news_of.ensures
-    ∙ ap (λ (v : ℕ). marked (set kept v (bit_xor (get_or kept v 0) (2 ^ (s.args.d - 1 - s.args.place % s.args.d)))) 2176 v) one.vertex_at-v.ensures
+    ∙ ap₂ (λ (x from : ℕ). marked (set kept c.vertex_at-v.result x) from c.vertex_at-v.result)
+    (ap (bit_xor (get_or kept c.vertex_at-v.result 0)) (c.power.ensures ∙ ap (λ (i : ℕ). 2 ^ i) digit)) c.news_of.ensures
+    ∙ ap (λ (v : ℕ). marked (set kept v (bit_xor (get_or kept v 0) (2 ^ (c.args.d - 1 - c.args.place % c.args.d)))) 2176 v) c.vertex_at-v.ensures

@@ -27,31 +27,24 @@ overflow_cast-result c = omega (arith, c.type_inv.block c.args.v)
 
 pub returns-then-v-block : goal.returns-then-v-block
 returns-then-v-block c =
-    let one = c.before.before in
-    let known = one.before in
-    let args = known.args in
-    sym (one_byte args.block.now (λ k. omega (arith, known.type_inv.block k)) args.v args.d one.if-d-eq8.true)
+    let args = c.args in
+    sym (one_byte args.block.now (λ k. omega (arith, c.type_inv.block k)) args.v args.d c.if-d-eq8.true)
 
 pub returns-then-d-eq8 : goal.returns-then-d-eq8
 returns-then-d-eq8 c =
-    let one = c.before in
-    let known = one.before in
-    let args = known.args in
-    sym (one_byte args.block.now (λ k. omega (arith, known.type_inv.block k)) args.v args.d one.if-d-eq8.true
+    let args = c.args in
+    sym (one_byte args.block.now (λ k. omega (arith, c.type_inv.block k)) args.v args.d c.if-d-eq8.true
     ∙ get_or-eq_default args.block.now 0 {n = args.v} (omega arith))
 
 pub returns-then-d-eq16 : goal.returns-then-d-eq16
 returns-then-d-eq16 c =
-    let two = c.before in
-    let known = two.before.before in
-    let args = known.args in
+    let args = c.args in
     c.pair.ensures
-    ∙ sym (two_bytes args.block.now (λ k. omega (arith, known.type_inv.block k)) args.v args.d two.if-d-eq16.true)
+    ∙ sym (two_bytes args.block.now (λ k. omega (arith, c.type_inv.block k)) args.v args.d c.if-d-eq16.true)
 
 pub overflow_mul-v-2 : goal.overflow_mul-v-2
 overflow_mul-v-2 c =
-    let s = c.before.before.before in
-    omega (arith, edges_le s.args.v s.args.d (omega arith) (omega arith))
+    omega (arith, edges_le c.args.v c.args.d (omega arith) (omega arith))
 
 pub returns : goal.returns
 returns c = c.word_at.ensures

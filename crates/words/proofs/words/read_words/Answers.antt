@@ -21,10 +21,7 @@ use Rattle.wiring.proofs.Plans.{fitted-sheet, plan-fits, plan-whole, plan-few}
 use Rattle.words.specs.Marks.{Cleared}
 use Rattle.words.proofs.RightWords.{words_more}
 use Rattle.words.proofs.words.read_words.Goals as goal
-use Rattle.words.proofs.words.read_words.Goals.{After-shared_slice_known-5-1, In-loop-v, Start}
-
-abbrev start : After-shared_slice_known-5-1 → Start
-start c = c.before.before.before.before.before
+use Rattle.words.proofs.words.read_words.Goals.{In-loop-v, Start}
 
 abbrev plan_in : Start → Plan
 plan_in c = plan_of c.args.left.now c.args.right.now c.args.nl c.args.nr c.args.wiring.now
@@ -37,32 +34,29 @@ room : (c : Start) → edge_count (plan_in c) ≤ length c.args.block.now * 8
 room c = block_room (edge_count (plan_in c)) c.args.block.now c.requires.plan_value
 
 pub bounds-right-0 : goal.bounds-right-0
-bounds-right-0 c = fitted-sheet _ (plan-fits (plan_in (start c)) (accepted (start c)) right)
+bounds-right-0 c = fitted-sheet _ (plan-fits (plan_in (goal.at.bounds-right-0 c).Start) (accepted (goal.at.bounds-right-0 c).Start) right)
 
 pub overflow_cast-d : goal.overflow_cast-d
 overflow_cast-d c = omega (arith, c.type_inv.right 0)
 
 pub loop-v-init : goal.loop-v-init
-loop-v-init c = (search rules, (start c).requires.1.1, λ u l. absurd (omega arith))
-
-abbrev begin : In-loop-v → Start
-begin c = start c.before.before
+loop-v-init c = (search rules, c.requires.1.1, λ u l. absurd (omega arith))
 
 -- the entries of vertex v
 last_entry : (c : In-loop-v)
-    → c.loop-v.v * degree (begin c).args.right.now + degree (begin c).args.right.now ≤ 32768
+    → c.loop-v.v * degree c.args.right.now + degree c.args.right.now ≤ 32768
 last_entry c =
-    let fits = plan-fits (plan_in (begin c)) (accepted (begin c)) right in
+    let fits = plan-fits (plan_in c.before.before.before.before.before.before.before.before) (accepted c.before.before.before.before.before.before.before.before) right in
     omega (
       arith,
       fitted-vertex fits c.loop-v.v (omega arith),
       fits.sized,
-      (plan-whole (plan_in (begin c)) (accepted (begin c)) right).entries,
-      plan-few (plan_in (begin c)) (accepted (begin c)),
+      (plan-whole (plan_in c.before.before.before.before.before.before.before.before) (accepted c.before.before.before.before.before.before.before.before) right).entries,
+      plan-few (plan_in c.before.before.before.before.before.before.before.before) (accepted c.before.before.before.before.before.before.before.before),
     )
 
 few : (c : In-loop-v) → c.loop-v.v < 2048
-few c = omega (arith, (plan-fits (plan_in (begin c)) (accepted (begin c)) right).n-high)
+few c = omega (arith, (plan-fits (plan_in c.before.before.before.before.before.before.before.before) (accepted c.before.before.before.before.before.before.before.before) right).n-high)
 
 pub overflow_mul-v : goal.overflow_mul-v
 unfolding degree
@@ -71,41 +65,40 @@ overflow_mul-v c = omega (arith, last_entry c)
 pub gathered-requires : goal.gathered-requires
 unfolding degree side_bit
 gathered-requires c =
-    let plan = plan_in (begin c) in
-    let fits = plan-fits plan (accepted (begin c)) right in
-    let whole = plan-whole plan (accepted (begin c)) right in record {
+    let plan = plan_in (goal.at.gathered-requires c).Start in
+    let fits = plan-fits plan (accepted (goal.at.gathered-requires c).Start) right in
+    let whole = plan-whole plan (accepted (goal.at.gathered-requires c).Start) right in record {
       d_bound = fits.d-high;
       d_in_bounds = fitted-vertex fits c.loop-v.v (omega arith);
-      edges_in_block = λ j l. le_trans (whole.bit-lt _ (entry_lt whole c.loop-v.v j (omega arith) l)) (room (begin c));
+      edges_in_block = λ j l. le_trans (whole.bit-lt _ (entry_lt whole c.loop-v.v j (omega arith) l)) (room (goal.at.gathered-requires c).Start);
     }
 
 pub offset_bounds-kept-v : goal.offset_bounds-kept-v
-offset_bounds-kept-v c = omega (arith, few c.before)
+offset_bounds-kept-v c = omega (arith, few (goal.at.offset_bounds-kept-v c).In-loop-v)
 
 pub bounds-kept-v : goal.bounds-kept-v
-bounds-kept-v c = omega (arith, few c.before)
+bounds-kept-v c = omega (arith, few (goal.at.bounds-kept-v c).In-loop-v)
 
 pub loop-v-preserved : goal.loop-v-preserved
 unfolding degree vertex_word word_from side_bit
 loop-v-preserved c =
     let turn = c.loop-v in
-    let first = begin c.before in (
+    (
       omega arith,
       record {
         sized = length-set turn.auto turn.v _ ∙ turn.invariant.1.sized;
-        each = λ i l h. at_set_other turn.auto turn.v i _ (omega (arith, few c.before)) ∙ turn.invariant.1.each i l h;
+        each = λ i l h. at_set_other turn.auto turn.v i _ (omega (arith, few (goal.at.loop-v-preserved c).In-loop-v)) ∙ turn.invariant.1.each i l h;
       },
-      words_more (side_of (plan_in first) right) first.args.block.now turn.auto turn.v _
-          (omega (arith, turn.invariant.1.sized, few c.before)) refl turn.invariant.2 c.gathered.ensures,
+      words_more (side_of (plan_in (goal.at.loop-v-preserved c).Start) right) c.args.block.now turn.auto turn.v _
+          (omega (arith, turn.invariant.1.sized, few (goal.at.loop-v-preserved c).In-loop-v)) refl turn.invariant.2 c.gathered.ensures,
     )
 
 pub returns : goal.returns
 returns c =
-    let first = start c.before.before in
-    let end : c.loop-v.v ≡ first.args.nr = omega arith in record {
+    let end : c.loop-v.v ≡ c.args.nr = omega arith in record {
       words_read = record {
         sized = c.loop-v.invariant.1.sized;
-        room = rw (plan-whole (plan_in first) (accepted first) right).entries (room first);
+        room = rw (plan-whole (plan_in (goal.at.returns c).Start) (accepted (goal.at.returns c).Start) right).entries (room (goal.at.returns c).Start);
         each = rw end at c.loop-v.invariant.2;
       };
       still_cleared = c.loop-v.invariant.1;
