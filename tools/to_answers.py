@@ -403,7 +403,7 @@ def convert(crate, fn_path, text, entry, source):
                 continue
             args = [a for a in d.group(1).split() if a != "κs"]
             rest = after[d.end():]
-            if rest.strip() == "search rules":
+            if rest.strip() == "search rules" and not unf:
                 continue
             if new in f.asked:
                 rest = to_record(rest, f.asked[new])

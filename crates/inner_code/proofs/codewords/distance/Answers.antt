@@ -10,7 +10,11 @@ use Rattle.bits.specs.Search.{least}
 use Rattle.inner_code.specs.Reduction.{fewest_ones}
 use Rattle.inner_code.proofs.InnerDistance.{fewest-lower, fewest-kept, fewest-zero}
 use Rattle.inner_code.proofs.codewords.distance.Goals as goal
-use Rattle.inner_code.proofs.codewords.distance.Goals.{then-word-ne0}
+use Rattle.inner_code.proofs.codewords.distance.Goals.{then-word-ne0+then-ones-fewest, then-word-ne0+else-ones-fewest, else-word-ne0}
+
+pub loop-m-init : goal.loop-m-init
+unfolding fewest_ones
+loop-m-init c = search rules
 
 pub loop-m-preserved : goal.loop-m-preserved
 unfolding at
@@ -18,9 +22,11 @@ loop-m-preserved c =
     let before = c.loop-m in
     let words = at c.args.words.now in (
       search rules,
-      ⊎_elim (λ w. w.2 ∙ fewest-lower words before.m before.fewest before.invariant.1 w.0.true w.1.true)
-          (⊎_elim (λ w. w.2 ∙ fewest-kept words before.m before.fewest before.invariant.1 w.0.true w.1.left)
-          (λ w. w.1 ∙ fewest-zero words before.m before.fewest before.invariant.1 w.0.left)) c.if-word-ne0.branch,
+      elim c.if-word-ne0.branch [
+        | then-word-ne0+then-ones-fewest w ↦ w.fewest-is ∙ fewest-lower words before.m before.fewest before.invariant.1 w.if-word-ne0.true w.if-ones-fewest.true
+        | then-word-ne0+else-ones-fewest w ↦ w.fewest-is ∙ fewest-kept words before.m before.fewest before.invariant.1 w.if-word-ne0.true w.if-ones-fewest.false
+        | else-word-ne0 w ↦ w.fewest-is ∙ fewest-zero words before.m before.fewest before.invariant.1 w.if-word-ne0.false
+      ],
     )
 
 pub returns : goal.returns

@@ -10,6 +10,10 @@ use Rattle.inner_code.proofs.EchelonForm.{reduced_by-put, reduced_by-kept}
 use Rattle.inner_code.proofs.membership.residue.Goals as goal
 use Rattle.inner_code.proofs.membership.residue.Goals.{else-put-left, then-put-left}
 
+pub loop-i-init : goal.loop-i-init
+unfolding reduced_by
+loop-i-init c = search rules
+
 pub returns-then-i-eq11 : goal.returns-then-i-eq11
 returns-then-i-eq11 c =
     let last : c.loop-i.i ≡ min c.args.count 11 = omega arith in
@@ -25,8 +29,8 @@ loop-i-preserved c =
       search rules,
       search rules,
       (elim c.if-put-left.branch [
-          | then-put-left w ↦ w.1 ∙ reduced_by-put basis before.i args.word before.left before.invariant.2 w.if-put-left.true
-          | else-put-left w ↦ w.1 ∙ reduced_by-kept basis before.i args.word before.left before.invariant.2 w.if-put-left.false
+          | then-put-left w ↦ w.left-is ∙ reduced_by-put basis before.i args.word before.left before.invariant.2 w.if-put-left.true
+          | else-put-left w ↦ w.left-is ∙ reduced_by-kept basis before.i args.word before.left before.invariant.2 w.if-put-left.false
         ]),
     )
 

@@ -17,7 +17,11 @@ use Rattle.inner_code.proofs.nearest.nearest_listed.Goals.{After-shared_slice_kn
 -- a pattern has 16 digits
 pattern_lt : (c : After-shared_slice_known-in-loop-m-1)
     → bit_xor (get_or c.args.words.now c.loop-m.m 0) c.args.word < 2 ^ 16
-pattern_lt c = xor_lt 16 _ _ (c.type_inv.words c.loop-m.m).fits c.fits.word.fits
+pattern_lt c = xor_lt 16 _ _ (c.type_inv.words c.loop-m.m).fits c.ranges.word.fits
+
+pub loop-m-init : goal.loop-m-init
+unfolding least_key least_back
+loop-m-init c = search rules
 
 pub overflow_mul-ones : goal.overflow_mul-ones
 overflow_mul-ones c = omega (arith, ones-le 16 _ (pattern_lt c))
