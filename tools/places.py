@@ -13,12 +13,16 @@ class Places:
         self.parent = {}
         self.new = {}
         self.typed = {}
+        self.arm = {}
         self.step_new = {}
         for i, p in enumerate(entry["places"]):
             o = from_old(p[0])
             self.parent[o] = from_old(p[1]) if p[1] else None
             self.new[o] = entry["places_by_name"][i]
             self.typed[o] = entry["typed"][i] if i < len(entry["typed"]) else []
+            arm = entry["arms"][i]
+            if arm:
+                self.arm[o] = arm[1]
             if p[2] and p[2][0]:
                 self.step_new[p[2][0]] = p[2][1]
 
@@ -46,6 +50,12 @@ class File:
         self.result = {}
         self.arg_at = {}
         self.used = set()
+        self.inline = {}
+
+    def inlined(self, name, root):
+        binder, text = self.inline[name]
+        new = re.sub(r"(?<![" + IDC + r".-])" + re.escape(binder) + r"\.", lambda m: root + ".", text)
+        return f"({new})" if " " in new else new
 
     # ---- signatures
     def collect(self, chunks):
@@ -91,6 +101,8 @@ class File:
             return f"(goal.at.{goal} {root}).{q}"
         d = self.pl.dist(rplace, place)
         k = (d or 0) + (1 if self.pl.typed.get(rplace) else 0)
+        if rplace in self.pl.arm and self.pl.typed.get(rplace) and (d or 0) >= self.pl.arm[rplace]:
+            k += 1 - self.pl.arm[rplace]
         raw = root + ".before" * k
         if not self.pl.typed.get(place):
             return raw
@@ -189,6 +201,18 @@ class File:
                         out.append(root if f else self.atom(p, root, rp, goal))
                         i = e
                         continue
+                if w in self.inline:
+                    if w in self.local:
+                        out.append(self.inlined(w, self.local[w]))
+                        i = m.end()
+                        continue
+                    r = parse_atom(m.end())
+                    if r:
+                        f = re.compile(r"\.[A-Za-z0-9«]").match(text, r[0])
+                        if not f:
+                            out.append(self.inlined(w, r[2]))
+                            i = r[0]
+                            continue
                 if w in self.domain and w not in self.result:
                     sp = re.compile(r"(\s*)").match(text, m.end())
                     r = parse_atom(m.end()) if sp.group(1) else None
@@ -212,7 +236,11 @@ class File:
     def chunk(self, ch, mod):
         """A chunk of declarations, turned."""
         env0 = {}
+        self.local = {}
         if mod:
+            for name in self.modlocal.get(mod, ()):
+                if name in self.inline:
+                    self.local[name] = mod[0]
             env0[mod[0]] = (mod[1], mod[0], mod[1])
             for name, q in self.result.items():
                 if self.domain.get(name) == mod[1] and name in self.modlocal.get(mod, ()):
@@ -256,7 +284,17 @@ class File:
         else:
             k = sig.find(" : ") + 3
             sig = sig[:k] + self.run(sig[k:], env0, None)
-        return head + sig + deff + self.run(body, env, goal)
+        new = self.run(body, env, goal)
+        if not g and ch[m.start():].lstrip().startswith("abbrev") and "\n" not in new.strip() and "--" not in new:
+            root = None
+            if mod and name in self.modlocal.get(mod, ()) and not args:
+                root = mod[0]
+            elif name in self.domain and len(args) == 1 and not mod:
+                root = args[0]
+            if root and not re.search(r"(?<![" + IDC + r".-])" + re.escape(root) + r"(?![" + IDC + r".-])", new):
+                self.inline[name] = (root, new.strip())
+                return "\n".join(L for L in head.split("\n") if L.startswith("--"))
+        return head + sig + deff + new
 
     def turn(self, chunks):
         self.collect(chunks)

@@ -108,6 +108,8 @@ class Function:
         if i >= len(segs):
             return out
         s = segs[i]
+        if s.endswith("_lem") and norm(s[:-4]) in self.steps:
+            s = s[:-4]
         if s in ("pre", "requires"):
             out.append("requires")
             i += 1
@@ -371,7 +373,7 @@ def convert(crate, fn_path, text, entry, source):
                 rest = ch[m.end() + d.end():]
                 if extra:
                     rest = " -- look: %d parameters, %d variables" % (len(ps), len(full)) + rest
-                rest = re.sub(r"(?<![\w'₀-₉.-])([\w'₀-₉-]+)", lambda q: sub.get(q.group(1), q.group(1)), rest)
+                rest = re.sub(r"(?<![\w'₀-₉.-])([\w'₀-₉-]+)(?! = )(?![\w'-])", lambda q: sub.get(q.group(1), q.group(1)), rest)
                 unf = re.search(r"^unfolding.*\n", ch[m.end():m.end() + d.start()], re.M)
                 lead = ch[:m.start()]
                 ch2 = f"{lead}abbrev pub {want} : goal.{want}\n" + (unf.group(0) if unf else "") + f"{want} l ={rest}"
@@ -389,6 +391,8 @@ def convert(crate, fn_path, text, entry, source):
                         del f.temps[k]
                         break
             after = ch[m.end():]
+            if new is None and after.strip().endswith("= search rules"):
+                continue
             if new is None:
                 ans_chunks.append("-- look: no goal for `%s`\n" % old + re.sub(r"^", "-- ", ch, flags=re.M))
                 continue
@@ -403,7 +407,7 @@ def convert(crate, fn_path, text, entry, source):
                 continue
             args = [a for a in d.group(1).split() if a != "κs"]
             rest = after[d.end():]
-            if rest.strip() == "search rules" and not unf:
+            if re.fullmatch(r"\s*search rules\s*", rest) and not unf:
                 continue
             if new in f.asked:
                 rest = to_record(rest, f.asked[new])
@@ -427,6 +431,7 @@ def convert(crate, fn_path, text, entry, source):
     ans = re.sub(r"\.inv\b(?!-)", ".invariant", ans)
     ans = re.sub(r"\.taken\b(?!-)", ".true", ans)
     ans = re.sub(r"\.pre\b(?!-)", ".requires", ans)
+    ans = re.sub(r"\(\(([^()]*)\)\)", r"(\1)", ans)
     cases = set()
     ans = branches(ans, cases)
     places |= cases

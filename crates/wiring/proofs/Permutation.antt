@@ -69,10 +69,10 @@ entry-back N edge i low fresh =
 entries-each : {values : List ℕ} (N : ℕ) (edge : ℕ → ℕ) (m : ℕ) → entries_check N edge m ≡ done values → (i : ℕ) → i < m
     → (edge i < N) × ((j : ℕ) → j < i → edge j ≡ edge i → ⊥)
 unfolding entries_check
-entries-each N edge zero e i l = absurd (not-suc-le-zero l)
+entries-each {values} N edge zero e i l = absurd (not-suc-le-zero l)
 entries-each {values} N edge (suc m) e i l =
     let ((passed, before), last) = and_then-done _ _ values e in
-    ⊎_elim (λ (q : i ≡ m). rw q (entry-passed N edge m last)) (λ (k : i < m). entries-each N edge m before i k)
+    ⊎_elim (λ (q : i ≡ m). rw q (entry-passed N edge m last)) (λ (k : i < m). entries-each {values = passed} N edge m before i k)
     (eq-or-lt_of_le (le_of_suc-le-suc l))
 
 pub entries-passed : {values : List ℕ} (N : ℕ) (edge : ℕ → ℕ) (m : ℕ) → entries_check N edge m ≡ done values → Entries N edge m

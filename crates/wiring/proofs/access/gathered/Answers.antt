@@ -16,12 +16,9 @@ pub loop-j-init : goal.loop-j-init
 loop-j-init c = (search rules, ap (λ (x : ℕ). x * 128) (sym (word-from-none _ _ _)))
 
 -- the bits of the first j entries: a word of at most sixteen digits
-abbrev word : At-loop-j → ℕ
-word c =
-    let args = c.args in word_from (edge_of args.wiring.now) args.block.now args.base c.loop-j.j
 
-word_lt : (c : At-loop-j) → word c < 65536
-word_lt c = word-from-lt _ _ _ c.loop-j.j (word c) refl (omega arith)
+word_lt : (c : At-loop-j) → (let args = c.args in word_from (edge_of args.wiring.now) args.block.now args.base c.loop-j.j) < 65536
+word_lt c = word-from-lt _ _ _ c.loop-j.j ((let args = c.args in word_from (edge_of args.wiring.now) args.block.now args.base c.loop-j.j)) refl (omega arith)
 
 pub bounds-block-edge : goal.bounds-block-edge
 bounds-block-edge c =
@@ -49,7 +46,7 @@ loop-j-preserved c =
         arith,
         c.loop-j.invariant.1,
         digit-moved 32 (get_or block byte 0) (edge.result % 8) (omega arith) small (omega arith),
-        word-from-one-more (edge_of args.wiring.now) block args.base c.loop-j.j (word (goal.at.loop-j-preserved c).At-loop-j) _ _ refl refl edge.ensures,
+        word-from-one-more (edge_of args.wiring.now) block args.base c.loop-j.j ((let args = c.args in word_from (edge_of args.wiring.now) args.block.now args.base c.loop-j.j)) _ _ refl refl edge.ensures,
       ),
     )
 

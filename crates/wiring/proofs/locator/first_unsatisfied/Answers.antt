@@ -10,13 +10,8 @@ use Rattle.wiring.specs.Access.{both_codes, unsatisfied_by}
 use Rattle.wiring.specs.declared.side.SideCode.{SideCode}
 use Rattle.wiring.specs.declared.side.SideName.{SideName}
 use Rattle.wiring.proofs.Locating.{found_by, by-none, by-one-more, by-found, located-found, located-nowhere}
+use Rattle.wiring.proofs.locator.first_unsatisfied.Invariants.{after}
 use Rattle.wiring.proofs.locator.first_unsatisfied.Goals as goal
-use Rattle.wiring.proofs.locator.first_unsatisfied.Goals.{Start}
-
--- the sides still to come
-abbrev after : SideName → ℕ
-after SideName.Left = 1
-after SideName.Right = 0
 
 module _ (codes : SideName → SideCode) (wiring block : List ℕ) (code : SideCode) (side : SideName) (held : code ≡ codes side) where
   -- at the end of a side all its vertices have passed
@@ -39,14 +34,11 @@ search-init c = λ e. absurd (left-not-right e)
 pub loop-v-init : goal.loop-v-init
 loop-v-init c = (search rules, by-none _ _ _ _)
 
-abbrev codes_in : Start → SideName → SideCode
-codes_in c = both_codes c.args.left c.args.right
-
 pub read_word-word-requires : goal.read_word-word-requires
 read_word-word-requires c =
     let side = c.search.side in
-    let held = c.code_of_lem.ensures in
-    let below : c.loop-v.v < (codes_in (goal.at.read_word-word-requires c).Start side).n = omega (arith, ap (λ (x : SideCode). x.n) held) in
+    let held = c.code_of-code.ensures in
+    let below : c.loop-v.v < ((both_codes c.args.left c.args.right) side).n = omega (arith, ap (λ (x : SideCode). x.n) held) in
     rw held (c.requires.each side c.loop-v.v below)
 
 pub loop-v-preserved : goal.loop-v-preserved
@@ -61,17 +53,17 @@ search-smaller c = rw c.in-Left.is (omega arith)
 
 pub search-preserved : goal.search-preserved
 search-preserved c =
-    λ e. side-passed (codes_in (goal.at.search-preserved c).Start) _ _ _ _ c.code_of_lem.ensures left _ c.in-Left.is (omega arith) c.loop-v.invariant.1
+    λ e. side-passed ((both_codes c.args.left c.args.right)) _ _ _ _ c.code_of-code.ensures left _ c.in-Left.is (omega arith) c.loop-v.invariant.1
 
 pub returns-then-residue-ne0 : goal.returns-then-residue-ne0
 returns-then-residue-ne0 c =
     let before = c.loop-v in
     let side = c.search in
-    let held = c.code_of_lem.ensures in
+    let held = c.code_of-code.ensures in
     ap done
     (sym
-    (located-found (codes_in (goal.at.returns-then-residue-ne0 c).Start) _ _ side.side before.v side.invariant
-    (side-found (codes_in (goal.at.returns-then-residue-ne0 c).Start) _ _ _ _ held _
+    (located-found ((both_codes c.args.left c.args.right)) _ _ side.side before.v side.invariant
+    (side-found ((both_codes c.args.left c.args.right)) _ _ _ _ held _
     (by-found _ _ _ _ _ _ _ _ (omega arith) before.invariant.1 c.read_word-word.ensures c.residue.ensures c.if-residue-ne0.true))
     (omega (arith, ap (λ (x : SideCode). x.n) held))))
 
@@ -79,5 +71,5 @@ pub returns-in-Right : goal.returns-in-Right
 returns-in-Right c =
     ap done
     (sym
-    (located-nowhere (codes_in (goal.at.returns-in-Right c).Start) _ _ (c.search.invariant c.in-Right.is)
-    (side-passed (codes_in (goal.at.returns-in-Right c).Start) _ _ _ _ c.code_of_lem.ensures right _ c.in-Right.is (omega arith) c.loop-v.invariant.1)))
+    (located-nowhere ((both_codes c.args.left c.args.right)) _ _ (c.search.invariant c.in-Right.is)
+    (side-passed ((both_codes c.args.left c.args.right)) _ _ _ _ c.code_of-code.ensures right _ c.in-Right.is (omega arith) c.loop-v.invariant.1)))

@@ -11,9 +11,14 @@ use Rattle.wiring.specs.declared.side.SideName.{SideName}
 use Rattle.wiring.proofs.Locating.{found_by, by-none, by-one-more, by-found, located-found, located-nowhere}
 use Rattle.wiring.proofs.locator.first_unsatisfied.Given as goal
 
+-- the sides still to come
+abbrev pub after : SideName → ℕ
+after SideName.Left = 1
+after SideName.Right = 0
+
 abbrev pub invariant-loop-v : goal.invariant-loop-v
 invariant-loop-v l =
-    (l.v ≤ l.n) × (unsatisfied_by (record { l.n = l.n; l.d = l.d; l.k = l.k; l.basis = l.basis }) l.side l.wiring l.v l.block ≡ l.v)
+    (l.v ≤ l.n) × (unsatisfied_by (record { n = l.n; d = l.d; k = l.k; basis = l.basis }) l.side l.wiring l.v l.block ≡ l.v)
 
 abbrev pub decreases-loop-v : goal.decreases-loop-v
 decreases-loop-v l = l.n - l.v

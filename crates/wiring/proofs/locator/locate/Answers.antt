@@ -11,12 +11,9 @@ use Rattle.wiring.proofs.Locating.{answer-plan-refused, answer-block-refused, an
 use Rattle.wiring.proofs.VertexAccess.{codes-readable}
 use Rattle.wiring.proofs.Blocks.{block_room}
 use Rattle.wiring.proofs.locator.locate.Goals as goal
-use Rattle.wiring.proofs.locator.locate.Goals.{In-Passed, Start}
+use Rattle.wiring.proofs.locator.locate.Goals.{In-Passed}
 
-abbrev plan_in : Start → Plan
-plan_in c = plan_of c.args.left.now c.args.right.now c.args.nl c.args.nr c.args.wiring.now
-
-plan : (c : In-Passed) → PlanAccepted (plan_in c.before.before.before.before.before.before.before.before) c.check_plan-plan.result
+plan : (c : In-Passed) → PlanAccepted ((plan_of c.args.left.now c.args.right.now c.args.nl c.args.nr c.args.wiring.now)) c.check_plan-plan.result
 plan c = plan-accepted _ _ c.check_plan-plan.ensures c.in-Passed.is
 
 pub overflow_mul-plan : goal.overflow_mul-plan

@@ -10,12 +10,9 @@ use Rattle.wiring.specs.declared.side.SideCode.{SideCode}
 use Rattle.wiring.proofs.Permutation.{fitted-vertex}
 use Rattle.wiring.proofs.Plans.{PlanAccepted, plan-accepted, plan-refused, piece-refused, piece-past, piece-part}
 use Rattle.wiring.proofs.piece.piece_of.Goals as goal
-use Rattle.wiring.proofs.piece.piece_of.Goals.{In-Passed, Start, Then-v-nr}
+use Rattle.wiring.proofs.piece.piece_of.Goals.{In-Passed, Then-v-nr}
 
-abbrev plan_in : Start → Plan
-plan_in c = plan_of c.args.left.now c.args.right.now c.args.nl c.args.nr c.args.wiring.now
-
-plan : (c : In-Passed) → PlanAccepted (plan_in c.before.before.before.before.before.before.before) c.check_plan-plan.result
+plan : (c : In-Passed) → PlanAccepted ((plan_of c.args.left.now c.args.right.now c.args.nl c.args.nr c.args.wiring.now)) c.check_plan-plan.result
 plan c = plan-accepted _ _ c.check_plan-plan.ensures c.in-Passed.is
 
 d-is : (c : In-Passed) → c.check_plan-plan.result.right.d ≡ degree c.args.right.now

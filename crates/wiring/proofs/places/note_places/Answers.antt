@@ -10,17 +10,15 @@ use Rattle.wiring.specs.Plan.{edge_of}
 use Rattle.wiring.specs.Checking.{Permuted}
 use Rattle.wiring.proofs.EdgePlaces.{places-more}
 use Rattle.wiring.proofs.places.note_places.Goals as goal
-use Rattle.wiring.proofs.places.note_places.Goals.{After-edge_at, At-loop-i}
+use Rattle.wiring.proofs.places.note_places.Goals.{After-edge_at}
 
 -- the edges stand at the entries, each once
-abbrev stand : (c : At-loop-i) → Permuted (length c.args.wiring.now / 2) c.args.wiring.now
-stand c = c.requires.permuted
 
 pub loop-i-init : goal.loop-i-init
 loop-i-init c = (search rules, refl, λ j l. absurd (omega arith), kept-start _ _)
 
 edge-lt : (c : After-edge_at) → c.edge_at.result < length c.args.wiring.now / 2
-edge-lt c = rw c.edge_at.ensures ((stand (record { before = c.before.before.before; type_inv = record { wiring = c.shared_slice_known-1.given; } })).edge-lt c.loop-i.i (omega arith))
+edge-lt c = rw c.edge_at.ensures ((c.requires.permuted).edge-lt c.loop-i.i (omega arith))
 
 pub offset_bounds-places-edge_at : goal.offset_bounds-places-edge_at
 offset_bounds-places-edge_at c = omega (arith, edge-lt c, c.requires.wiring_len_bound)
@@ -31,7 +29,7 @@ bounds-places-edge_at c = omega (arith, edge-lt c, c.requires.wiring_in_bounds, 
 pub loop-i-preserved : goal.loop-i-preserved
 loop-i-preserved c =
     let turn = c.loop-i in
-    let once = (stand (goal.at.loop-i-preserved c).At-loop-i).edge-once in (
+    let once = (c.requires.permuted).edge-once in (
       omega arith,
       length-set turn.places c.edge_at.result turn.i ∙ turn.invariant.1,
       places-more _ turn.places turn.i _ c.edge_at.ensures

@@ -59,8 +59,8 @@ loop-e-preserved c =
     let marks = at c.loop-i.marks in (
       omega arith,
       (elim c.if-mark-least.branch [
-          | then-mark-least w ↦ w.1 ∙ least-lowered marks turn.e turn.least turn.invariant.1 w.if-mark-least.true
-          | else-mark-least w ↦ w.1 ∙ least_kept marks turn.e turn.least turn.invariant.1 w.if-mark-least.false
+          | then-mark-least w ↦ w.least-is ∙ least-lowered marks turn.e turn.least turn.invariant.1 w.if-mark-least.true
+          | else-mark-least w ↦ w.least-is ∙ least_kept marks turn.e turn.least turn.invariant.1 w.if-mark-least.false
         ]),
     )
 

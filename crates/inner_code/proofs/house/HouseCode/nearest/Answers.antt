@@ -3,10 +3,6 @@ use borrow.Author.Rules.{rules}
 use Rattle.inner_code.proofs.HouseWords.{house_words, house_words-rule}
 use Rattle.inner_code.proofs.house.HouseCode.nearest.Goals as goal
 
--- look: no goal for `array-read-result`
--- array-read-result : tie.Need-array-read-result
--- array-read-result c = search rules
-
 pub returns : goal.returns
 unfolding house_words
 returns c = house_words-rule c.args.word (search rules)
