@@ -21,7 +21,7 @@ loop-j-preserved c =
     let b = args.value % 2 in (
       search rules,
       c.make.ensures
-          ∙ pairs_made-next b args.lost.now args.block.now c.loop-j.j _ _ c.loop-j.block c.start_of_lem.ensures.0
+          ∙ pairs_made-next b args.lost.now args.block.now c.loop-j.j _ _ c.loop-j.block c.start_of-start.ensures.0
           c.length_of.ensures.0 c.loop-j.invariant.1,
     )
 

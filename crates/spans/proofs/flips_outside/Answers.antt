@@ -27,7 +27,7 @@ counted c =
     let lost = args.lost.now in
     ap₂ ◌+◌ c.loop-j.invariant.3
     (c.flips_between-count.ensures
-    ∙ ap₂ (flips_between args.a.now args.b.now) c.loop-j.invariant.1 c.start_of_lem.ensures.0)
+    ∙ ap₂ (flips_between args.a.now args.b.now) c.loop-j.invariant.1 c.start_of-start.ensures.0)
     ∙ sym (gaps-one-more lost args.a.now args.b.now c.loop-j.j)
 
 pub overflow_add-count : goal.overflow_add-count
@@ -38,16 +38,16 @@ overflow_add-count c =
       arith,
       gaps-le args.lost.now args.a.now args.b.now turn.j,
       c.flips_between-count.ensures,
-      between_le args.a.now args.b.now turn.reach c.start_of_lem.result,
+      between_le args.a.now args.b.now turn.reach c.start_of-start.result,
     )
 
 pub loop-j-preserved : goal.loop-j-preserved
 loop-j-preserved c =
     let turn = c.loop-j in
     let lost = c.args.lost.now in
-    let begins = c.start_of_lem.ensures in
+    let begins = c.start_of-start.ensures in
     let size = c.length_of.ensures in
-    let end : c.start_of_lem.result + c.length_of.result ≡ end_of lost turn.j =
+    let end : c.start_of-start.result + c.length_of.result ≡ end_of lost turn.j =
     omega (arith, begins.0, size.0, end_is lost turn.j) in (
       search rules,
       (elim c.if-reach-end.branch [

@@ -18,14 +18,11 @@ use Rattle.decoder.specs.Answer.{decode_check, decode_reply, Decodes}
 use Rattle.decoder.specs.declared.decoding.Decoding.{Decoding}
 use Rattle.decoder.proofs.Settling.{decode-stopped, check-plan, check-block, check-spans, check-short, check-limit, check-passed}
 use Rattle.decoder.proofs.decoding.decode.Goals as goal
-use Rattle.decoder.proofs.decoding.decode.Goals.{After-check_block, After-check_spans, After-struct_known-1, In-Passed-check_block, In-Passed-check_spans, Start}
-
-abbrev plan_in : Start → Plan
-plan_in c = plan_of c.args.left.now c.args.right.now c.args.nl c.args.nr c.args.wiring.now
+use Rattle.decoder.proofs.decoding.decode.Goals.{After-check_block, After-check_spans, After-struct_known-1, In-Passed-check_block, In-Passed-check_spans}
 
 -- ---- an accepted plan
 
-plan : (c : After-struct_known-1) → PlanAccepted (plan_in c.before.before.before.before.before.before.before.before.before.before.before) c.check_plan-plan.result
+plan : (c : After-struct_known-1) → PlanAccepted (plan_of c.args.left.now c.args.right.now c.args.nl c.args.nr c.args.wiring.now) c.check_plan-plan.result
 plan c = plan-accepted _ _ c.check_plan-plan.ensures c.in-Passed.is
 
 pub overflow_mul-plan : goal.overflow_mul-plan
@@ -35,15 +32,15 @@ overflow_mul-plan c =
 
 -- the check of the block at the plan's number of edges
 checked : (c : After-check_block) (reply : Reply) → check_reply c.check_block.result ≡ reply
-    → block_check (edge_count (plan_in c.before.before.before.before.before.before.before.before.before.before.before.before)) c.args.received.now ≡ reply
+    → block_check (edge_count (plan_of c.args.left.now c.args.right.now c.args.nl c.args.nr c.args.wiring.now)) c.args.received.now ≡ reply
 checked c reply e =
     ap (λ (N : ℕ). block_check N c.args.received.now) (sym (accepted-edges (plan (record { before = c.before.before; type_inv = record { output = c.slice_known-1.given; lost = c.shared_slice_known-5-1.given; received = c.shared_slice_known-4-1.given; wiring = c.shared_slice_known-3-1.given; right = c.shared_slice_known-2-1.given; left = c.shared_slice_known-1.given; } }))))
     ∙ sym c.check_block.ensures ∙ e
 
 -- ---- a block that passes
 
-block : (c : In-Passed-check_block) → block_check (edge_count (plan_in c.before.before.before.before.before.before.before.before.before.before.before.before.before.before)) c.args.received.now ≡ done []
-block c = checked (record { before = c.before.before.before; type_inv = record { output = c.slice_known-1.given; lost = c.shared_slice_known-5-1.given; received = c.shared_slice_known-4-1.given; wiring = c.shared_slice_known-3-1.given; right = c.shared_slice_known-2-1.given; left = c.shared_slice_known-1.given; } }) (done []) (ap check_reply c.in-Passed-check_block.is)
+block : (c : In-Passed-check_block) → block_check (edge_count (plan_of c.args.left.now c.args.right.now c.args.nl c.args.nr c.args.wiring.now)) c.args.received.now ≡ done []
+block c = checked (record { before = c.before.before; type_inv = record { output = c.slice_known-1.given; lost = c.shared_slice_known-5-1.given; received = c.shared_slice_known-4-1.given; wiring = c.shared_slice_known-3-1.given; right = c.shared_slice_known-2-1.given; left = c.shared_slice_known-1.given; } }) (done []) (ap check_reply c.in-Passed-check_block.is)
 
 pub overflow_mul-plan-in-Passed-check_block : goal.overflow_mul-plan-in-Passed-check_block
 overflow_mul-plan-in-Passed-check_block c =
@@ -52,14 +49,14 @@ overflow_mul-plan-in-Passed-check_block c =
 
 -- the check of the list at the plan's number of edges
 listed : (c : After-check_spans) (reply : Reply) → check_reply c.check_spans.result ≡ reply
-    → spans_check (edge_count (plan_in c.before.before.before.before.before.before.before.before.before.before.before.before.before.before.before.before)) c.args.lost.now ≡ reply
+    → spans_check (edge_count (plan_of c.args.left.now c.args.right.now c.args.nl c.args.nr c.args.wiring.now)) c.args.lost.now ≡ reply
 listed c reply e =
     ap (λ (N : ℕ). spans_check N c.args.lost.now) (sym (accepted-edges (plan (record { before = c.before.before.before.before.before.before; type_inv = record { output = c.slice_known-1.given; lost = c.shared_slice_known-5-1.given; received = c.shared_slice_known-4-1.given; wiring = c.shared_slice_known-3-1.given; right = c.shared_slice_known-2-1.given; left = c.shared_slice_known-1.given; } })))) ∙ sym c.check_spans.ensures ∙ e
 
 -- ---- a list that passes
 
-spans : (c : In-Passed-check_spans) → spans_check (edge_count (plan_in c.before.before.before.before.before.before.before.before.before.before.before.before.before.before.before.before.before.before)) c.args.lost.now ≡ done []
-spans c = listed (record { before = c.before.before.before; type_inv = record { output = c.slice_known-1.given; lost = c.shared_slice_known-5-1.given; received = c.shared_slice_known-4-1.given; wiring = c.shared_slice_known-3-1.given; right = c.shared_slice_known-2-1.given; left = c.shared_slice_known-1.given; } }) (done []) (ap check_reply c.in-Passed-check_spans.is)
+spans : (c : In-Passed-check_spans) → spans_check (edge_count (plan_of c.args.left.now c.args.right.now c.args.nl c.args.nr c.args.wiring.now)) c.args.lost.now ≡ done []
+spans c = listed (record { before = c.before.before; type_inv = record { output = c.slice_known-1.given; lost = c.shared_slice_known-5-1.given; received = c.shared_slice_known-4-1.given; wiring = c.shared_slice_known-3-1.given; right = c.shared_slice_known-2-1.given; left = c.shared_slice_known-1.given; } }) (done []) (ap check_reply c.in-Passed-check_spans.is)
 
 -- a call that is stopped answers with `refuse`
 stopped : (plan : Plan) (received lost output : List ℕ) (H : ℕ) {number place : ℕ} {r : Decoding}

@@ -14,16 +14,13 @@ use Rattle.decoder.proofs.Trials.{check-means, none-lost, check-none, answers-no
 use Rattle.decoder.proofs.decoding.decode_checked.Goals as goal
 use Rattle.decoder.proofs.decoding.decode_checked.Goals.{Start}
 
-abbrev plan_in : Start → Plan
-plan_in c = plan_of c.args.left.now c.args.right.now c.args.nl c.args.nr c.args.wiring.now
-
-accepted : (c : Start) → plan_check (plan_in c) ≡ done []
+accepted : (c : Start) → plan_check (plan_of c.args.left.now c.args.right.now c.args.nl c.args.nr c.args.wiring.now) ≡ done []
 accepted c = (check-means _ _ _ _ _ c.requires.1.1).plan-done
 
 pub is_codeword_at_sight-requires : goal.is_codeword_at_sight-requires
 is_codeword_at_sight-requires c =
     let passed = check-means _ _ _ _ _ c.requires.1.1 in
-    codes-readable (plan_in (goal.at.is_codeword_at_sight-requires c).Start) (accepted (goal.at.is_codeword_at_sight-requires c).Start) _ (block_room _ _ passed.block-done) c.requires.wiring_value c.requires.left_code_value
+    codes-readable (plan_of c.args.left.now c.args.right.now c.args.nl c.args.nr c.args.wiring.now) (accepted (goal.at.is_codeword_at_sight-requires c).Start) _ (block_room _ _ passed.block-done) c.requires.wiring_value c.requires.left_code_value
 
 -- ---- a block that is a codeword at sight
 
@@ -33,15 +30,15 @@ copy_front-requires c = (check-means _ _ _ _ _ c.requires.1.1).fits
 pub returns-then-is_codeword_at_sight : goal.returns-then-is_codeword_at_sight
 returns-then-is_codeword_at_sight c =
     let none = none-lost _ c.if-lost-eq0.true in
-    answers-none (plan_in (goal.at.returns-then-is_codeword_at_sight c).Start) _ _ _ _ none
-    (copy-codeword (plan_in (goal.at.returns-then-is_codeword_at_sight c).Start) _ _ _ (check-none (plan_in (goal.at.returns-then-is_codeword_at_sight c).Start) _ _ _ _ none c.requires.1.1) c.args.left-code c.args.right-code c.requires.wiring_value
+    answers-none (plan_of c.args.left.now c.args.right.now c.args.nl c.args.nr c.args.wiring.now) _ _ _ _ none
+    (copy-codeword (plan_of c.args.left.now c.args.right.now c.args.nl c.args.nr c.args.wiring.now) _ _ _ (check-none (plan_of c.args.left.now c.args.right.now c.args.nl c.args.nr c.args.wiring.now) _ _ _ _ none c.requires.1.1) c.args.left-code c.args.right-code c.requires.wiring_value
     c.requires.left_code_value (c.is_codeword_at_sight.ensures c.if-is_codeword_at_sight.true) c.copy_front.ensures)
 
 -- ---- any other
 
 pub prepare_finder-requires : goal.prepare_finder-requires
 prepare_finder-requires c =
-    side-preparable (plan_in (goal.at.prepare_finder-requires c).Start) (accepted (goal.at.prepare_finder-requires c).Start) left c.requires.wiring_value refl
+    side-preparable (plan_of c.args.left.now c.args.right.now c.args.nl c.args.nr c.args.wiring.now) (accepted (goal.at.prepare_finder-requires c).Start) left c.requires.wiring_value refl
 
 pub decode_trials-requires : goal.decode_trials-requires
 decode_trials-requires c =
@@ -57,7 +54,7 @@ decode_trials-requires c =
 
 pub prepare_finder-requires-2 : goal.prepare_finder-requires-2
 prepare_finder-requires-2 c =
-    side-preparable (plan_in (goal.at.prepare_finder-requires-2 c).Start) (accepted (goal.at.prepare_finder-requires-2 c).Start) right c.requires.left_code_value refl
+    side-preparable (plan_of c.args.left.now c.args.right.now c.args.nl c.args.nr c.args.wiring.now) (accepted (goal.at.prepare_finder-requires-2 c).Start) right c.requires.left_code_value refl
 
 pub decode_trials-requires-2 : goal.decode_trials-requires-2
 decode_trials-requires-2 c =

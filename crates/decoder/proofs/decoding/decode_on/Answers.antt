@@ -10,20 +10,17 @@ use Rattle.decoder.proofs.Trials.{check-means}
 use Rattle.decoder.proofs.decoding.decode_on.Goals as goal
 use Rattle.decoder.proofs.decoding.decode_on.Goals.{Start}
 
-abbrev plan_in : Start → Plan
-plan_in c = plan_of c.args.left.now c.args.right.now c.args.nl c.args.nr c.args.wiring.now
-
 -- no more edges than there is room for
-edges : (c : Start) → length c.args.wiring.now ≡ 2 * edge_count (plan_in c)
-edges c = let p = check-means _ _ _ _ _ c.requires.ready in (plan-fits (plan_in c) p.plan-done left).sized
+edges : (c : Start) → length c.args.wiring.now ≡ 2 * edge_count (plan_of c.args.left.now c.args.right.now c.args.nl c.args.nr c.args.wiring.now)
+edges c = let p = check-means _ _ _ _ _ c.requires.ready in (plan-fits (plan_of c.args.left.now c.args.right.now c.args.nl c.args.nr c.args.wiring.now) p.plan-done left).sized
 
-few : (c : Start) → length c.args.wiring.now ≤ 2048 → edge_count (plan_in c) ≤ length (replicate {A = ℕ} 1024 0)
+few : (c : Start) → length c.args.wiring.now ≤ 2048 → edge_count (plan_of c.args.left.now c.args.right.now c.args.nl c.args.nr c.args.wiring.now) ≤ length (replicate {A = ℕ} 1024 0)
 few c l = omega (arith, edges c, length-replicate {A = ℕ} 1024 0)
 
-many : (c : Start) → edge_count (plan_in c) ≤ length (replicate {A = ℕ} 32768 0)
+many : (c : Start) → edge_count (plan_of c.args.left.now c.args.right.now c.args.nl c.args.nr c.args.wiring.now) ≤ length (replicate {A = ℕ} 32768 0)
 many c =
     let p = check-means _ _ _ _ _ c.requires.ready in
-    omega (arith, plan-few (plan_in c) p.plan-done, length-replicate {A = ℕ} 32768 0)
+    omega (arith, plan-few (plan_of c.args.left.now c.args.right.now c.args.nl c.args.nr c.args.wiring.now) p.plan-done, length-replicate {A = ℕ} 32768 0)
 
 pub decode_placed-requires : goal.decode_placed-requires
 decode_placed-requires c =

@@ -26,56 +26,33 @@ use Rattle.decoder.proofs.decoding.decode_placed.Goals.{After-finish_trial-first
 -- ---- the call
 
 module _ (c : Start) where
-  abbrev plan_in : Plan
-  plan_in = plan_of c.args.left.now c.args.right.now c.args.nl c.args.nr c.args.wiring.now
-
-  abbrev received : List ℕ
-  received = c.args.received.now
-
-  abbrev lost : List ℕ
-  lost = c.args.lost.now
-
-  abbrev output : List ℕ
-  output = c.args.output.now
-
-  abbrev limit : ℕ
-  limit = c.args.opening.limit
 
   -- the received bits that the trial with the lost bits b changes outside the spans
   abbrev changed_in : ℕ → ℕ
-  changed_in b = changed_from plan_in received lost limit b
+  changed_in b = changed_from (plan_of c.args.left.now c.args.right.now c.args.nl c.args.nr c.args.wiring.now) c.args.received.now c.args.lost.now c.args.opening.limit b
 
-  passed : Passed plan_in received lost output limit
+  passed : Passed (plan_of c.args.left.now c.args.right.now c.args.nl c.args.nr c.args.wiring.now) c.args.received.now c.args.lost.now c.args.output.now c.args.opening.limit
   passed = check-means _ _ _ _ _ c.requires.ready
 
 -- ---- the trial with zeros
 
 module _ (c : After-finish_trial-first) where
 
-  abbrev zeros : Settling
-  zeros = c.finish_trial-first.result.settling
-
-  abbrev out : List ℕ
-  out = c.finish_trial-first.new.room
-
-  abbrev zeros-block : List ℕ
-  zeros-block = take (length (received c.before.before.before.before.before.before.before.before.before.before.before.before.before.before.before.before)) out
-
-  out-sized : length out ≡ length (output c.before.before.before.before.before.before.before.before.before.before.before.before.before.before.before.before)
+  out-sized : length c.finish_trial-first.new.room ≡ length (c.args.output.now)
   out-sized = c.finish_trial-first.auto.room
 
-  stands : out ≡ written zeros-block (output c.before.before.before.before.before.before.before.before.before.before.before.before.before.before.before.before)
+  stands : c.finish_trial-first.new.room ≡ written (take (length (c.args.received.now)) c.finish_trial-first.new.room) (c.args.output.now)
   stands = c.finish_trial-first.ensures.room_after
 
-  zeros-tried : Tried (plan_in c.before.before.before.before.before.before.before.before.before.before.before.before.before.before.before.before) (filled 0 (lost c.before.before.before.before.before.before.before.before.before.before.before.before.before.before.before.before) (received c.before.before.before.before.before.before.before.before.before.before.before.before.before.before.before.before)) (limit c.before.before.before.before.before.before.before.before.before.before.before.before.before.before.before.before) zeros.count zeros.sums zeros.visits zeros-block
-  zeros-tried = c.finish_trial-first.ensures.settles (filled 0 (lost c.before.before.before.before.before.before.before.before.before.before.before.before.before.before.before.before) (received c.before.before.before.before.before.before.before.before.before.before.before.before.before.before.before.before)) c.requires.1.1.1
+  zeros-tried : Tried (plan_of c.args.left.now c.args.right.now c.args.nl c.args.nr c.args.wiring.now) (filled 0 (c.args.lost.now) (c.args.received.now)) (c.args.opening.limit) c.finish_trial-first.result.settling.count c.finish_trial-first.result.settling.sums c.finish_trial-first.result.settling.visits (take (length (c.args.received.now)) c.finish_trial-first.new.room)
+  zeros-tried = c.finish_trial-first.ensures.settles (filled 0 (c.args.lost.now) (c.args.received.now)) c.requires.1.1.1
 
-  zeros-sized : length zeros-block ≡ length (received c.before.before.before.before.before.before.before.before.before.before.before.before.before.before.before.before)
-  zeros-sized = zeros-tried.kept ∙ length-filled 0 (lost c.before.before.before.before.before.before.before.before.before.before.before.before.before.before.before.before) (received c.before.before.before.before.before.before.before.before.before.before.before.before.before.before.before.before)
+  zeros-sized : length (take (length (c.args.received.now)) c.finish_trial-first.new.room) ≡ length (c.args.received.now)
+  zeros-sized = zeros-tried.kept ∙ length-filled 0 (c.args.lost.now) (c.args.received.now)
 
-  zeros-changed : (length (lost c.before.before.before.before.before.before.before.before.before.before.before.before.before.before.before.before) ≡ 0 → ⊥) → zeros.count ≤ limit c.before.before.before.before.before.before.before.before.before.before.before.before.before.before.before.before → c.finish_trial-first.result.changed ≡ changed_in c.before.before.before.before.before.before.before.before.before.before.before.before.before.before.before.before 0
+  zeros-changed : (length (c.args.lost.now) ≡ 0 → ⊥) → c.finish_trial-first.result.settling.count ≤ c.args.opening.limit → c.finish_trial-first.result.changed ≡ changed_in c.before.before.before.before.before.before.before.before.before.before.before.before.before.before.before.before 0
   zeros-changed some l =
-      changed-from (plan_in c.before.before.before.before.before.before.before.before.before.before.before.before.before.before.before.before) (received c.before.before.before.before.before.before.before.before.before.before.before.before.before.before.before.before) (lost c.before.before.before.before.before.before.before.before.before.before.before.before.before.before.before.before) (output c.before.before.before.before.before.before.before.before.before.before.before.before.before.before.before.before) (limit c.before.before.before.before.before.before.before.before.before.before.before.before.before.before.before.before) c.requires.ready 0 zeros-tried l refl
+      changed-from (plan_of c.args.left.now c.args.right.now c.args.nl c.args.nr c.args.wiring.now) (c.args.received.now) (c.args.lost.now) (c.args.output.now) (c.args.opening.limit) c.requires.ready 0 zeros-tried l refl
       (c.finish_trial-first.ensures.changed_value some)
 
 pub finish_trial-first-requires : goal.finish_trial-first-requires
@@ -85,7 +62,7 @@ finish_trial-first-requires c =
       (
         (passed (goal.at.finish_trial-first-requires c).Start).ranges,
         (
-          record { received = filled 0 (lost (goal.at.finish_trial-first-requires c).Start) (received (goal.at.finish_trial-first-requires c).Start); limited = (passed (goal.at.finish_trial-first-requires c).Start).limited; opened = c.requires.1.1.1 },
+          record { received = filled 0 (c.args.lost.now) (c.args.received.now); limited = (passed (goal.at.finish_trial-first-requires c).Start).limited; opened = c.requires.1.1.1 },
           (c.requires.limit_value, λ e. absurd (true≢false (sym e))),
         ),
       ),
@@ -99,11 +76,11 @@ pub returns-then-keeps_zeros : goal.returns-then-keeps_zeros
 returns-then-keeps_zeros c =
     let checked = c.requires.ready in
     let by = c.answer_by.ensures in
-    elim (ℕ_discrete (length (lost (goal.at.returns-then-keeps_zeros c).Start)) 0) [
-      | yes none ↦ twice-none (plan_in (goal.at.returns-then-keeps_zeros c).Start) (received (goal.at.returns-then-keeps_zeros c).Start) (lost (goal.at.returns-then-keeps_zeros c).Start) (output (goal.at.returns-then-keeps_zeros c).Start) (limit (goal.at.returns-then-keeps_zeros c).Start) checked (zeros-tried (goal.at.returns-then-keeps_zeros c).After-finish_trial-first) (stands (goal.at.returns-then-keeps_zeros c).After-finish_trial-first) by none
+    elim (ℕ_discrete (length (c.args.lost.now)) 0) [
+      | yes none ↦ twice-none (plan_of c.args.left.now c.args.right.now c.args.nl c.args.nr c.args.wiring.now) (c.args.received.now) (c.args.lost.now) (c.args.output.now) (c.args.opening.limit) checked (zeros-tried (goal.at.returns-then-keeps_zeros c).After-finish_trial-first) (stands (goal.at.returns-then-keeps_zeros c).After-finish_trial-first) by none
       | no some ↦
           let (in-time, none-changed) = c.keeps_zeros.ensures.when_true c.if-keeps_zeros.true some in
-          twice-zeros (plan_in (goal.at.returns-then-keeps_zeros c).Start) (received (goal.at.returns-then-keeps_zeros c).Start) (lost (goal.at.returns-then-keeps_zeros c).Start) (output (goal.at.returns-then-keeps_zeros c).Start) (limit (goal.at.returns-then-keeps_zeros c).Start) checked (zeros-tried (goal.at.returns-then-keeps_zeros c).After-finish_trial-first) (stands (goal.at.returns-then-keeps_zeros c).After-finish_trial-first) by
+          twice-zeros (plan_of c.args.left.now c.args.right.now c.args.nl c.args.nr c.args.wiring.now) (c.args.received.now) (c.args.lost.now) (c.args.output.now) (c.args.opening.limit) checked (zeros-tried (goal.at.returns-then-keeps_zeros c).After-finish_trial-first) (stands (goal.at.returns-then-keeps_zeros c).After-finish_trial-first) by
           (λ l _. omega (arith, zeros-changed (goal.at.returns-then-keeps_zeros c).After-finish_trial-first some l, none-changed)) (λ past. absurd (omega (arith, in-time, past)))
     ]
 
@@ -117,50 +94,34 @@ cleared-sized = length-replicate {A = ℕ} 4096 0
 
 module _ (c : After-lay_out) where
 
-  abbrev laid : List ℕ
-  laid = c.lay_out.new.room
+  sized : length (c.args.received.now) - 0 ≡ length (filled 1 (c.args.lost.now) (c.args.received.now))
+  sized = omega (arith, length-filled 1 (c.args.lost.now) (c.args.received.now))
 
-  abbrev block : List ℕ
-  block = filled 1 (lost c.before.before.before.before.before.before.before.before.before.before.before.before.before.before.before.before.before.before.before.before.before.before.before.before.before.before.before.before.before) (received c.before.before.before.before.before.before.before.before.before.before.before.before.before.before.before.before.before.before.before.before.before.before.before.before.before.before.before.before.before)
-
-  sized : length (received c.before.before.before.before.before.before.before.before.before.before.before.before.before.before.before.before.before.before.before.before.before.before.before.before.before.before.before.before.before) - 0 ≡ length block
-  sized = omega (arith, length-filled 1 (lost c.before.before.before.before.before.before.before.before.before.before.before.before.before.before.before.before.before.before.before.before.before.before.before.before.before.before.before.before.before) (received c.before.before.before.before.before.before.before.before.before.before.before.before.before.before.before.before.before.before.before.before.before.before.before.before.before.before.before.before.before))
-
-  put : laid ≡ written block cleared
+  put : c.lay_out.new.room ≡ written (filled 1 (c.args.lost.now) (c.args.received.now)) cleared
   put = c.lay_out.ensures
 
-  part : take (length (received c.before.before.before.before.before.before.before.before.before.before.before.before.before.before.before.before.before.before.before.before.before.before.before.before.before.before.before.before.before) - 0) laid ≡ block
-  part = laid-part block cleared (length (received c.before.before.before.before.before.before.before.before.before.before.before.before.before.before.before.before.before.before.before.before.before.before.before.before.before.before.before.before.before) - 0) put sized
+  part : take (length (c.args.received.now) - 0) c.lay_out.new.room ≡ (filled 1 (c.args.lost.now) (c.args.received.now))
+  part = laid-part (filled 1 (c.args.lost.now) (c.args.received.now)) cleared (length (c.args.received.now) - 0) put sized
 
 module _ (c : After-open-again) where
 
-  abbrev again : Opening
-  again = c.«open».result
-
-  abbrev swept : List ℕ
-  swept = c.«open».new.1.1.1.1.1.1.1.1.1.0
-
-  -- the buffer with the part back in its place
-  abbrev other : List ℕ
-  other = swept ++ drop (length (received c.before.before.before.before.before.before.before.before.before.before.before.before.before.before.before.before.before.before.before.before.before.before.before.before.before.before.before.before.before.before.before.before.before.before.before.before) - 0) (laid (record { before = c.before.before.before.before.before.before.before.before; type_inv = record { output = c.slice_known-8-1.given; places = c.slice_known-7-1.given; right_finder = c.slice_known-6-1.given; left_finder = c.slice_known-5-1.given; lost = c.shared_slice_known-5-1.given; received = c.shared_slice_known-4-1.given; wiring = c.shared_slice_known-3-1.given; right = c.shared_slice_known-2-1.given; left = c.shared_slice_known-1.given; } }))
-
-  swept_kept : length swept ≡ length (take (length (received c.before.before.before.before.before.before.before.before.before.before.before.before.before.before.before.before.before.before.before.before.before.before.before.before.before.before.before.before.before.before.before.before.before.before.before.before) - 0) (laid (record { before = c.before.before.before.before.before.before.before.before; type_inv = record { output = c.slice_known-8-1.given; places = c.slice_known-7-1.given; right_finder = c.slice_known-6-1.given; left_finder = c.slice_known-5-1.given; lost = c.shared_slice_known-5-1.given; received = c.shared_slice_known-4-1.given; wiring = c.shared_slice_known-3-1.given; right = c.shared_slice_known-2-1.given; left = c.shared_slice_known-1.given; } })))
+  swept_kept : length c.«open».new.1.1.1.1.1.1.1.1.1.0 ≡ length (take (length (c.args.received.now) - 0) (c.lay_out.new.room))
   swept_kept = c.«open».auto.1.1.1.1.1.1.1.1.1.0
 
-  other-sized : length other ≡ 4096
+  other-sized : length (c.«open».new.1.1.1.1.1.1.1.1.1.0 ++ drop (length (c.args.received.now) - 0) (c.lay_out.new.room)) ≡ 4096
   other-sized =
-      let size : ℕ = length (received c.before.before.before.before.before.before.before.before.before.before.before.before.before.before.before.before.before.before.before.before.before.before.before.before.before.before.before.before.before.before.before.before.before.before.before.before) - 0 in
-      let same = laid-sized (block (record { before = c.before.before.before.before.before.before.before.before; type_inv = record { output = c.slice_known-8-1.given; places = c.slice_known-7-1.given; right_finder = c.slice_known-6-1.given; left_finder = c.slice_known-5-1.given; lost = c.shared_slice_known-5-1.given; received = c.shared_slice_known-4-1.given; wiring = c.shared_slice_known-3-1.given; right = c.shared_slice_known-2-1.given; left = c.shared_slice_known-1.given; } })) cleared size (put (record { before = c.before.before.before.before.before.before.before.before; type_inv = record { output = c.slice_known-8-1.given; places = c.slice_known-7-1.given; right_finder = c.slice_known-6-1.given; left_finder = c.slice_known-5-1.given; lost = c.shared_slice_known-5-1.given; received = c.shared_slice_known-4-1.given; wiring = c.shared_slice_known-3-1.given; right = c.shared_slice_known-2-1.given; left = c.shared_slice_known-1.given; } })) (sized (record { before = c.before.before.before.before.before.before.before.before; type_inv = record { output = c.slice_known-8-1.given; places = c.slice_known-7-1.given; right_finder = c.slice_known-6-1.given; left_finder = c.slice_known-5-1.given; lost = c.shared_slice_known-5-1.given; received = c.shared_slice_known-4-1.given; wiring = c.shared_slice_known-3-1.given; right = c.shared_slice_known-2-1.given; left = c.shared_slice_known-1.given; } })) swept swept_kept in
-      let fits : length swept ≤ length cleared =
-      omega (arith, same, length-filled 1 (lost c.before.before.before.before.before.before.before.before.before.before.before.before.before.before.before.before.before.before.before.before.before.before.before.before.before.before.before.before.before.before.before.before.before.before.before.before) (received c.before.before.before.before.before.before.before.before.before.before.before.before.before.before.before.before.before.before.before.before.before.before.before.before.before.before.before.before.before.before.before.before.before.before.before.before), passed-fits (passed c.before.before.before.before.before.before.before.before.before.before.before.before.before.before.before.before.before.before.before.before.before.before.before.before.before.before.before.before.before.before.before.before.before.before.before.before), cleared-sized) in
-      ap length (laid-whole (block (record { before = c.before.before.before.before.before.before.before.before; type_inv = record { output = c.slice_known-8-1.given; places = c.slice_known-7-1.given; right_finder = c.slice_known-6-1.given; left_finder = c.slice_known-5-1.given; lost = c.shared_slice_known-5-1.given; received = c.shared_slice_known-4-1.given; wiring = c.shared_slice_known-3-1.given; right = c.shared_slice_known-2-1.given; left = c.shared_slice_known-1.given; } })) cleared size (put (record { before = c.before.before.before.before.before.before.before.before; type_inv = record { output = c.slice_known-8-1.given; places = c.slice_known-7-1.given; right_finder = c.slice_known-6-1.given; left_finder = c.slice_known-5-1.given; lost = c.shared_slice_known-5-1.given; received = c.shared_slice_known-4-1.given; wiring = c.shared_slice_known-3-1.given; right = c.shared_slice_known-2-1.given; left = c.shared_slice_known-1.given; } })) (sized (record { before = c.before.before.before.before.before.before.before.before; type_inv = record { output = c.slice_known-8-1.given; places = c.slice_known-7-1.given; right_finder = c.slice_known-6-1.given; left_finder = c.slice_known-5-1.given; lost = c.shared_slice_known-5-1.given; received = c.shared_slice_known-4-1.given; wiring = c.shared_slice_known-3-1.given; right = c.shared_slice_known-2-1.given; left = c.shared_slice_known-1.given; } })) swept swept_kept)
-      ∙ length-written swept cleared fits ∙ cleared-sized
+      let size : ℕ = length (c.args.received.now) - 0 in
+      let same = laid-sized ((filled 1 (c.args.lost.now) (c.args.received.now))) cleared size (put (record { before = c.before.before.before.before.before.before.before.before; type_inv = record { output = c.slice_known-8-1.given; places = c.slice_known-7-1.given; right_finder = c.slice_known-6-1.given; left_finder = c.slice_known-5-1.given; lost = c.shared_slice_known-5-1.given; received = c.shared_slice_known-4-1.given; wiring = c.shared_slice_known-3-1.given; right = c.shared_slice_known-2-1.given; left = c.shared_slice_known-1.given; } })) (sized (record { before = c.before.before.before.before.before.before.before.before; type_inv = record { output = c.slice_known-8-1.given; places = c.slice_known-7-1.given; right_finder = c.slice_known-6-1.given; left_finder = c.slice_known-5-1.given; lost = c.shared_slice_known-5-1.given; received = c.shared_slice_known-4-1.given; wiring = c.shared_slice_known-3-1.given; right = c.shared_slice_known-2-1.given; left = c.shared_slice_known-1.given; } })) c.«open».new.1.1.1.1.1.1.1.1.1.0 swept_kept in
+      let fits : length c.«open».new.1.1.1.1.1.1.1.1.1.0 ≤ length cleared =
+      omega (arith, same, length-filled 1 (c.args.lost.now) (c.args.received.now), passed-fits (passed c.before.before.before.before.before.before.before.before.before.before.before.before.before.before.before.before.before.before.before.before.before.before.before.before.before.before.before.before.before.before.before.before.before.before.before.before), cleared-sized) in
+      ap length (laid-whole ((filled 1 (c.args.lost.now) (c.args.received.now))) cleared size (put (record { before = c.before.before.before.before.before.before.before.before; type_inv = record { output = c.slice_known-8-1.given; places = c.slice_known-7-1.given; right_finder = c.slice_known-6-1.given; left_finder = c.slice_known-5-1.given; lost = c.shared_slice_known-5-1.given; received = c.shared_slice_known-4-1.given; wiring = c.shared_slice_known-3-1.given; right = c.shared_slice_known-2-1.given; left = c.shared_slice_known-1.given; } })) (sized (record { before = c.before.before.before.before.before.before.before.before; type_inv = record { output = c.slice_known-8-1.given; places = c.slice_known-7-1.given; right_finder = c.slice_known-6-1.given; left_finder = c.slice_known-5-1.given; lost = c.shared_slice_known-5-1.given; received = c.shared_slice_known-4-1.given; wiring = c.shared_slice_known-3-1.given; right = c.shared_slice_known-2-1.given; left = c.shared_slice_known-1.given; } })) c.«open».new.1.1.1.1.1.1.1.1.1.0 swept_kept)
+      ∙ length-written c.«open».new.1.1.1.1.1.1.1.1.1.0 cleared fits ∙ cleared-sized
 
-  opened : Opened (plan_in c.before.before.before.before.before.before.before.before.before.before.before.before.before.before.before.before.before.before.before.before.before.before.before.before.before.before.before.before.before.before.before.before.before.before.before.before) (block (record { before = c.before.before.before.before.before.before.before.before; type_inv = record { output = c.slice_known-8-1.given; places = c.slice_known-7-1.given; right_finder = c.slice_known-6-1.given; left_finder = c.slice_known-5-1.given; lost = c.shared_slice_known-5-1.given; received = c.shared_slice_known-4-1.given; wiring = c.shared_slice_known-3-1.given; right = c.shared_slice_known-2-1.given; left = c.shared_slice_known-1.given; } })) again.limit again c.«open».new.1.1.1.1.1.1.1.1.0
-      (take (length (received c.before.before.before.before.before.before.before.before.before.before.before.before.before.before.before.before.before.before.before.before.before.before.before.before.before.before.before.before.before.before.before.before.before.before.before.before)) other)
+  opened : Opened (plan_of c.args.left.now c.args.right.now c.args.nl c.args.nr c.args.wiring.now) ((filled 1 (c.args.lost.now) (c.args.received.now))) c.«open».result.limit c.«open».result c.«open».new.1.1.1.1.1.1.1.1.0
+      (take (length (c.args.received.now)) (c.«open».new.1.1.1.1.1.1.1.1.1.0 ++ drop (length (c.args.received.now) - 0) (c.lay_out.new.room)))
   opened =
-      laid-opened (block (record { before = c.before.before.before.before.before.before.before.before; type_inv = record { output = c.slice_known-8-1.given; places = c.slice_known-7-1.given; right_finder = c.slice_known-6-1.given; left_finder = c.slice_known-5-1.given; lost = c.shared_slice_known-5-1.given; received = c.shared_slice_known-4-1.given; wiring = c.shared_slice_known-3-1.given; right = c.shared_slice_known-2-1.given; left = c.shared_slice_known-1.given; } })) cleared (length (received c.before.before.before.before.before.before.before.before.before.before.before.before.before.before.before.before.before.before.before.before.before.before.before.before.before.before.before.before.before.before.before.before.before.before.before.before) - 0) (put (record { before = c.before.before.before.before.before.before.before.before; type_inv = record { output = c.slice_known-8-1.given; places = c.slice_known-7-1.given; right_finder = c.slice_known-6-1.given; left_finder = c.slice_known-5-1.given; lost = c.shared_slice_known-5-1.given; received = c.shared_slice_known-4-1.given; wiring = c.shared_slice_known-3-1.given; right = c.shared_slice_known-2-1.given; left = c.shared_slice_known-1.given; } })) (sized (record { before = c.before.before.before.before.before.before.before.before; type_inv = record { output = c.slice_known-8-1.given; places = c.slice_known-7-1.given; right_finder = c.slice_known-6-1.given; left_finder = c.slice_known-5-1.given; lost = c.shared_slice_known-5-1.given; received = c.shared_slice_known-4-1.given; wiring = c.shared_slice_known-3-1.given; right = c.shared_slice_known-2-1.given; left = c.shared_slice_known-1.given; } })) swept swept_kept
-      c.«open».ensures.1 (length (received c.before.before.before.before.before.before.before.before.before.before.before.before.before.before.before.before.before.before.before.before.before.before.before.before.before.before.before.before.before.before.before.before.before.before.before.before)) (omega arith)
+      laid-opened ((filled 1 (c.args.lost.now) (c.args.received.now))) cleared (length (c.args.received.now) - 0) (put (record { before = c.before.before.before.before.before.before.before.before; type_inv = record { output = c.slice_known-8-1.given; places = c.slice_known-7-1.given; right_finder = c.slice_known-6-1.given; left_finder = c.slice_known-5-1.given; lost = c.shared_slice_known-5-1.given; received = c.shared_slice_known-4-1.given; wiring = c.shared_slice_known-3-1.given; right = c.shared_slice_known-2-1.given; left = c.shared_slice_known-1.given; } })) (sized (record { before = c.before.before.before.before.before.before.before.before; type_inv = record { output = c.slice_known-8-1.given; places = c.slice_known-7-1.given; right_finder = c.slice_known-6-1.given; left_finder = c.slice_known-5-1.given; lost = c.shared_slice_known-5-1.given; received = c.shared_slice_known-4-1.given; wiring = c.shared_slice_known-3-1.given; right = c.shared_slice_known-2-1.given; left = c.shared_slice_known-1.given; } })) c.«open».new.1.1.1.1.1.1.1.1.1.0 swept_kept
+      c.«open».ensures.1 (length (c.args.received.now)) (omega arith)
 
 pub lay_out-requires : goal.lay_out-requires
 lay_out-requires c =
@@ -173,27 +134,18 @@ slice_bounds-other-end c =
 pub open-again-requires : goal.open-again-requires
 open-again-requires c =
     let p = passed (goal.at.open-again-requires c).Start in
-    let begun = ap (block_check (edge_count (plan_in (goal.at.open-again-requires c).Start))) (part (goal.at.open-again-requires c).After-lay_out) ∙ passed-filled p 1 (omega arith) in
+    let begun = ap (block_check (edge_count (plan_of c.args.left.now c.args.right.now c.args.nl c.args.nr c.args.wiring.now))) (part (goal.at.open-again-requires c).After-lay_out) ∙ passed-filled p 1 (omega arith) in
     (p.limited, (length-replicate {A = ℕ} 2304 0, (c.finish_trial-first.ensures.still_ready, begun)))
 
 -- ---- it is finished
 
 module _ (c : After-finish_trial-second) where
 
-  abbrev ones : Settling
-  ones = c.finish_trial-second.result.settling
-
-  abbrev ones-out : List ℕ
-  ones-out = c.finish_trial-second.new.room
-
-  abbrev ones-block : List ℕ
-  ones-block = take (length (received c.before.before.before.before.before.before.before.before.before.before.before.before.before.before.before.before.before.before.before.before.before.before.before.before.before.before.before.before.before.before.before.before.before.before.before.before.before.before.before.before.before.before.before.before.before.before.before)) ones-out
-
-  some : length (lost c.before.before.before.before.before.before.before.before.before.before.before.before.before.before.before.before.before.before.before.before.before.before.before.before.before.before.before.before.before.before.before.before.before.before.before.before.before.before.before.before.before.before.before.before.before.before.before) ≡ 0 → ⊥
+  some : length (c.args.lost.now) ≡ 0 → ⊥
   some =
       c.keeps_zeros.ensures.when_false c.if-keeps_zeros.false
 
-  out-long : length ones-out ≡ 4096
+  out-long : length c.finish_trial-second.new.room ≡ 4096
   out-long = c.finish_trial-second.auto.room ∙ other-sized (record { before = c.before.before.before.before.before.before.before.before.before.before.before.before; type_inv = record { output = c.slice_known-8-1.given; places = c.slice_known-7-1.given; lost = c.shared_slice_known-5-1.given; received = c.shared_slice_known-4-1.given; wiring = c.shared_slice_known-3-1.given; right = c.shared_slice_known-2-1.given; left = c.shared_slice_known-1.given; } })
 
   left-sized : length c.finish_trial-second.new.left_finder ≡ length c.args.left-finder.now
@@ -208,18 +160,18 @@ module _ (c : After-finish_trial-second) where
   places-sized =
       c.finish_trial-second.auto.places ∙ c.finish_trial-first.auto.places
 
-  ones-tried : Tried (plan_in c.before.before.before.before.before.before.before.before.before.before.before.before.before.before.before.before.before.before.before.before.before.before.before.before.before.before.before.before.before.before.before.before.before.before.before.before.before.before.before.before.before.before.before.before.before.before.before) (filled 1 (lost c.before.before.before.before.before.before.before.before.before.before.before.before.before.before.before.before.before.before.before.before.before.before.before.before.before.before.before.before.before.before.before.before.before.before.before.before.before.before.before.before.before.before.before.before.before.before.before) (received c.before.before.before.before.before.before.before.before.before.before.before.before.before.before.before.before.before.before.before.before.before.before.before.before.before.before.before.before.before.before.before.before.before.before.before.before.before.before.before.before.before.before.before.before.before.before.before)) (limit c.before.before.before.before.before.before.before.before.before.before.before.before.before.before.before.before.before.before.before.before.before.before.before.before.before.before.before.before.before.before.before.before.before.before.before.before.before.before.before.before.before.before.before.before.before.before.before) ones.count ones.sums ones.visits ones-block
+  ones-tried : Tried (plan_of c.args.left.now c.args.right.now c.args.nl c.args.nr c.args.wiring.now) (filled 1 (c.args.lost.now) (c.args.received.now)) (c.args.opening.limit) c.finish_trial-second.result.settling.count c.finish_trial-second.result.settling.sums c.finish_trial-second.result.settling.visits (take (length (c.args.received.now)) c.finish_trial-second.new.room)
   ones-tried =
-      subst (λ (H : ℕ). Tried (plan_in c.before.before.before.before.before.before.before.before.before.before.before.before.before.before.before.before.before.before.before.before.before.before.before.before.before.before.before.before.before.before.before.before.before.before.before.before.before.before.before.before.before.before.before.before.before.before.before) (filled 1 (lost c.before.before.before.before.before.before.before.before.before.before.before.before.before.before.before.before.before.before.before.before.before.before.before.before.before.before.before.before.before.before.before.before.before.before.before.before.before.before.before.before.before.before.before.before.before.before.before) (received c.before.before.before.before.before.before.before.before.before.before.before.before.before.before.before.before.before.before.before.before.before.before.before.before.before.before.before.before.before.before.before.before.before.before.before.before.before.before.before.before.before.before.before.before.before.before.before)) H ones.count ones.sums ones.visits ones-block)
+      subst (λ (H : ℕ). Tried (plan_of c.args.left.now c.args.right.now c.args.nl c.args.nr c.args.wiring.now) (filled 1 (c.args.lost.now) (c.args.received.now)) H c.finish_trial-second.result.settling.count c.finish_trial-second.result.settling.sums c.finish_trial-second.result.settling.visits (take (length (c.args.received.now)) c.finish_trial-second.new.room))
       c.«open».ensures.1.limit_is
-      (c.finish_trial-second.ensures.settles (filled 1 (lost c.before.before.before.before.before.before.before.before.before.before.before.before.before.before.before.before.before.before.before.before.before.before.before.before.before.before.before.before.before.before.before.before.before.before.before.before.before.before.before.before.before.before.before.before.before.before.before) (received c.before.before.before.before.before.before.before.before.before.before.before.before.before.before.before.before.before.before.before.before.before.before.before.before.before.before.before.before.before.before.before.before.before.before.before.before.before.before.before.before.before.before.before.before.before.before.before)) (opened (record { before = c.before.before.before.before.before.before.before.before.before.before.before.before; type_inv = record { output = c.slice_known-8-1.given; places = c.slice_known-7-1.given; lost = c.shared_slice_known-5-1.given; received = c.shared_slice_known-4-1.given; wiring = c.shared_slice_known-3-1.given; right = c.shared_slice_known-2-1.given; left = c.shared_slice_known-1.given; } })))
+      (c.finish_trial-second.ensures.settles (filled 1 (c.args.lost.now) (c.args.received.now)) (opened (record { before = c.before.before.before.before.before.before.before.before.before.before.before.before; type_inv = record { output = c.slice_known-8-1.given; places = c.slice_known-7-1.given; lost = c.shared_slice_known-5-1.given; received = c.shared_slice_known-4-1.given; wiring = c.shared_slice_known-3-1.given; right = c.shared_slice_known-2-1.given; left = c.shared_slice_known-1.given; } })))
 
-  ones-sized : length ones-block ≡ length (received c.before.before.before.before.before.before.before.before.before.before.before.before.before.before.before.before.before.before.before.before.before.before.before.before.before.before.before.before.before.before.before.before.before.before.before.before.before.before.before.before.before.before.before.before.before.before.before)
-  ones-sized = ones-tried.kept ∙ length-filled 1 (lost c.before.before.before.before.before.before.before.before.before.before.before.before.before.before.before.before.before.before.before.before.before.before.before.before.before.before.before.before.before.before.before.before.before.before.before.before.before.before.before.before.before.before.before.before.before.before.before) (received c.before.before.before.before.before.before.before.before.before.before.before.before.before.before.before.before.before.before.before.before.before.before.before.before.before.before.before.before.before.before.before.before.before.before.before.before.before.before.before.before.before.before.before.before.before.before.before)
+  ones-sized : length (take (length (c.args.received.now)) c.finish_trial-second.new.room) ≡ length (c.args.received.now)
+  ones-sized = ones-tried.kept ∙ length-filled 1 (c.args.lost.now) (c.args.received.now)
 
-  ones-changed : ones.count ≤ limit c.before.before.before.before.before.before.before.before.before.before.before.before.before.before.before.before.before.before.before.before.before.before.before.before.before.before.before.before.before.before.before.before.before.before.before.before.before.before.before.before.before.before.before.before.before.before.before → c.finish_trial-second.result.changed ≡ changed_in c.before.before.before.before.before.before.before.before.before.before.before.before.before.before.before.before.before.before.before.before.before.before.before.before.before.before.before.before.before.before.before.before.before.before.before.before.before.before.before.before.before.before.before.before.before.before.before 1
+  ones-changed : c.finish_trial-second.result.settling.count ≤ c.args.opening.limit → c.finish_trial-second.result.changed ≡ changed_in c.before.before.before.before.before.before.before.before.before.before.before.before.before.before.before.before.before.before.before.before.before.before.before.before.before.before.before.before.before.before.before.before.before.before.before.before.before.before.before.before.before.before.before.before.before.before.before 1
   ones-changed l =
-      changed-from (plan_in c.before.before.before.before.before.before.before.before.before.before.before.before.before.before.before.before.before.before.before.before.before.before.before.before.before.before.before.before.before.before.before.before.before.before.before.before.before.before.before.before.before.before.before.before.before.before.before) (received c.before.before.before.before.before.before.before.before.before.before.before.before.before.before.before.before.before.before.before.before.before.before.before.before.before.before.before.before.before.before.before.before.before.before.before.before.before.before.before.before.before.before.before.before.before.before.before) (lost c.before.before.before.before.before.before.before.before.before.before.before.before.before.before.before.before.before.before.before.before.before.before.before.before.before.before.before.before.before.before.before.before.before.before.before.before.before.before.before.before.before.before.before.before.before.before.before) (output c.before.before.before.before.before.before.before.before.before.before.before.before.before.before.before.before.before.before.before.before.before.before.before.before.before.before.before.before.before.before.before.before.before.before.before.before.before.before.before.before.before.before.before.before.before.before.before) (limit c.before.before.before.before.before.before.before.before.before.before.before.before.before.before.before.before.before.before.before.before.before.before.before.before.before.before.before.before.before.before.before.before.before.before.before.before.before.before.before.before.before.before.before.before.before.before.before) c.requires.ready 1 ones-tried l refl
+      changed-from (plan_of c.args.left.now c.args.right.now c.args.nl c.args.nr c.args.wiring.now) (c.args.received.now) (c.args.lost.now) (c.args.output.now) (c.args.opening.limit) c.requires.ready 1 ones-tried l refl
       (c.finish_trial-second.ensures.changed_value some)
 
 pub slice_bounds-finish_trial-end : goal.slice_bounds-finish_trial-end
@@ -228,12 +180,12 @@ slice_bounds-finish_trial-end c =
 
 pub finish_trial-second-requires : goal.finish_trial-second-requires
 finish_trial-second-requires c =
-    let limited : (again (goal.at.finish_trial-second-requires c).After-open-again).limit ≤ 4096 = omega (arith, c.«open».ensures.1.limit_is, (passed (goal.at.finish_trial-second-requires c).Start).limited) in (
+    let limited : (c.«open».result).limit ≤ 4096 = omega (arith, c.«open».ensures.1.limit_is, (passed (goal.at.finish_trial-second-requires c).Start).limited) in (
       c.«open».ensures.0,
       (
         omega (arith, other-sized (goal.at.finish_trial-second-requires c).After-open-again, passed-fits (passed (goal.at.finish_trial-second-requires c).Start)),
         (
-          record { received = block (goal.at.finish_trial-second-requires c).After-lay_out; limited = limited; opened = opened (goal.at.finish_trial-second-requires c).After-open-again },
+          record { received = (filled 1 (c.args.lost.now) (c.args.received.now)); limited = limited; opened = opened (goal.at.finish_trial-second-requires c).After-open-again },
           (omega (arith, c.finish_trial-first.auto.places, c.requires.limit_value), c.finish_trial-first.ensures.places_noted_after),
         ),
       ),
@@ -245,7 +197,7 @@ slice_bounds-copy_front-end c =
 
 pub copy_front-requires : goal.copy_front-requires
 copy_front-requires c =
-    omega (arith, (passed (goal.at.copy_front-requires c).Start).fits, out-sized (goal.at.copy_front-requires c).After-finish_trial-first, ap length (part-lent (ones-out (goal.at.copy_front-requires c).After-finish_trial-second) (length (received (goal.at.copy_front-requires c).Start))), ones-sized (goal.at.copy_front-requires c).After-finish_trial-second)
+    omega (arith, (passed (goal.at.copy_front-requires c).Start).fits, out-sized (goal.at.copy_front-requires c).After-finish_trial-first, ap length (part-lent (c.finish_trial-second.new.room) (length (c.args.received.now))), ones-sized (goal.at.copy_front-requires c).After-finish_trial-second)
 
 pub answer_by-requires-then-keeps_ones : goal.answer_by-requires-then-keeps_ones
 answer_by-requires-then-keeps_ones c =
@@ -267,11 +219,11 @@ shape_of-output-then-keeps_ones c =
 pub returns-then-keeps_ones : goal.returns-then-keeps_ones
 returns-then-keeps_ones c =
     let (in-time, fewer) = c.keeps_ones.ensures.when_true c.if-keeps_ones.true in
-    let over = c.copy_front.ensures ∙ ap₂ written (part-lent (ones-out (goal.at.returns-then-keeps_ones c).After-finish_trial-second) (length (received (goal.at.returns-then-keeps_ones c).Start))) (stands (goal.at.returns-then-keeps_ones c).After-finish_trial-first)
-    ∙ written-again (ones-block (goal.at.returns-then-keeps_ones c).After-finish_trial-second) (zeros-block (goal.at.returns-then-keeps_ones c).After-finish_trial-first) (output (goal.at.returns-then-keeps_ones c).Start) (zeros-sized (goal.at.returns-then-keeps_ones c).After-finish_trial-first ∙ sym (ones-sized (goal.at.returns-then-keeps_ones c).After-finish_trial-second)) in
-    twice-ones (plan_in (goal.at.returns-then-keeps_ones c).Start) (received (goal.at.returns-then-keeps_ones c).Start) (lost (goal.at.returns-then-keeps_ones c).Start) (output (goal.at.returns-then-keeps_ones c).Start) (limit (goal.at.returns-then-keeps_ones c).Start) c.requires.ready (ones-tried (goal.at.returns-then-keeps_ones c).After-finish_trial-second) over c.answer_by-then-keeps_ones.ensures in-time
+    let over = c.copy_front.ensures ∙ ap₂ written (part-lent (c.finish_trial-second.new.room) (length (c.args.received.now))) (stands (goal.at.returns-then-keeps_ones c).After-finish_trial-first)
+    ∙ written-again ((take (length (c.args.received.now)) c.finish_trial-second.new.room)) ((take (length (c.args.received.now)) c.finish_trial-first.new.room)) (c.args.output.now) (zeros-sized (goal.at.returns-then-keeps_ones c).After-finish_trial-first ∙ sym (ones-sized (goal.at.returns-then-keeps_ones c).After-finish_trial-second)) in
+    twice-ones (plan_of c.args.left.now c.args.right.now c.args.nl c.args.nr c.args.wiring.now) (c.args.received.now) (c.args.lost.now) (c.args.output.now) (c.args.opening.limit) c.requires.ready (ones-tried (goal.at.returns-then-keeps_ones c).After-finish_trial-second) over c.answer_by-then-keeps_ones.ensures in-time
     (λ both.
-    let both-in-time : (zeros (goal.at.returns-then-keeps_ones c).After-finish_trial-first).count ≤ limit (goal.at.returns-then-keeps_ones c).Start = omega (arith, (zeros-tried (goal.at.returns-then-keeps_ones c).After-finish_trial-first).counted, both) in
+    let both-in-time : (c.finish_trial-first.result.settling).count ≤ c.args.opening.limit = omega (arith, (zeros-tried (goal.at.returns-then-keeps_ones c).After-finish_trial-first).counted, both) in
     omega (arith, zeros-changed (goal.at.returns-then-keeps_ones c).After-finish_trial-first (some (goal.at.returns-then-keeps_ones c).After-finish_trial-second) both-in-time, ones-changed (goal.at.returns-then-keeps_ones c).After-finish_trial-second in-time, fewer both-in-time))
 
 pub answer_by-requires-2 : goal.answer_by-requires-2
@@ -293,12 +245,12 @@ shape_of-output c = c.answer_by-2.auto.output ∙ out-sized (goal.at.shape_of-ou
 pub returns : goal.returns
 returns c =
     let zeros-win = c.keeps_ones.ensures.when_false c.if-keeps_ones.false in
-    twice-zeros (plan_in (goal.at.returns c).Start) (received (goal.at.returns c).Start) (lost (goal.at.returns c).Start) (output (goal.at.returns c).Start) (limit (goal.at.returns c).Start) c.requires.ready (zeros-tried (goal.at.returns c).After-finish_trial-first) (stands (goal.at.returns c).After-finish_trial-first) c.answer_by-2.ensures
+    twice-zeros (plan_of c.args.left.now c.args.right.now c.args.nl c.args.nr c.args.wiring.now) (c.args.received.now) (c.args.lost.now) (c.args.output.now) (c.args.opening.limit) c.requires.ready (zeros-tried (goal.at.returns c).After-finish_trial-first) (stands (goal.at.returns c).After-finish_trial-first) c.answer_by-2.ensures
     (λ in-time both.
-    let both-in-time : (ones (goal.at.returns c).After-finish_trial-second).count ≤ limit (goal.at.returns c).Start = omega (arith, (ones-tried (goal.at.returns c).After-finish_trial-second).counted, both) in
+    let both-in-time : (c.finish_trial-second.result.settling).count ≤ c.args.opening.limit = omega (arith, (ones-tried (goal.at.returns c).After-finish_trial-second).counted, both) in
     omega (arith, zeros-changed (goal.at.returns c).After-finish_trial-first (some (goal.at.returns c).After-finish_trial-second) in-time, ones-changed (goal.at.returns c).After-finish_trial-second both-in-time, (zeros-win both-in-time).1))
     (λ past.
-    elim (dec_le (ones (goal.at.returns c).After-finish_trial-second).count (limit (goal.at.returns c).Start)) [
+    elim (dec_le (c.finish_trial-second.result.settling).count (c.args.opening.limit)) [
       | yes l ↦ absurd (omega (arith, (zeros-win l).0, past))
       | no l ↦ omega (arith, (ones-tried (goal.at.returns c).After-finish_trial-second).counted, l)
     ])

@@ -20,52 +20,37 @@ use Rattle.decoder.proofs.settle.finish.Goals.{After-sweep_turn-here, At-loop-co
 
 -- ---- the call and the loop's head
 
-abbrev plan_in : Start → Plan
-plan_in c = plan_of c.args.left.now c.args.right.now c.args.nl c.args.nr c.args.wiring.now
-
-abbrev H : Start → ℕ
-H c = c.args.opening.limit
-
-limited : (c : Start) → H c ≤ 4096
+limited : (c : Start) → c.args.opening.limit ≤ 4096
 limited c = c.requires.ready.limited
 
-ready : (c : At-loop-count) → Ready (plan_in c.before.before.before.before.before.before.before.before.before.before.before) c.loop-count.left-finder c.loop-count.right-finder
+ready : (c : At-loop-count) → Ready (plan_of c.args.left.now c.args.right.now c.args.nl c.args.nr c.args.wiring.now) c.loop-count.left-finder c.loop-count.right-finder
 ready c = c.loop-count.invariant.2 c.requires.wiring_value
 
 -- where the trial of a received block stands
 abbrev At : At-loop-count → List ℕ → Type 0
 At c received =
-    Midway (plan_in c.before.before.before.before.before.before.before.before.before.before.before) received (H c.before.before.before.before.before.before.before.before.before.before.before) c.loop-count.count c.loop-count.sums c.loop-count.visits c.loop-count.kept c.loop-count.block
+    Midway (plan_of c.args.left.now c.args.right.now c.args.nl c.args.nr c.args.wiring.now) received (c.args.opening.limit) c.loop-count.count c.loop-count.sums c.loop-count.visits c.loop-count.kept c.loop-count.block
 
 midway : (c : At-loop-count) (received : List ℕ)
-    → Opened (plan_in c.before.before.before.before.before.before.before.before.before.before.before) received (H c.before.before.before.before.before.before.before.before.before.before.before) c.args.opening c.args.kept.now c.args.block.now → At c received
+    → Opened (plan_of c.args.left.now c.args.right.now c.args.nl c.args.nr c.args.wiring.now) received (c.args.opening.limit) c.args.opening c.args.kept.now c.args.block.now → At c received
 midway c received opened = c.loop-count.invariant.1 received (opened.going c.if-opening.false)
 
-abbrev some : At-loop-count → List ℕ
-some c = c.requires.ready.received
+one : (c : At-loop-count) → At c (c.requires.ready.received)
+one c = midway c (c.requires.ready.received) c.requires.ready.opened
 
-one : (c : At-loop-count) → At c (some c)
-one c = midway c (some c) c.requires.ready.opened
-
-begun : (c : At-loop-count) {received : List ℕ} → At c received → Begun (plan_in c.before.before.before.before.before.before.before.before.before.before.before) received
+begun : (c : At-loop-count) {received : List ℕ} → At c received → Begun (plan_of c.args.left.now c.args.right.now c.args.nl c.args.nr c.args.wiring.now) received
 begun c m = record { plan-done = (ready c).plan-done; block-done = m.begun }
 
-few : (c : At-loop-count) (name : SideName) → count_of (plan_in c.before.before.before.before.before.before.before.before.before.before.before) name ≤ 2048
-few c name = (plan-fits (plan_in c.before.before.before.before.before.before.before.before.before.before.before) (ready c).plan-done name).n-high
+few : (c : At-loop-count) (name : SideName) → count_of (plan_of c.args.left.now c.args.right.now c.args.nl c.args.nr c.args.wiring.now) name ≤ 2048
+few c name = (plan-fits (plan_of c.args.left.now c.args.right.now c.args.nl c.args.nr c.args.wiring.now) (ready c).plan-done name).n-high
 
 -- ---- one more sweep
 
-abbrev block_left : After-sweep_turn-here → List ℕ
-block_left c = c.sweep_turn-here.new.block
-
-abbrev kept_left : After-sweep_turn-here → List ℕ
-kept_left c = c.sweep_turn-here.new.kept
-
 swept : (c : After-sweep_turn-here)
-    → NewsSwept (plan_in c.before.before.before.before.before.before.before.before.before.before.before.before.before.before.before.before.before) (turn c.loop-count.count) c.loop-count.block c.loop-count.kept c.sweep_turn-here.result (block_left c) (kept_left c)
+    → NewsSwept (plan_of c.args.left.now c.args.right.now c.args.nl c.args.nr c.args.wiring.now) (turn c.loop-count.count) c.loop-count.block c.loop-count.kept c.sweep_turn-here.result (c.sweep_turn-here.new.block) (c.sweep_turn-here.new.kept)
 swept c = rw c.loop-count.invariant.0 at c.sweep_turn-here.ensures.news_swept
 
-within : (c : After-sweep_turn-here) → c.loop-count.count ≤ H c.before.before.before.before.before.before.before.before.before.before.before.before.before.before.before.before.before
+within : (c : After-sweep_turn-here) → c.loop-count.count ≤ c.args.opening.limit
 within c = c.loop-count-test.true
 
 -- what is lent keeps its length
@@ -77,21 +62,21 @@ right-length : (c : After-sweep_turn-here)
     → length c.sweep_turn-here.new.right_finder ≡ length c.args.right-finder.now
 right-length c = c.sweep_turn-here.auto.right_finder ∙ c.loop-count.invariant.4
 
-block-length : (c : After-sweep_turn-here) → length (block_left c) ≡ length c.args.block.now
+block-length : (c : After-sweep_turn-here) → length (c.sweep_turn-here.new.block) ≡ length c.args.block.now
 block-length c = c.sweep_turn-here.auto.block ∙ c.loop-count.invariant.5
 
 -- the visits so far, and those of one sweep more, are few
 visits-fit : (c : After-sweep_turn-here) → c.loop-count.visits + c.sweep_turn-here.result.visits < 18446744073709551616
 visits-fit c =
     let m = one (record { before = c.before.before.before.before.before.before.before; type_inv = record { places = c.shared_slice_known-4-1.given; wiring = c.shared_slice_known-3-1.given; right = c.shared_slice_known-2-1.given; left = c.shared_slice_known-1.given; } }) in
-    let plan = plan_in c.before.before.before.before.before.before.before.before.before.before.before.before.before.before.before.before.before in
+    let plan = (plan_of c.args.left.now c.args.right.now c.args.nl c.args.nr c.args.wiring.now) in
     omega (
       arith,
       m.visited,
-      visits-few plan (some (record { before = c.before.before.before.before.before.before.before; type_inv = record { places = c.shared_slice_known-4-1.given; wiring = c.shared_slice_known-3-1.given; right = c.shared_slice_known-2-1.given; left = c.shared_slice_known-1.given; } })) (few (record { before = c.before.before.before.before.before.before.before; type_inv = record { places = c.shared_slice_known-4-1.given; wiring = c.shared_slice_known-3-1.given; right = c.shared_slice_known-2-1.given; left = c.shared_slice_known-1.given; } })) (min c.loop-count.count (H c.before.before.before.before.before.before.before.before.before.before.before.before.before.before.before.before.before)),
+      visits-few plan (c.requires.ready.received) (few (record { before = c.before.before.before.before.before.before.before; type_inv = record { places = c.shared_slice_known-4-1.given; wiring = c.shared_slice_known-3-1.given; right = c.shared_slice_known-2-1.given; left = c.shared_slice_known-1.given; } })) (min c.loop-count.count (c.args.opening.limit)),
       limited c.before.before.before.before.before.before.before.before.before.before.before.before.before.before.before.before.before,
       midway-visits (begun (record { before = c.before.before.before.before.before.before.before; type_inv = record { places = c.shared_slice_known-4-1.given; wiring = c.shared_slice_known-3-1.given; right = c.shared_slice_known-2-1.given; left = c.shared_slice_known-1.given; } }) m) m (swept c),
-      visits-in-few plan (some (record { before = c.before.before.before.before.before.before.before; type_inv = record { places = c.shared_slice_known-4-1.given; wiring = c.shared_slice_known-3-1.given; right = c.shared_slice_known-2-1.given; left = c.shared_slice_known-1.given; } })) (few (record { before = c.before.before.before.before.before.before.before; type_inv = record { places = c.shared_slice_known-4-1.given; wiring = c.shared_slice_known-3-1.given; right = c.shared_slice_known-2-1.given; left = c.shared_slice_known-1.given; } })) c.loop-count.count,
+      visits-in-few plan (c.requires.ready.received) (few (record { before = c.before.before.before.before.before.before.before; type_inv = record { places = c.shared_slice_known-4-1.given; wiring = c.shared_slice_known-3-1.given; right = c.shared_slice_known-2-1.given; left = c.shared_slice_known-1.given; } })) c.loop-count.count,
     )
 
 pub returns-then-opening : goal.returns-then-opening

@@ -23,27 +23,21 @@ use Rattle.decoder.proofs.settle.open.Goals.{After-note, After-note-2, After-swe
 
 -- ---- the call
 
-abbrev plan_in : Start → Plan
-plan_in c = plan_of c.args.left.now c.args.right.now c.args.nl c.args.nr c.args.wiring.now
-
-abbrev received_in : Start → List ℕ
-received_in c = c.args.block.now
-
-begun : (c : Start) → Begun (plan_in c) (received_in c)
+begun : (c : Start) → Begun (plan_of c.args.left.now c.args.right.now c.args.nl c.args.nr c.args.wiring.now) (c.args.block.now)
 begun c = record { plan-done = c.requires.kept_len.plan-done; block-done = c.requires.1.1.1 }
 
-few : (c : Start) (name : SideName) → count_of (plan_in c) name ≤ 2048
-few c name = (plan-fits (plan_in c) (begun c).plan-done name).n-high
+few : (c : Start) (name : SideName) → count_of (plan_of c.args.left.now c.args.right.now c.args.nl c.args.nr c.args.wiring.now) name ≤ 2048
+few c name = (plan-fits (plan_of c.args.left.now c.args.right.now c.args.nl c.args.nr c.args.wiring.now) (begun c).plan-done name).n-high
 
 -- ---- the two sweeps
 
-first-pass : (c : After-sweep_firsts-firsts) → Pass (plan_in c.before.before.before.before.before.before.before.before.before.before.before.before) (received_in c.before.before.before.before.before.before.before.before.before.before.before.before) 0 c.sweep_firsts-firsts.result.left
+first-pass : (c : After-sweep_firsts-firsts) → Pass (plan_of c.args.left.now c.args.right.now c.args.nl c.args.nr c.args.wiring.now) (c.args.block.now) 0 c.sweep_firsts-firsts.result.left
     c.sweep_firsts-firsts.ensures.both_swept.between
 first-pass c =
     pass (begun c.before.before.before.before.before.before.before.before.before.before.before.before) c.sweep_firsts-firsts.ensures.both_swept.left-swept turn-zero
-    (sym (after-zero (side_of (plan_in c.before.before.before.before.before.before.before.before.before.before.before.before)) (received_in c.before.before.before.before.before.before.before.before.before.before.before.before)))
+    (sym (after-zero (side_of (plan_of c.args.left.now c.args.right.now c.args.nl c.args.nr c.args.wiring.now)) (c.args.block.now)))
 
-second-pass : (c : After-sweep_firsts-firsts) → Pass (plan_in c.before.before.before.before.before.before.before.before.before.before.before.before) (received_in c.before.before.before.before.before.before.before.before.before.before.before.before) 1 c.sweep_firsts-firsts.result.right
+second-pass : (c : After-sweep_firsts-firsts) → Pass (plan_of c.args.left.now c.args.right.now c.args.nl c.args.nr c.args.wiring.now) (c.args.block.now) 1 c.sweep_firsts-firsts.result.right
     c.sweep_firsts-firsts.new.block
 second-pass c = pass (begun c.before.before.before.before.before.before.before.before.before.before.before.before) c.sweep_firsts-firsts.ensures.both_swept.right-swept turn_one (first-pass c).leaves
 
@@ -55,39 +49,39 @@ ties-few c =
       arith,
       both.left-swept.waiting,
       both.right-swept.waiting,
-      ties-le (side_of (plan_in c.before.before.before.before.before.before.before.before.before.before.before.before) left) (received_in c.before.before.before.before.before.before.before.before.before.before.before.before) c.args.nl,
-      ties-le (side_of (plan_in c.before.before.before.before.before.before.before.before.before.before.before.before) right) both.between c.args.nr,
+      ties-le (side_of (plan_of c.args.left.now c.args.right.now c.args.nl c.args.nr c.args.wiring.now) left) (c.args.block.now) c.args.nl,
+      ties-le (side_of (plan_of c.args.left.now c.args.right.now c.args.nl c.args.nr c.args.wiring.now) right) both.between c.args.nr,
       few c.before.before.before.before.before.before.before.before.before.before.before.before left,
       few c.before.before.before.before.before.before.before.before.before.before.before.before right,
     )
 
 -- ---- what they tell
 
-told_none : (c : Start) → Told (plan_in c) (received_in c) c.args.limit 0 (replicate 64 0) 0
+told_none : (c : Start) → Told (plan_of c.args.left.now c.args.right.now c.args.nl c.args.nr c.args.wiring.now) (c.args.block.now) c.args.limit 0 (replicate 64 0) 0
 told_none c = told-start (begun c) c.args.limit refl
 
-left-visits : (c : Start) → c.args.nl ≡ visits_in (plan_in c) (received_in c) 0
+left-visits : (c : Start) → c.args.nl ≡ visits_in (plan_of c.args.left.now c.args.right.now c.args.nl c.args.nr c.args.wiring.now) (c.args.block.now) 0
 unfolding turn
-left-visits c = sym (visits-full (plan_in c) (received_in c) 0 (omega arith))
+left-visits c = sym (visits-full (plan_of c.args.left.now c.args.right.now c.args.nl c.args.nr c.args.wiring.now) (c.args.block.now) 0 (omega arith))
 
-right-visits : (c : Start) → c.args.nr ≡ visits_in (plan_in c) (received_in c) 1
+right-visits : (c : Start) → c.args.nr ≡ visits_in (plan_of c.args.left.now c.args.right.now c.args.nl c.args.nr c.args.wiring.now) (c.args.block.now) 1
 unfolding turn other
-right-visits c = sym (visits-full (plan_in c) (received_in c) 1 (omega arith))
+right-visits c = sym (visits-full (plan_of c.args.left.now c.args.right.now c.args.nl c.args.nr c.args.wiring.now) (c.args.block.now) 1 (omega arith))
 
 told-one : (c : After-note)
-    → Told (plan_in c.before.before.before.before.before.before.before.before.before.before.before.before.before.before.before.before.before.before.before.before.before.before.before.before) (received_in c.before.before.before.before.before.before.before.before.before.before.before.before.before.before.before.before.before.before.before.before.before.before.before.before) c.args.limit 1 c.note.new.sums c.add_visits-one.result
+    → Told (plan_of c.args.left.now c.args.right.now c.args.nl c.args.nr c.args.wiring.now) (c.args.block.now) c.args.limit 1 c.note.new.sums c.add_visits-one.result
 told-one c =
     told_more (begun c.before.before.before.before.before.before.before.before.before.before.before.before.before.before.before.before.before.before.before.before.before.before.before.before) (told_none c.before.before.before.before.before.before.before.before.before.before.before.before.before.before.before.before.before.before.before.before.before.before.before.before) (first-pass (record { before = c.before.before.before.before.before.before.before.before.before.before.before.before.before; type_inv = record { wiring = c.shared_slice_known-3-1.given; right = c.shared_slice_known-2-1.given; left = c.shared_slice_known-1.given; } })) c.note.ensures (left-visits c.before.before.before.before.before.before.before.before.before.before.before.before.before.before.before.before.before.before.before.before.before.before.before.before) c.add_visits-one.ensures
 
 both-visits : (c : After-note)
-    → c.add_visits-two.result ≡ visits_made (plan_in c.before.before.before.before.before.before.before.before.before.before.before.before.before.before.before.before.before.before.before.before.before.before.before.before) (received_in c.before.before.before.before.before.before.before.before.before.before.before.before.before.before.before.before.before.before.before.before.before.before.before.before) (min 2 c.args.limit)
+    → c.add_visits-two.result ≡ visits_made (plan_of c.args.left.now c.args.right.now c.args.nl c.args.nr c.args.wiring.now) (c.args.block.now) (min 2 c.args.limit)
 both-visits c =
-    visits-added (plan_in c.before.before.before.before.before.before.before.before.before.before.before.before.before.before.before.before.before.before.before.before.before.before.before.before) (received_in c.before.before.before.before.before.before.before.before.before.before.before.before.before.before.before.before.before.before.before.before.before.before.before.before) c.args.limit 1 (told-one c).visits-are (right-visits c.before.before.before.before.before.before.before.before.before.before.before.before.before.before.before.before.before.before.before.before.before.before.before.before) c.add_visits-two.ensures
+    visits-added (plan_of c.args.left.now c.args.right.now c.args.nl c.args.nr c.args.wiring.now) (c.args.block.now) c.args.limit 1 (told-one c).visits-are (right-visits c.before.before.before.before.before.before.before.before.before.before.before.before.before.before.before.before.before.before.before.before.before.before.before.before) c.add_visits-two.ensures
 
 -- ---- the second changed something
 
 swept : (c : After-note-2)
-    → Swept (plan_in c.before.before.before.before.before.before.before.before.before.before.before.before.before.before.before.before.before.before.before.before.before.before.before.before.before.before.before.before) (received_in c.before.before.before.before.before.before.before.before.before.before.before.before.before.before.before.before.before.before.before.before.before.before.before.before.before.before.before.before) c.args.limit 2 c.sweep_firsts-firsts.new.block c.note-2.new.sums
+    → Swept (plan_of c.args.left.now c.args.right.now c.args.nl c.args.nr c.args.wiring.now) (c.args.block.now) c.args.limit 2 c.sweep_firsts-firsts.new.block c.note-2.new.sums
     c.add_visits-two.result
 swept c =
     swept-two (begun c.before.before.before.before.before.before.before.before.before.before.before.before.before.before.before.before.before.before.before.before.before.before.before.before.before.before.before.before) (second-pass (record { before = c.before.before.before.before.before.before.before.before.before.before.before.before.before.before.before.before.before; type_inv = record { wiring = c.shared_slice_known-3-1.given; right = c.shared_slice_known-2-1.given; left = c.shared_slice_known-1.given; } })) c.if-second-eq0.false
@@ -95,15 +89,15 @@ swept c =
 
 -- a third sweep is made
 going : (c : After-note-2)
-    → Midway (plan_in c.before.before.before.before.before.before.before.before.before.before.before.before.before.before.before.before.before.before.before.before.before.before.before.before.before.before.before.before) (received_in c.before.before.before.before.before.before.before.before.before.before.before.before.before.before.before.before.before.before.before.before.before.before.before.before.before.before.before.before) c.args.limit 2 c.note-2.new.sums c.add_visits-two.result
+    → Midway (plan_of c.args.left.now c.args.right.now c.args.nl c.args.nr c.args.wiring.now) (c.args.block.now) c.args.limit 2 c.note-2.new.sums c.add_visits-two.result
     c.sweep_firsts-firsts.new.kept c.sweep_firsts-firsts.new.block
 going c =
     open-going (begun c.before.before.before.before.before.before.before.before.before.before.before.before.before.before.before.before.before.before.before.before.before.before.before.before.before.before.before.before) (swept c) (first-pass (record { before = c.before.before.before.before.before.before.before.before.before.before.before.before.before.before.before.before.before; type_inv = record { wiring = c.shared_slice_known-3-1.given; right = c.shared_slice_known-2-1.given; left = c.shared_slice_known-1.given; } })).leaves c.sweep_firsts-firsts.ensures.both_swept.listening
 
 pub add_visits-two-requires : goal.add_visits-two-requires
 add_visits-two-requires c =
-    let one = visits-added (plan_in (goal.at.add_visits-two-requires c).Start) (received_in (goal.at.add_visits-two-requires c).Start) c.args.limit 0 (told_none (goal.at.add_visits-two-requires c).Start).visits-are (left-visits (goal.at.add_visits-two-requires c).Start) c.add_visits-one.ensures in
-    omega (arith, one, visits-few (plan_in (goal.at.add_visits-two-requires c).Start) (received_in (goal.at.add_visits-two-requires c).Start) (few (goal.at.add_visits-two-requires c).Start) (min 1 c.args.limit), few (goal.at.add_visits-two-requires c).Start right)
+    let one = visits-added (plan_of c.args.left.now c.args.right.now c.args.nl c.args.nr c.args.wiring.now) (c.args.block.now) c.args.limit 0 (told_none (goal.at.add_visits-two-requires c).Start).visits-are (left-visits (goal.at.add_visits-two-requires c).Start) c.add_visits-one.ensures in
+    omega (arith, one, visits-few (plan_of c.args.left.now c.args.right.now c.args.nl c.args.nr c.args.wiring.now) (c.args.block.now) (few (goal.at.add_visits-two-requires c).Start) (min 1 c.args.limit), few (goal.at.add_visits-two-requires c).Start right)
 
 pub note-requires : goal.note-requires
 note-requires c = record {
@@ -160,7 +154,7 @@ returns-then-limit-lt2 c =
 pub all_codewords-requires : goal.all_codewords-requires
 all_codewords-requires c =
     record {
-      n_bound = (plan-fits (plan_in (goal.at.all_codewords-requires c).Start) (begun (goal.at.all_codewords-requires c).Start).plan-done left).n-high;
+      n_bound = (plan-fits (plan_of c.args.left.now c.args.right.now c.args.nl c.args.nr c.args.wiring.now) (begun (goal.at.all_codewords-requires c).Start).plan-done left).n-high;
       finds = c.sweep_firsts-firsts.ensures.still_ready.left-finds;
     }
 

@@ -11,20 +11,17 @@ use Rattle.sweeps.proofs.Sweeping.{sweep-block}
 use Rattle.sweeps.proofs.Visiting.{ready-side, ready-left-swept}
 use borrow.Author.Rules.{rules}
 use Rattle.decoder.proofs.settle.sweep_firsts.Goals as goal
-use Rattle.decoder.proofs.settle.sweep_firsts.Goals.{After-sweep_first-first, Start}
-
-abbrev plan_in : Start → Plan
-plan_in c = plan_of c.args.left.now c.args.right.now c.args.nl c.args.nr c.args.wiring.now
+use Rattle.decoder.proofs.settle.sweep_firsts.Goals.{After-sweep_first-first}
 
 -- the block that the first sweep leaves is one of the plan's
-block-done : (c : After-sweep_first-first) → block_check (edge_count (plan_in c.before.before.before.before.before.before.before.before.before.before)) c.sweep_first-first.new.block ≡ done []
+block-done : (c : After-sweep_first-first) → block_check (edge_count (plan_of c.args.left.now c.args.right.now c.args.nl c.args.nr c.args.wiring.now)) c.sweep_first-first.new.block ≡ done []
 block-done c =
-    ap (block_check (edge_count (plan_in c.before.before.before.before.before.before.before.before.before.before))) c.sweep_first-first.ensures.side_swept.leaves
-    ∙ sweep-block (plan-whole (plan_in c.before.before.before.before.before.before.before.before.before.before) c.requires.wiring_value.plan-done left) c.args.block.now c.requires.ready
+    ap (block_check (edge_count (plan_of c.args.left.now c.args.right.now c.args.nl c.args.nr c.args.wiring.now))) c.sweep_first-first.ensures.side_swept.leaves
+    ∙ sweep-block (plan-whole (plan_of c.args.left.now c.args.right.now c.args.nl c.args.nr c.args.wiring.now) c.requires.wiring_value.plan-done left) c.args.block.now c.requires.ready
 
 pub sweep_first-first-requires : goal.sweep_first-first-requires
 sweep_first-first-requires c =
-    ready-side (plan_in (goal.at.sweep_first-first-requires c).Start) c.requires.wiring_value.plan-done left c.requires.wiring_value.left-finds
+    ready-side (plan_of c.args.left.now c.args.right.now c.args.nl c.args.nr c.args.wiring.now) c.requires.wiring_value.plan-done left c.requires.wiring_value.left-finds
 
 pub read_words-requires : goal.read_words-requires
 read_words-requires c =
@@ -33,4 +30,4 @@ read_words-requires c =
 pub sweep_right-second-requires : goal.sweep_right-second-requires
 sweep_right-second-requires c =
     let read = c.read_words.ensures in
-    (ready-left-swept c.requires.wiring_value c.sweep_first-first.ensures.finds, cleared-listening (plan_in (goal.at.sweep_right-second-requires c).Start) c.requires.wiring_value.plan-done right read.0 read.1)
+    (ready-left-swept c.requires.wiring_value c.sweep_first-first.ensures.finds, cleared-listening (plan_of c.args.left.now c.args.right.now c.args.nl c.args.nr c.args.wiring.now) c.requires.wiring_value.plan-done right read.0 read.1)

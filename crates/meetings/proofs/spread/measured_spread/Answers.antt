@@ -14,10 +14,7 @@ use Rattle.wiring.proofs.Permutation.{fitted-edges}
 use Rattle.wiring.proofs.Plans.{fitted-sheet}
 use Rattle.meetings.proofs.Walks.{noted-walk, walked-spread}
 use Rattle.meetings.proofs.spread.measured_spread.Goals as goal
-use Rattle.meetings.proofs.spread.measured_spread.Goals.{After-note_ends, Start}
-
-abbrev plan_in : Start → Plan
-plan_in c = plan_of c.args.left.now c.args.right.now c.args.nl c.args.nr c.args.wiring.now
+use Rattle.meetings.proofs.spread.measured_spread.Goals.{After-note_ends}
 
 -- the arrays have room for all edges
 room : (plan : Plan) → WiredPlan plan → edge_count plan ≤ length (replicate {A = ℕ} 32768 0)
@@ -42,13 +39,13 @@ overflow_mul-nl c = omega (arith, fitted-edges c.requires.left-fits)
 pub note_ends-requires : goal.note_ends-requires
 unfolding degree
 note_ends-requires c =
-    let fits = room (plan_in (goal.at.note_ends-requires c).Start) c.requires in
+    let fits = room (plan_of c.args.left.now c.args.right.now c.args.nl c.args.nr c.args.wiring.now) c.requires in
     wired-notable c.requires fits fits
 
 -- ---- past the notes of all edges
 
 noted : (c : After-note_ends)
-    → let plan = plan_in c.before.before.before.before.before.before.before.before.before in
+    → let plan = (plan_of c.args.left.now c.args.right.now c.args.nl c.args.nr c.args.wiring.now) in
     Noted (edge_of plan.wiring) (degree plan.left_sheet) (degree plan.right_sheet) (edge_count plan)
     c.note_ends.new.lefts c.note_ends.new.rights
 unfolding degree
@@ -57,7 +54,7 @@ noted c = c.note_ends.ensures.noted
 pub largest_unevenness-requires : goal.largest_unevenness-requires
 unfolding degree
 largest_unevenness-requires c =
-    let plan : Plan = plan_in (goal.at.largest_unevenness-requires c).Start in
+    let plan : Plan = (plan_of c.args.left.now c.args.right.now c.args.nl c.args.nr c.args.wiring.now) in
     let fits = room plan c.requires in
     noted-walk plan c.requires (noted (goal.at.largest_unevenness-requires c).After-note_ends)
     (subst (λ (m : ℕ). edge_count plan ≤ m) (sym c.note_ends.auto.lefts) fits)
@@ -66,4 +63,4 @@ largest_unevenness-requires c =
 pub returns : goal.returns
 unfolding degree
 returns c =
-    walked-spread (plan_in (goal.at.returns c).Start) c.requires (noted (goal.at.returns c).After-note_ends) c.largest_unevenness.result c.largest_unevenness.ensures
+    walked-spread (plan_of c.args.left.now c.args.right.now c.args.nl c.args.nr c.args.wiring.now) c.requires (noted (goal.at.returns c).After-note_ends) c.largest_unevenness.result c.largest_unevenness.ensures

@@ -13,7 +13,7 @@ plan_in c =
     let args = c.args in
     plan_of args.left.now args.right.now args.nl args.nr args.wiring.now
 
-plan : (c : In-Passed) → PlanAccepted (plan_in (record { before = c.before.before.before; type_inv = record { wiring = c.shared_slice_known-3-1.given; right = c.shared_slice_known-2-1.given; left = c.shared_slice_known-1.given; } })) c.check_plan-plan.result
+plan : (c : In-Passed) → PlanAccepted (plan_in (record { before = c.before.before; type_inv = record { wiring = c.shared_slice_known-3-1.given; right = c.shared_slice_known-2-1.given; left = c.shared_slice_known-1.given; } })) c.check_plan-plan.result
 plan c = plan-accepted _ _ c.check_plan-plan.ensures c.in-Passed.is
 
 pub measured_spread-requires : goal.measured_spread-requires

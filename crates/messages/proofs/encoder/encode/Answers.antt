@@ -10,13 +10,10 @@ use Rattle.messages.specs.Columns.{no_columns}
 use Rattle.messages.proofs.Answers.{encode-plan, encode-long}
 use Rattle.messages.proofs.Solving.{plan-wired-by, plan-stored}
 use Rattle.messages.proofs.encoder.encode.Goals as goal
-use Rattle.messages.proofs.encoder.encode.Goals.{In-Passed, Start}
-
-abbrev plan_in : Start → Plan
-plan_in c = plan_of c.args.left.now c.args.right.now c.args.nl c.args.nr c.args.wiring.now
+use Rattle.messages.proofs.encoder.encode.Goals.{In-Passed}
 
 -- what an accepted plan says
-plan : (c : In-Passed) → PlanAccepted (plan_in c.before.before.before.before.before.before.before.before.before) c.check_plan-plan.result
+plan : (c : In-Passed) → PlanAccepted (plan_of c.args.left.now c.args.right.now c.args.nl c.args.nr c.args.wiring.now) c.check_plan-plan.result
 plan c = plan-accepted _ _ c.check_plan-plan.ensures c.in-Passed.is
 
 pub overflow_mul-edges : goal.overflow_mul-edges

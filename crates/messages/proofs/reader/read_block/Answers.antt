@@ -19,13 +19,10 @@ use Rattle.messages.proofs.Answers.{read-plan, read-long, read-block, read-stran
 use Rattle.messages.proofs.Solving.{plan-wired-by, plan-stored}
 use Rattle.messages.proofs.Outcomes.{located-refused, located-nowhere, located-at}
 use Rattle.messages.proofs.reader.read_block.Goals as goal
-use Rattle.messages.proofs.reader.read_block.Goals.{After-check_block, Else-edges-gt-MAX_EDGES, In-Passed, In-Passed-check_block, Start}
-
-abbrev plan_in : Start → Plan
-plan_in c = plan_of c.args.left.now c.args.right.now c.args.nl c.args.nr c.args.wiring.now
+use Rattle.messages.proofs.reader.read_block.Goals.{After-check_block, Else-edges-gt-MAX_EDGES, In-Passed, In-Passed-check_block}
 
 -- what an accepted plan says
-plan : (c : In-Passed) → PlanAccepted (plan_in c.before.before.before.before.before.before.before.before.before) c.check_plan-plan.result
+plan : (c : In-Passed) → PlanAccepted (plan_of c.args.left.now c.args.right.now c.args.nl c.args.nr c.args.wiring.now) c.check_plan-plan.result
 plan c = plan-accepted _ _ c.check_plan-plan.ensures c.in-Passed.is
 
 pub overflow_mul-edges : goal.overflow_mul-edges
@@ -43,19 +40,16 @@ returns-then-edges-gt-MAX_EDGES c =
     }
 
 -- a plan of at most 512 edges
-short : (c : Else-edges-gt-MAX_EDGES) → edge_count (plan_in c.before.before.before.before.before.before.before.before.before.before.before) ≤ 512
+short : (c : Else-edges-gt-MAX_EDGES) → edge_count (plan_of c.args.left.now c.args.right.now c.args.nl c.args.nr c.args.wiring.now) ≤ 512
 short c = omega (arith, c.if-edges-gt-MAX_EDGES.false, accepted-edges (plan (record { before = c.before.before.before; type_inv = record { output = c.slice_known-1.given; block = c.shared_slice_known-4-1.given; wiring = c.shared_slice_known-3-1.given; right = c.shared_slice_known-2-1.given; left = c.shared_slice_known-1.given; } })))
 
-abbrev block_in : After-check_block → List ℕ
-block_in c = c.args.block.now
-
-checked : (c : After-check_block) → check_reply c.check_block.result ≡ block_check (edge_count (plan_in c.before.before.before.before.before.before.before.before.before.before.before.before)) (block_in c)
-checked c = c.check_block.ensures ∙ ap (λ (N : ℕ). block_check N (block_in c)) (accepted-edges (plan (record { before = c.before.before.before.before; type_inv = record { output = c.slice_known-1.given; block = c.shared_slice_known-4-1.given; wiring = c.shared_slice_known-3-1.given; right = c.shared_slice_known-2-1.given; left = c.shared_slice_known-1.given; } })))
+checked : (c : After-check_block) → check_reply c.check_block.result ≡ block_check (edge_count (plan_of c.args.left.now c.args.right.now c.args.nl c.args.nr c.args.wiring.now)) (c.args.block.now)
+checked c = c.check_block.ensures ∙ ap (λ (N : ℕ). block_check N (c.args.block.now)) (accepted-edges (plan (record { before = c.before.before.before.before; type_inv = record { output = c.slice_known-1.given; block = c.shared_slice_known-4-1.given; wiring = c.shared_slice_known-3-1.given; right = c.shared_slice_known-2-1.given; left = c.shared_slice_known-1.given; } })))
 
 -- a block of the plan
 passed : (c : In-Passed-check_block)
-    → block_check (edge_count (plan_in c.before.before.before.before.before.before.before.before.before.before.before.before.before.before)) (block_in (record { before = c.before.before.before; type_inv = record { output = c.slice_known-1.given; block = c.shared_slice_known-4-1.given; wiring = c.shared_slice_known-3-1.given; right = c.shared_slice_known-2-1.given; left = c.shared_slice_known-1.given; } })) ≡ done []
-passed c = sym (checked (record { before = c.before.before.before; type_inv = record { output = c.slice_known-1.given; block = c.shared_slice_known-4-1.given; wiring = c.shared_slice_known-3-1.given; right = c.shared_slice_known-2-1.given; left = c.shared_slice_known-1.given; } })) ∙ ap check_reply c.in-Passed-check_block.is
+    → block_check (edge_count (plan_of c.args.left.now c.args.right.now c.args.nl c.args.nr c.args.wiring.now)) (c.args.block.now) ≡ done []
+passed c = sym (checked (record { before = c.before.before; type_inv = record { output = c.slice_known-1.given; block = c.shared_slice_known-4-1.given; wiring = c.shared_slice_known-3-1.given; right = c.shared_slice_known-2-1.given; left = c.shared_slice_known-1.given; } })) ∙ ap check_reply c.in-Passed-check_block.is
 
 pub first_unsatisfied-requires : goal.first_unsatisfied-requires
 first_unsatisfied-requires c =

@@ -16,15 +16,6 @@ use Rattle.panel.proofs.load.load_state.Goals.{After-count_unsatisfied, In-Told}
 
 module _ (c : After-count_unsatisfied) where
 
-  abbrev plan_in : Plan
-  plan_in = plan_of c.args.left.now c.args.right.now c.args.nl c.args.nr c.args.wiring.now
-
-  abbrev block : List ℕ
-  block = c.args.block.now
-
-  abbrev lent : List ℕ
-  lent = c.args.state.now
-
 module _ (c : In-Told) where
 
   told : counted_reply c.count_unsatisfied.result ≡ done (c.in-Told.count ∷ [])
@@ -32,25 +23,25 @@ module _ (c : In-Told) where
 
 pub returns-then-state-lt-HEAD : goal.returns-then-state-lt-HEAD
 returns-then-state-lt-HEAD c =
-    load-no-room (plan_in (goal.at.returns-then-state-lt-HEAD c).After-count_unsatisfied) (block (goal.at.returns-then-state-lt-HEAD c).After-count_unsatisfied) (lent (goal.at.returns-then-state-lt-HEAD c).After-count_unsatisfied) c.count_unsatisfied.ensures (told (goal.at.returns-then-state-lt-HEAD c).In-Told) (omega arith) c.short.ensures
+    load-no-room (plan_of c.args.left.now c.args.right.now c.args.nl c.args.nr c.args.wiring.now) (c.args.block.now) (c.args.state.now) c.count_unsatisfied.ensures (told (goal.at.returns-then-state-lt-HEAD c).In-Told) (omega arith) c.short.ensures
 
 pub returns-then-state-block : goal.returns-then-state-block
 returns-then-state-block c =
-    load-no-room (plan_in (goal.at.returns-then-state-block c).After-count_unsatisfied) (block (goal.at.returns-then-state-block c).After-count_unsatisfied) (lent (goal.at.returns-then-state-block c).After-count_unsatisfied) c.count_unsatisfied.ensures (told (goal.at.returns-then-state-block c).In-Told) (omega arith) c.short-then-state-block.ensures
+    load-no-room (plan_of c.args.left.now c.args.right.now c.args.nl c.args.nr c.args.wiring.now) (c.args.block.now) (c.args.state.now) c.count_unsatisfied.ensures (told (goal.at.returns-then-state-block c).In-Told) (omega arith) c.short-then-state-block.ensures
 
 pub put_head-requires : goal.put_head-requires
 put_head-requires c =
     record {
       in_bounds = omega arith;
-      count_bound = load_low (plan_in (goal.at.put_head-requires c).After-count_unsatisfied) (block (goal.at.put_head-requires c).After-count_unsatisfied) c.count_unsatisfied.ensures (told (goal.at.put_head-requires c).In-Told);
+      count_bound = load_low (plan_of c.args.left.now c.args.right.now c.args.nl c.args.nr c.args.wiring.now) (c.args.block.now) c.count_unsatisfied.ensures (told (goal.at.put_head-requires c).In-Told);
       sweeps_bound = omega arith;
     }
 
 pub returns-in-Refused : goal.returns-in-Refused
 returns-in-Refused c =
-    load-block-refused (plan_in (goal.at.returns-in-Refused c).After-count_unsatisfied) (block (goal.at.returns-in-Refused c).After-count_unsatisfied) (lent (goal.at.returns-in-Refused c).After-count_unsatisfied) c.count_unsatisfied.ensures (ap counted_reply c.in-Refused.is)
+    load-block-refused (plan_of c.args.left.now c.args.right.now c.args.nl c.args.nr c.args.wiring.now) (c.args.block.now) (c.args.state.now) c.count_unsatisfied.ensures (ap counted_reply c.in-Refused.is)
 
 pub returns-else-state-block : goal.returns-else-state-block
 returns-else-state-block c =
-    load-put (plan_in (goal.at.returns-else-state-block c).After-count_unsatisfied) (block (goal.at.returns-else-state-block c).After-count_unsatisfied) (lent (goal.at.returns-else-state-block c).After-count_unsatisfied) c.count_unsatisfied.ensures (told (goal.at.returns-else-state-block c).In-Told) (omega arith) c.put_head.ensures
+    load-put (plan_of c.args.left.now c.args.right.now c.args.nl c.args.nr c.args.wiring.now) (c.args.block.now) (c.args.state.now) c.count_unsatisfied.ensures (told (goal.at.returns-else-state-block c).In-Told) (omega arith) c.put_head.ensures
     c.copy_front.ensures

@@ -13,26 +13,18 @@ use Rattle.panel.proofs.set.set_bit.Goals as goal
 use Rattle.panel.proofs.set.set_bit.Goals.{After-set_bit, In-Told, Start}
 
 module _ (c : Start) where
-  abbrev plan_in : Plan
-  plan_in = plan_of c.args.left.now c.args.right.now c.args.nl c.args.nr c.args.wiring.now
-
-  abbrev state_in : List ℕ
-  state_in = c.args.state.now
 
 pub returns-then-state-lt-HEAD : goal.returns-then-state-lt-HEAD
 returns-then-state-lt-HEAD c =
-    set-too-short (plan_in (goal.at.returns-then-state-lt-HEAD c).Start) _ _ (state_in (goal.at.returns-then-state-lt-HEAD c).Start) c.if-state-lt-HEAD.true c.refuse_short.ensures
+    set-too-short (plan_of c.args.left.now c.args.right.now c.args.nl c.args.nr c.args.wiring.now) _ _ (c.args.state.now) c.if-state-lt-HEAD.true c.refuse_short.ensures
 
 -- ---- the block is lent on
 
 module _ (c : After-set_bit) where
 
-  abbrev after : List ℕ
-  after = c.set_bit.new.block
-
-  lent : SetLent (plan_in c.before.before.before.before.before.before.before.before.before.before) c.args.bit c.args.value (state_in c.before.before.before.before.before.before.before.before.before.before) (counted_reply c.set_bit.result) after
+  lent : SetLent (plan_of c.args.left.now c.args.right.now c.args.nl c.args.nr c.args.wiring.now) c.args.bit c.args.value (c.args.state.now) (counted_reply c.set_bit.result) c.set_bit.new.block
   lent =
-      set-lent (plan_in c.before.before.before.before.before.before.before.before.before.before) c.args.bit c.args.value (state_in c.before.before.before.before.before.before.before.before.before.before) c.if-state-lt-HEAD.false c.one_or_zero.ensures
+      set-lent (plan_of c.args.left.now c.args.right.now c.args.nl c.args.nr c.args.wiring.now) c.args.bit c.args.value (c.args.state.now) c.if-state-lt-HEAD.false c.one_or_zero.ensures
       c.set_bit.ensures.result_value c.set_bit.ensures.block_after
 
 module _ (c : In-Told) where

@@ -10,12 +10,9 @@ use Rattle.wiring.proofs.Plans.{PlanAccepted, plan-accepted, plan-refused, accep
 use Rattle.panel.proofs.States.{block-lent}
 use Rattle.panel.proofs.Answers.{state-long}
 use Rattle.panel.proofs.state.check_state.Goals as goal
-use Rattle.panel.proofs.state.check_state.Goals.{After-struct_known-1, Start}
+use Rattle.panel.proofs.state.check_state.Goals.{After-struct_known-1}
 
-abbrev plan_in : Start → Plan
-plan_in c = plan_of c.args.left.now c.args.right.now c.args.nl c.args.nr c.args.wiring.now
-
-plan : (c : After-struct_known-1) → PlanAccepted (plan_in c.before.before.before.before.before.before.before.before.before) c.check_plan-plan.result
+plan : (c : After-struct_known-1) → PlanAccepted (plan_of c.args.left.now c.args.right.now c.args.nl c.args.nr c.args.wiring.now) c.check_plan-plan.result
 plan c = plan-accepted _ _ c.check_plan-plan.ensures c.in-Passed.is
 
 pub overflow_mul-plan : goal.overflow_mul-plan
@@ -25,11 +22,11 @@ overflow_mul-plan c =
 
 pub returns-in-Refused : goal.returns-in-Refused
 returns-in-Refused c =
-    let refuses = plan-refused (plan_in (goal.at.returns-in-Refused c).Start) _ c.check_plan-plan.ensures _ c.in-Refused.is in
-    sym (state-long (plan_in (goal.at.returns-in-Refused c).Start) c.args.state.now c.requires ∙ and_then-refused _ _ _ _ refuses)
+    let refuses = plan-refused (plan_of c.args.left.now c.args.right.now c.args.nl c.args.nr c.args.wiring.now) _ c.check_plan-plan.ensures _ c.in-Refused.is in
+    sym (state-long (plan_of c.args.left.now c.args.right.now c.args.nl c.args.nr c.args.wiring.now) c.args.state.now c.requires ∙ and_then-refused _ _ _ _ refuses)
 
 pub returns-in-Passed : goal.returns-in-Passed
 returns-in-Passed c =
     let p = plan (goal.at.returns-in-Passed c).After-struct_known-1 in
     c.check_block.ensures ∙ ap₂ block_check (accepted-edges p) (block-lent c.args.state.now)
-    ∙ sym (state-long (plan_in (goal.at.returns-in-Passed c).Start) c.args.state.now c.requires ∙ and_then-passed _ _ _ p.plan-done)
+    ∙ sym (state-long (plan_of c.args.left.now c.args.right.now c.args.nl c.args.nr c.args.wiring.now) c.args.state.now c.requires ∙ and_then-passed _ _ _ p.plan-done)

@@ -15,15 +15,10 @@ use Rattle.panel.proofs.sweep.sweep_state.Goals as goal
 use Rattle.panel.proofs.sweep.sweep_state.Goals.{After-read_head-head, After-sweep_once, In-Told, Start}
 
 module _ (c : Start) where
-  abbrev plan_in : Plan
-  plan_in = plan_of c.args.left.now c.args.right.now c.args.nl c.args.nr c.args.wiring.now
-
-  abbrev state_in : List ℕ
-  state_in = c.args.state.now
 
 pub returns-then-state-lt-HEAD : goal.returns-then-state-lt-HEAD
 returns-then-state-lt-HEAD c =
-    sweep-too-short (plan_in (goal.at.returns-then-state-lt-HEAD c).Start) (state_in (goal.at.returns-then-state-lt-HEAD c).Start) c.if-state-lt-HEAD.true c.refuse_short.ensures
+    sweep-too-short (plan_of c.args.left.now c.args.right.now c.args.nl c.args.nr c.args.wiring.now) (c.args.state.now) c.if-state-lt-HEAD.true c.refuse_short.ensures
 
 -- ---- a state whose count and sweep number are read
 
@@ -31,32 +26,29 @@ module _ (c : After-read_head-head) where
 
 pub returns-in-Refused : goal.returns-in-Refused
 returns-in-Refused c =
-    sweep-state-refused (plan_in (goal.at.returns-in-Refused c).Start) (state_in (goal.at.returns-in-Refused c).Start) c.check_state.ensures (ap check_reply c.in-Refused.is)
+    sweep-state-refused (plan_of c.args.left.now c.args.right.now c.args.nl c.args.nr c.args.wiring.now) (c.args.state.now) c.check_state.ensures (ap check_reply c.in-Refused.is)
 
 pub returns-in-Passed : goal.returns-in-Passed
 returns-in-Passed c =
-    sweep-settled (plan_in (goal.at.returns-in-Passed c).Start) (state_in (goal.at.returns-in-Passed c).Start) c.read_head-head.ensures.count_value.0 c.read_head-head.ensures.sweeps_value.0
+    sweep-settled (plan_of c.args.left.now c.args.right.now c.args.nl c.args.nr c.args.wiring.now) (c.args.state.now) c.read_head-head.ensures.count_value.0 c.read_head-head.ensures.sweeps_value.0
     c.check_state.ensures (ap check_reply c.in-Passed.is) c.if-count-eq0.true
 
 pub returns-in-Refused-check_state : goal.returns-in-Refused-check_state
 returns-in-Refused-check_state c =
-    sweep-state-refused (plan_in (goal.at.returns-in-Refused-check_state c).Start) (state_in (goal.at.returns-in-Refused-check_state c).Start) c.check_state-then-sweeps-ge-MAX_SWEEPS.ensures (ap check_reply c.in-Refused-check_state.is)
+    sweep-state-refused (plan_of c.args.left.now c.args.right.now c.args.nl c.args.nr c.args.wiring.now) (c.args.state.now) c.check_state-then-sweeps-ge-MAX_SWEEPS.ensures (ap check_reply c.in-Refused-check_state.is)
 
 pub returns-in-Passed-check_state : goal.returns-in-Passed-check_state
 returns-in-Passed-check_state c =
-    sweep-over (plan_in (goal.at.returns-in-Passed-check_state c).Start) (state_in (goal.at.returns-in-Passed-check_state c).Start) c.read_head-head.ensures.count_value.0 c.read_head-head.ensures.sweeps_value.0
+    sweep-over (plan_of c.args.left.now c.args.right.now c.args.nl c.args.nr c.args.wiring.now) (c.args.state.now) c.read_head-head.ensures.count_value.0 c.read_head-head.ensures.sweeps_value.0
     c.check_state-then-sweeps-ge-MAX_SWEEPS.ensures (ap check_reply c.in-Passed-check_state.is) c.if-count-eq0.false c.if-sweeps-ge-MAX_SWEEPS.true
 
 -- ---- the block is lent on
 
 module _ (c : After-sweep_once) where
 
-  abbrev after : List ℕ
-  after = c.sweep_once.new.block
-
-  lent : SweptLent (plan_in c.before.before.before.before.before.before.before.before.before.before.before.before) (state_in c.before.before.before.before.before.before.before.before.before.before.before.before) (counted_reply c.sweep_once.result) after
+  lent : SweptLent (plan_of c.args.left.now c.args.right.now c.args.nl c.args.nr c.args.wiring.now) (c.args.state.now) (counted_reply c.sweep_once.result) c.sweep_once.new.block
   lent =
-      sweep-lent (plan_in c.before.before.before.before.before.before.before.before.before.before.before.before) (state_in c.before.before.before.before.before.before.before.before.before.before.before.before) c.read_head-head.ensures.sweeps_value.0 c.if-state-lt-HEAD.false
+      sweep-lent (plan_of c.args.left.now c.args.right.now c.args.nl c.args.nr c.args.wiring.now) (c.args.state.now) c.read_head-head.ensures.sweeps_value.0 c.if-state-lt-HEAD.false
       c.side_at-side.ensures c.sweep_once.ensures.result_value c.sweep_once.ensures.block_after
 
 module _ (c : In-Told) where

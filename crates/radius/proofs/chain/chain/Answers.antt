@@ -14,52 +14,47 @@ use Rattle.wiring.specs.declared.side.SideName.{SideName}
 use Rattle.radius.proofs.MarginChain.{sweeps_from, covered-slack, next-falls, slack-covered}
 use Rattle.radius.proofs.ChainWalk.{counted, walk-starts, walk_steps, walk-stops, walk_ends}
 use Rattle.radius.proofs.chain.chain.Goals as goal
-use Rattle.radius.proofs.chain.chain.Goals.{After-distance_to, At-loop-b, Else-square-limit}
+use Rattle.radius.proofs.chain.chain.Goals.{After-distance_to, Else-square-limit}
 
 square-fits : (s : ℕ) → s ≤ 32768 → s * s < 2 ^ 64
 square-fits s l = omega (arith, mul-le-mul l l)
 
 -- ---- a turn: the call and the loop's head, and from these the step that the turn takes
 
-abbrev numbers : At-loop-b → PlanNumbers
-numbers c = c.args.plan
-
 -- A as the code has it, with the distance of the side that the step goes to
-abbrev slack_now : After-distance_to → ℕ
-slack_now c = c.distance_to.result * (numbers c.before.before).nr - 2 * (numbers c.before.before).dl * c.loop-b.b
 
-slack-is : (c : After-distance_to) → slack (measures_by (numbers c.before.before)) c.loop-b.to c.loop-b.b ≡ slack_now c
+slack-is : (c : After-distance_to) → slack (measures_by (c.args.plan)) c.loop-b.to c.loop-b.b ≡ (c.distance_to.result * (c.args.plan).nr - 2 * (c.args.plan).dl * c.loop-b.b)
 unfolding slack
-slack-is c = ap (λ (D : ℕ). D * (numbers c.before.before).nr - 2 * (numbers c.before.before).dl * c.loop-b.b) (sym c.distance_to.ensures)
+slack-is c = ap (λ (D : ℕ). D * (c.args.plan).nr - 2 * (c.args.plan).dl * c.loop-b.b) (sym c.distance_to.ensures)
 
 next-is : (c : After-distance_to)
-    → next_bound (measures_by (numbers c.before.before)) c.loop-b.to c.loop-b.b
-    ≡ 4 * (numbers c.before.before).nr * (numbers c.before.before).spread * c.loop-b.b / (slack_now c * slack_now c)
+    → next_bound (measures_by (c.args.plan)) c.loop-b.to c.loop-b.b
+    ≡ 4 * (c.args.plan).nr * (c.args.plan).spread * c.loop-b.b / ((c.distance_to.result * (c.args.plan).nr - 2 * (c.args.plan).dl * c.loop-b.b) * (c.distance_to.result * (c.args.plan).nr - 2 * (c.args.plan).dl * c.loop-b.b))
 unfolding next_bound
 next-is c = rw (slack-is c)
 
-whole-most : (c : After-distance_to) → c.distance_to.result * (numbers c.before.before).nr ≤ 32768
+whole-most : (c : After-distance_to) → c.distance_to.result * (c.args.plan).nr ≤ 32768
 whole-most c =
     let r = c.requires.in_range in
     let low : c.distance_to.result ≤ 16 = omega (arith, r.distance_high c.loop-b.to) in
     omega (arith, mul-le-mul low r.nr-high)
 
 -- where neither test has returned, A is above 0 and the step from b is covered
-slack-pos : (c : Else-square-limit) → 0 < slack_now c.before.before.before.before
+slack-pos : (c : Else-square-limit) → 0 < (c.distance_to.result * (c.args.plan).nr - 2 * (c.args.plan).dl * c.loop-b.b)
 slack-pos c = omega arith
 
 covered : (c : Else-square-limit)
-    → step_covered (measures_by (numbers c.before.before.before.before.before.before)) c.loop-b.to c.loop-b.b ≡ true
+    → step_covered (measures_by (c.args.plan)) c.loop-b.to c.loop-b.b ≡ true
 covered c = slack-covered _ _ _ (rw (slack-is c.before.before.before.before) (slack-pos c)) (rw (slack-is c.before.before.before.before) c.if-square-limit.false)
 
 falls : (c : Else-square-limit)
-    → next_bound (measures_by (numbers c.before.before.before.before.before.before)) c.loop-b.to c.loop-b.b < c.loop-b.b
+    → next_bound (measures_by (c.args.plan)) c.loop-b.to c.loop-b.b < c.loop-b.b
 falls c = next-falls _ _ _ (covered c) c.loop-b-test.true
 
 -- a step that is not covered ends the walk
 stops : (c : After-distance_to)
-    → ((0 < slack_now c) × (4 * (numbers c.before.before).nr * (numbers c.before.before).spread < slack_now c * slack_now c) → ⊥)
-    → 0 ≡ sweeps_from (measures_by (numbers c.before.before)) right c.args.first
+    → ((0 < (c.distance_to.result * (c.args.plan).nr - 2 * (c.args.plan).dl * c.loop-b.b)) × (4 * (c.args.plan).nr * (c.args.plan).spread < (c.distance_to.result * (c.args.plan).nr - 2 * (c.args.plan).dl * c.loop-b.b) * (c.distance_to.result * (c.args.plan).nr - 2 * (c.args.plan).dl * c.loop-b.b)) → ⊥)
+    → 0 ≡ sweeps_from (measures_by (c.args.plan)) right c.args.first
 stops c never =
     sym (walk-stops _ _ _ _ _ c.loop-b.invariant.1 c.loop-b-test.true
     (λ step. never (rw (slack-is c) at (covered-slack _ _ _ step))))
@@ -104,7 +99,7 @@ loop-b-preserved c =
     let bound = next-is (goal.at.loop-b-preserved c).After-distance_to in (
       omega (arith, falls (goal.at.loop-b-preserved c).Else-square-limit, bound),
       walk_steps _ _ _ _ _ c.loop-b.invariant.1 c.loop-b-test.true (covered (goal.at.loop-b-preserved c).Else-square-limit)
-          ∙ ap₂ (λ (to : SideName) (b : ℕ). counted (c.loop-b.place + 1) (sweeps_from (measures_by (numbers (goal.at.loop-b-preserved c).At-loop-b)) to b)) (sym c.other_side-to.ensures) bound,
+          ∙ ap₂ (λ (to : SideName) (b : ℕ). counted (c.loop-b.place + 1) (sweeps_from (measures_by (c.args.plan)) to b)) (sym c.other_side-to.ensures) bound,
     )
 
 pub returns : goal.returns

@@ -15,10 +15,7 @@ use Rattle.radius.proofs.MarginChain.{named-one}
 use Rattle.radius.proofs.PlanNumbers.{distance_is}
 use Rattle.radius.proofs.PlanRanges.{measures-plan, plan-within}
 use Rattle.radius.proofs.margins.measured_sweeps.Goals as goal
-use Rattle.radius.proofs.margins.measured_sweeps.Goals.{After-measured_distance-distance, Start}
-
-abbrev plan_in : Start → Plan
-plan_in c = plan_of c.args.left.now c.args.right.now c.args.nl c.args.nr c.args.wiring.now
+use Rattle.radius.proofs.margins.measured_sweeps.Goals.{After-measured_distance-distance}
 
 pub bounds-left-1 : goal.bounds-left-1
 bounds-left-1 c = omega (arith, ((plan-sound _ c.requires.wiring_value).0 left).sized)
@@ -28,28 +25,28 @@ overflow_cast-left c = omega (arith, c.type_inv.left 1)
 
 -- ---- past the left distance
 
-distance : (c : After-measured_distance-distance) → c.measured_distance-distance.result ≡ distance_of (side_of (plan_in c.before.before.before.before.before.before) left)
+distance : (c : After-measured_distance-distance) → c.measured_distance-distance.result ≡ distance_of (side_of (plan_of c.args.left.now c.args.right.now c.args.nl c.args.nr c.args.wiring.now) left)
 unfolding row_count
 distance c =
-    let plan = plan_in c.before.before.before.before.before.before in
+    let plan = (plan_of c.args.left.now c.args.right.now c.args.nl c.args.nr c.args.wiring.now) in
     distance_is plan left ((plan-sound plan c.requires.wiring_value).0 left) _ c.measured_distance-distance.ensures
 
 pub first_bound-requires : goal.first_bound-requires
 first_bound-requires c =
-    let wired = (plan-sound (plan_in (goal.at.first_bound-requires c).Start) c.requires.wiring_value).1 in
+    let wired = (plan-sound (plan_of c.args.left.now c.args.right.now c.args.nl c.args.nr c.args.wiring.now) c.requires.wiring_value).1 in
     (rw (distance c) (distance-pos _ _), omega (arith, c.requires.1, fitted-edges wired.left-fits))
 
 pub returns-then-first_bound-eq0 : goal.returns-then-first_bound-eq0
 returns-then-first_bound-eq0 c =
     let first = c.first_bound.ensures in
-    sym (named-one (measures_of (plan_in (goal.at.returns-then-first_bound-eq0 c).Start)) _ c.requires.1 (rw (← distance (goal.at.returns-then-first_bound-eq0 c).After-measured_distance-distance) (sym first ∙ c.if-first_bound-eq0.true)))
+    sym (named-one (measures_of (plan_of c.args.left.now c.args.right.now c.args.nl c.args.nr c.args.wiring.now)) _ c.requires.1 (rw (← distance (goal.at.returns-then-first_bound-eq0 c).After-measured_distance-distance) (sym first ∙ c.if-first_bound-eq0.true)))
 
 pub sweeps_named-requires : goal.sweeps_named-requires
 sweeps_named-requires c =
-    rw c.measured_numbers.ensures (plan-within (plan_in (goal.at.sweeps_named-requires c).Start) c.requires.wiring_value)
+    rw c.measured_numbers.ensures (plan-within (plan_of c.args.left.now c.args.right.now c.args.nl c.args.nr c.args.wiring.now) c.requires.wiring_value)
 
 pub returns : goal.returns
 returns c =
     c.sweeps_named.ensures
     ∙ ap (λ (m : Measures). sweeps_named m c.args.flips)
-    (ap measures_by c.measured_numbers.ensures ∙ measures-plan (plan_in (goal.at.returns c).Start))
+    (ap measures_by c.measured_numbers.ensures ∙ measures-plan (plan_of c.args.left.now c.args.right.now c.args.nl c.args.nr c.args.wiring.now))

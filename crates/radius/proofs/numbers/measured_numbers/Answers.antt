@@ -10,10 +10,7 @@ use Rattle.radius.proofs.PlanNumbers.{distance_is}
 use Rattle.radius.proofs.numbers.measured_numbers.Goals as goal
 use Rattle.radius.proofs.numbers.measured_numbers.Goals.{Start}
 
-abbrev plan_in : Start → Plan
-plan_in c = plan_of c.args.left.now c.args.right.now c.args.nl c.args.nr c.args.wiring.now
-
-sheet : (c : Start) (name : SideName) → Sound (sheet_of (plan_in c) name)
+sheet : (c : Start) (name : SideName) → Sound (sheet_of (plan_of c.args.left.now c.args.right.now c.args.nl c.args.nr c.args.wiring.now) name)
 sheet c = (plan-sound _ c.requires).0
 
 pub bounds-left-0 : goal.bounds-left-0
@@ -46,7 +43,7 @@ measured_spread-requires c = (plan-sound _ c.requires).1
 pub returns : goal.returns
 unfolding degree row_count
 returns c =
-    let plan = plan_in (goal.at.returns c).Start in
+    let plan = (plan_of c.args.left.now c.args.right.now c.args.nl c.args.nr c.args.wiring.now) in
     rw (
       distance_is plan left (sheet (goal.at.returns c).Start left) _ c.measured_distance.ensures,
       distance_is plan right (sheet (goal.at.returns c).Start right) _ c.measured_distance-2.ensures,

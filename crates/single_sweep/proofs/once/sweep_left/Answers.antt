@@ -15,22 +15,19 @@ use Rattle.single_sweep.proofs.TurnedBits.{across-left}
 use Rattle.single_sweep.proofs.once.sweep_left.Goals as goal
 use Rattle.single_sweep.proofs.once.sweep_left.Goals.{Start}
 
-abbrev plan_in : Start → Plan
-plan_in c = plan_of c.args.left.now c.args.right.now c.args.nl c.args.nr c.args.wiring.now
-
-accepted : (c : Start) → plan_check (plan_in c) ≡ done []
-accepted c = check-accepted (plan_in c) _ c.requires.wiring_value
+accepted : (c : Start) → plan_check (plan_of c.args.left.now c.args.right.now c.args.nl c.args.nr c.args.wiring.now) ≡ done []
+accepted c = check-accepted (plan_of c.args.left.now c.args.right.now c.args.nl c.args.nr c.args.wiring.now) _ c.requires.wiring_value
 
 pub prepare_finder-requires : goal.prepare_finder-requires
 prepare_finder-requires c =
-    side-preparable (plan_in (goal.at.prepare_finder-requires c).Start) (accepted (goal.at.prepare_finder-requires c).Start) left c.requires.block_value refl
+    side-preparable (plan_of c.args.left.now c.args.right.now c.args.nl c.args.nr c.args.wiring.now) (accepted (goal.at.prepare_finder-requires c).Start) left c.requires.block_value refl
 
 pub note_places-requires : goal.note_places-requires
 note_places-requires c =
-    let entries = plan-entries (plan_in (goal.at.note_places-requires c).Start) (accepted (goal.at.note_places-requires c).Start) in
-    let few = plan-few (plan_in (goal.at.note_places-requires c).Start) (accepted (goal.at.note_places-requires c).Start) in
+    let entries = plan-entries (plan_of c.args.left.now c.args.right.now c.args.nl c.args.nr c.args.wiring.now) (accepted (goal.at.note_places-requires c).Start) in
+    let few = plan-few (plan_of c.args.left.now c.args.right.now c.args.nl c.args.nr c.args.wiring.now) (accepted (goal.at.note_places-requires c).Start) in
     record {
-      permuted = plan-permuted (plan_in (goal.at.note_places-requires c).Start) (accepted (goal.at.note_places-requires c).Start);
+      permuted = plan-permuted (plan_of c.args.left.now c.args.right.now c.args.nl c.args.nr c.args.wiring.now) (accepted (goal.at.note_places-requires c).Start);
       wiring_len_bound = omega (arith, entries, few);
       wiring_in_bounds = omega (arith, entries, few, length-replicate {A = ℕ} 32768 0);
     }
@@ -45,7 +42,7 @@ sweep_told-requires c =
           c.requires.1.1,
           (
             c.prepare_finder.ensures,
-            across-left (plan_in (goal.at.sweep_told-requires c).Start) (accepted (goal.at.sweep_told-requires c).Start) c.note_places.ensures.places_noted,
+            across-left (plan_of c.args.left.now c.args.right.now c.args.nl c.args.nr c.args.wiring.now) (accepted (goal.at.sweep_told-requires c).Start) c.note_places.ensures.places_noted,
           ),
         ),
       ),

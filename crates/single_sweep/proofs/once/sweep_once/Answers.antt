@@ -12,12 +12,9 @@ use Rattle.wiring.proofs.Plans.{PlanAccepted, plan-accepted, plan-refused, accep
 use Rattle.single_sweep.specs.Answer.{once_check}
 use Rattle.single_sweep.proofs.Answers.{check-plan, check-block, once-refused, once-swept}
 use Rattle.single_sweep.proofs.once.sweep_once.Goals as goal
-use Rattle.single_sweep.proofs.once.sweep_once.Goals.{In-Passed, In-Passed-check_block, Start}
+use Rattle.single_sweep.proofs.once.sweep_once.Goals.{In-Passed, In-Passed-check_block}
 
-abbrev plan_in : Start → Plan
-plan_in c = plan_of c.args.left.now c.args.right.now c.args.nl c.args.nr c.args.wiring.now
-
-plan : (c : In-Passed) → PlanAccepted (plan_in c.before.before.before.before.before.before.before.before) c.check_plan-plan.result
+plan : (c : In-Passed) → PlanAccepted (plan_of c.args.left.now c.args.right.now c.args.nl c.args.nr c.args.wiring.now) c.check_plan-plan.result
 plan c = plan-accepted _ _ c.check_plan-plan.ensures c.in-Passed.is
 
 pub overflow_mul-plan : goal.overflow_mul-plan
@@ -25,9 +22,9 @@ overflow_mul-plan c =
     let p = plan (goal.at.overflow_mul-plan c).In-Passed in
     omega (arith, accepted-edges p, fitted-edges p.plan-wired.left-fits)
 
-passed : (c : In-Passed-check_block) → once_check (plan_in c.before.before.before.before.before.before.before.before.before.before.before.before) c.args.block.now ≡ done []
+passed : (c : In-Passed-check_block) → once_check (plan_of c.args.left.now c.args.right.now c.args.nl c.args.nr c.args.wiring.now) c.args.block.now ≡ done []
 passed c =
-    let p = plan (record { before = c.before.before.before.before.before; type_inv = record { block = c.slice_known-1.given; wiring = c.shared_slice_known-3-1.given; right = c.shared_slice_known-2-1.given; left = c.shared_slice_known-1.given; } }) in
+    let p = plan (record { before = c.before.before.before.before; type_inv = record { block = c.slice_known-1.given; wiring = c.shared_slice_known-3-1.given; right = c.shared_slice_known-2-1.given; left = c.shared_slice_known-1.given; } }) in
     check-block _ _ p.plan-done
     (rw (accepted-edges p) at (sym c.check_block.ensures ∙ ap check_reply c.in-Passed-check_block.is))
 

@@ -11,15 +11,12 @@ use Rattle.single_sweep.proofs.TurnedBits.{across-right}
 use Rattle.single_sweep.proofs.once.sweep_right.Goals as goal
 use Rattle.single_sweep.proofs.once.sweep_right.Goals.{Start}
 
-abbrev plan_in : Start → Plan
-plan_in c = plan_of c.args.left.now c.args.right.now c.args.nl c.args.nr c.args.wiring.now
-
-accepted : (c : Start) → plan_check (plan_in c) ≡ done []
-accepted c = check-accepted (plan_in c) _ c.requires.wiring_value
+accepted : (c : Start) → plan_check (plan_of c.args.left.now c.args.right.now c.args.nl c.args.nr c.args.wiring.now) ≡ done []
+accepted c = check-accepted (plan_of c.args.left.now c.args.right.now c.args.nl c.args.nr c.args.wiring.now) _ c.requires.wiring_value
 
 pub prepare_finder-requires : goal.prepare_finder-requires
 prepare_finder-requires c =
-    side-preparable (plan_in (goal.at.prepare_finder-requires c).Start) (accepted (goal.at.prepare_finder-requires c).Start) right c.requires.1.1 refl
+    side-preparable (plan_of c.args.left.now c.args.right.now c.args.nl c.args.nr c.args.wiring.now) (accepted (goal.at.prepare_finder-requires c).Start) right c.requires.1.1 refl
 
 pub sweep_told-requires : goal.sweep_told-requires
 sweep_told-requires c =
@@ -31,7 +28,7 @@ sweep_told-requires c =
           c.requires.1.1,
           (
             c.prepare_finder.ensures,
-            across-right (plan_in (goal.at.sweep_told-requires c).Start) (accepted (goal.at.sweep_told-requires c).Start),
+            across-right (plan_of c.args.left.now c.args.right.now c.args.nl c.args.nr c.args.wiring.now) (accepted (goal.at.sweep_told-requires c).Start),
           ),
         ),
       ),

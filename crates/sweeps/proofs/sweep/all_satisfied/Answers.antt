@@ -9,32 +9,29 @@ use Rattle.wiring.proofs.Plans.{plan-fits}
 use Rattle.sweeps.proofs.Visiting.{ready-shared}
 use Rattle.sweeps.proofs.Rounds.{satisfied-not, satisfied-both}
 use Rattle.sweeps.proofs.sweep.all_satisfied.Goals as goal
-use Rattle.sweeps.proofs.sweep.all_satisfied.Goals.{Else-not-all_codewords, Start}
-
-abbrev plan_in : Start → Plan
-plan_in c = plan_of c.args.left.now c.args.right.now c.args.nl c.args.nr c.args.wiring.now
+use Rattle.sweeps.proofs.sweep.all_satisfied.Goals.{Else-not-all_codewords}
 
 -- the left side is satisfied
 lefts : (c : Else-not-all_codewords)
-    → (v : ℕ) → v < c.args.nl → satisfied (side_of (plan_in c.before.before.before.before.before.before.before.before.before) left) c.args.block.now v ≡ true
+    → (v : ℕ) → v < c.args.nl → satisfied (side_of (plan_of c.args.left.now c.args.right.now c.args.nl c.args.nr c.args.wiring.now) left) c.args.block.now v ≡ true
 lefts c = c.all_codewords.ensures.when_true (not-false _ c.if-not-all_codewords.false) _
 
 pub all_codewords-requires : goal.all_codewords-requires
 all_codewords-requires c =
     record {
-      n_bound = (plan-fits (plan_in (goal.at.all_codewords-requires c).Start) c.requires.wiring_value.plan-done left).n-high;
+      n_bound = (plan-fits (plan_of c.args.left.now c.args.right.now c.args.nl c.args.nr c.args.wiring.now) c.requires.wiring_value.plan-done left).n-high;
       finds = c.requires.wiring_value.left-finds;
     }
 
 pub returns-then-not-all_codewords : goal.returns-then-not-all_codewords
 returns-then-not-all_codewords c =
     let (v, l, missed) = c.all_codewords.ensures.when_false (not-true _ c.if-not-all_codewords.true) c.args.wiring.now in
-    sym (satisfied-not (side_of (plan_in (goal.at.returns-then-not-all_codewords c).Start)) _ left v l missed)
+    sym (satisfied-not (side_of (plan_of c.args.left.now c.args.right.now c.args.nl c.args.nr c.args.wiring.now)) _ left v l missed)
 
 pub kept_codewords-requires : goal.kept_codewords-requires
 kept_codewords-requires c =
     record {
-      n_bound = (plan-fits (plan_in (goal.at.kept_codewords-requires c).Start) c.requires.wiring_value.plan-done right).n-high;
+      n_bound = (plan-fits (plan_of c.args.left.now c.args.right.now c.args.nl c.args.nr c.args.wiring.now) c.requires.wiring_value.plan-done right).n-high;
       kept_len = c.requires.1.sized;
       finder_len = (ready-shared c.requires.wiring_value c.if-right_finder-eq0.true).sized;
     }
@@ -42,13 +39,13 @@ kept_codewords-requires c =
 pub returns-then-right_finder-eq0 : goal.returns-then-right_finder-eq0
 returns-then-right_finder-eq0 c =
     let none = c.if-right_finder-eq0.true in
-    satisfied-both (plan_in (goal.at.returns-then-right_finder-eq0 c).Start) c.requires.wiring_value.plan-done c.args.block.now (lefts (goal.at.returns-then-right_finder-eq0 c).Else-not-all_codewords)
+    satisfied-both (plan_of c.args.left.now c.args.right.now c.args.nl c.args.nr c.args.wiring.now) c.requires.wiring_value.plan-done c.args.block.now (lefts (goal.at.returns-then-right_finder-eq0 c).Else-not-all_codewords)
     c.requires.1 (ready-shared c.requires.wiring_value none) _ c.kept_codewords.ensures.when_true c.kept_codewords.ensures.when_false
 
 pub kept_codewords-requires-2 : goal.kept_codewords-requires-2
 kept_codewords-requires-2 c =
     record {
-      n_bound = (plan-fits (plan_in (goal.at.kept_codewords-requires-2 c).Start) c.requires.wiring_value.plan-done right).n-high;
+      n_bound = (plan-fits (plan_of c.args.left.now c.args.right.now c.args.nl c.args.nr c.args.wiring.now) c.requires.wiring_value.plan-done right).n-high;
       kept_len = c.requires.1.sized;
       finder_len = (c.requires.wiring_value.right-finds c.if-right_finder-eq0.false).sized;
     }
@@ -56,5 +53,5 @@ kept_codewords-requires-2 c =
 pub returns : goal.returns
 returns c =
     let some = c.if-right_finder-eq0.false in
-    satisfied-both (plan_in (goal.at.returns c).Start) c.requires.wiring_value.plan-done c.args.block.now (lefts (goal.at.returns c).Else-not-all_codewords)
+    satisfied-both (plan_of c.args.left.now c.args.right.now c.args.nl c.args.nr c.args.wiring.now) c.requires.wiring_value.plan-done c.args.block.now (lefts (goal.at.returns c).Else-not-all_codewords)
     c.requires.1 (c.requires.wiring_value.right-finds some) _ c.kept_codewords-2.ensures.when_true c.kept_codewords-2.ensures.when_false

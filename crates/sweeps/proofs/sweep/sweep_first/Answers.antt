@@ -21,19 +21,16 @@ use Rattle.sweeps.proofs.Visiting.{pattern_lt, ready-sheet, ready-whole, ready-v
 use Rattle.sweeps.proofs.Visiting.{word_lt, word-stays, word-untied, word-found, word-counted, word-waits, word-put, tie-le}
 use Rattle.sweeps.proofs.Visiting.{pattern_lt, ready-sheet, ready-whole, ready-vertex}
 use Rattle.sweeps.proofs.sweep.sweep_first.Goals as goal
-use Rattle.sweeps.proofs.sweep.sweep_first.Goals.{After-find_nearest-step, After-left_word-word, Start}
+use Rattle.sweeps.proofs.sweep.sweep_first.Goals.{After-find_nearest-step, After-left_word-word}
 
 -- ---- the call and the loop's head
-
-abbrev side_in : Start → Side
-side_in c = side_by c.args.sheet.now c.args.n c.args.wiring.now left
 
 below : (c : After-left_word-word) → c.loop-v.v < c.args.n
 below c = omega arith
 
 -- the word read is the vertex's
 read_is : (c : After-left_word-word)
-    → c.left_word-word.result ≡ vertex_word (side_in c.before.before.before.before.before.before.before.before.before) c.loop-v.block c.loop-v.v
+    → c.left_word-word.result ≡ vertex_word (side_by c.args.sheet.now c.args.n c.args.wiring.now left) c.loop-v.block c.loop-v.v
 unfolding degree vertex_word word_at side_bit
 read_is c = c.left_word-word.ensures
 

@@ -26,10 +26,7 @@ use Rattle.sweeps.proofs.sweep.sweep_news.Goals.{After-news_of-from, After-rest-
 
 -- ---- the call and the loops' heads
 
-abbrev plan_in : Start → Plan
-plan_in c = plan_of c.args.left.now c.args.right.now c.args.nl c.args.nr c.args.wiring.now
-
-hears : (c : Start) → Hears (plan_in c) c.args.side c.args.block.now c.args.kept.now
+hears : (c : Start) → Hears (plan_of c.args.left.now c.args.right.now c.args.nl c.args.nr c.args.wiring.now) c.args.side c.args.block.now c.args.kept.now
 hears c = c.requires.1.1.1
 
 -- a number of the side's marks
@@ -42,7 +39,7 @@ few c = omega (arith, c.Numbers-of.ensures.1)
 -- the sixteen marks, taken off
 scanned : (c : After-rest-1)
     → let turn = c.loop-i in
-    NewsScan (plan_in c.before.before.before.before.before.before.before.before.before.before.before.before.before.before) c.args.side c.args.block.now c.args.kept.now turn.i turn.changed turn.visits turn.block
+    NewsScan (plan_of c.args.left.now c.args.right.now c.args.nl c.args.nr c.args.wiring.now) c.args.side c.args.block.now c.args.kept.now turn.i turn.changed turn.visits turn.block
     (set turn.kept (c.news_of-from.result + turn.i) 0) (get_or turn.kept (c.news_of-from.result + turn.i) 0)
 unfolding at
 scanned c =
@@ -53,17 +50,17 @@ scanned c =
     (ap (λ (from : ℕ). get_or turn.kept (from + turn.i) 0) place ∙ turn.invariant.3 turn.i (le_refl _) (few c))
 
 state : (c : At-loop-rest)
-    → NewsScan (plan_in c.before.before.before.before.before.before.before.before.before.before.before.before.before.before.before) c.args.side c.args.block.now c.args.kept.now c.loop-i.i c.loop-rest.changed c.loop-rest.visits
+    → NewsScan (plan_of c.args.left.now c.args.right.now c.args.nl c.args.nr c.args.wiring.now) c.args.side c.args.block.now c.args.kept.now c.loop-i.i c.loop-rest.changed c.loop-rest.visits
     c.loop-rest.block c.loop-rest.kept c.loop-rest.rest
 state c = c.loop-rest.invariant.0 _ _ (hears c.before.before.before.before.before.before.before.before.before.before.before.before.before.before.before) (scanned (record { before = c.before.before; type_inv = record { places = c.shared_slice_known-4-1.given; wiring = c.shared_slice_known-3-1.given; right = c.shared_slice_known-2-1.given; left = c.shared_slice_known-1.given; } }))
 
 finds : (c : At-loop-rest)
-    → Finds (sheet_of (plan_in c.before.before.before.before.before.before.before.before.before.before.before.before.before.before.before) c.args.side) c.loop-rest.finder
+    → Finds (sheet_of (plan_of c.args.left.now c.args.right.now c.args.nl c.args.nr c.args.wiring.now) c.args.side) c.loop-rest.finder
 finds c = c.loop-rest.invariant.1 c.loop-i.invariant.2
 
 pub numbers_of-numbers-requires : goal.numbers_of-numbers-requires
 numbers_of-numbers-requires c =
-    le_trans (le_of_eq (c.count_of.ensures ∙ count-for (plan_in (goal.at.numbers_of-numbers-requires c).Start) c.args.side)) (plan-fits (plan_in (goal.at.numbers_of-numbers-requires c).Start) c.requires.wiring_value c.args.side).n-high
+    le_trans (le_of_eq (c.count_of.ensures ∙ count-for (plan_of c.args.left.now c.args.right.now c.args.nl c.args.nr c.args.wiring.now) c.args.side)) (plan-fits (plan_of c.args.left.now c.args.right.now c.args.nl c.args.nr c.args.wiring.now) c.requires.wiring_value c.args.side).n-high
 
 pub loop-i-init : goal.loop-i-init
 loop-i-init c =
@@ -190,9 +187,9 @@ shape_of-block c = visits-length c.loop-i.invariant.1.so_far.visits
 pub returns : goal.returns
 returns c =
     let turn = c.loop-i in
-    let enough : count_of (plan_in (goal.at.returns c).Start) c.args.side ≤ 16 * c.Numbers-of.result =
-    le_trans (le_of_eq (sym (c.count_of.ensures ∙ count-for (plan_in (goal.at.returns c).Start) c.args.side))) c.Numbers-of.ensures.0 in
-    let all : count_of (plan_in (goal.at.returns c).Start) c.args.side ≤ 16 * turn.i = omega (arith, turn.invariant.0, enough) in record {
+    let enough : count_of (plan_of c.args.left.now c.args.right.now c.args.nl c.args.nr c.args.wiring.now) c.args.side ≤ 16 * c.Numbers-of.result =
+    le_trans (le_of_eq (sym (c.count_of.ensures ∙ count-for (plan_of c.args.left.now c.args.right.now c.args.nl c.args.nr c.args.wiring.now) c.args.side))) c.Numbers-of.ensures.0 in
+    let all : count_of (plan_of c.args.left.now c.args.right.now c.args.nl c.args.nr c.args.wiring.now) c.args.side ≤ 16 * turn.i = omega (arith, turn.invariant.0, enough) in record {
       news_swept = news-round-end c.requires.wiring_value (hears (goal.at.returns c).Start) all turn.invariant.1 (news-round-clear c.requires.wiring_value (hears (goal.at.returns c).Start) turn.auto turn.i all turn.invariant.4 turn.invariant.3);
       still_finds = turn.invariant.2;
     }

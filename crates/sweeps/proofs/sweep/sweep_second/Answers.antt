@@ -27,31 +27,24 @@ use Rattle.sweeps.proofs.sweep.sweep_second.Goals.{After-is_codeword, At-loop-v,
 
 -- ---- the call and the loop's head
 
-abbrev plan_in : Start → Plan
-plan_in c = plan_of c.args.left.now c.args.right.now c.args.nl c.args.nr c.args.wiring.now
-
-accepted : (c : Start) → plan_check (plan_in c) ≡ done []
+accepted : (c : Start) → plan_check (plan_of c.args.left.now c.args.right.now c.args.nl c.args.nr c.args.wiring.now) ≡ done []
 accepted c = c.requires.wiring_value
 
 below : (c : After-is_codeword) → c.loop-v.v < c.args.nr
 below c = omega arith
 
 few : (c : At-loop-v) → c.args.nr ≤ 2048
-few c = (plan-fits (plan_in c.before.before.before.before.before.before.before) (accepted c.before.before.before.before.before.before.before) right).n-high
+few c = (plan-fits (plan_of c.args.left.now c.args.right.now c.args.nl c.args.nr c.args.wiring.now) (accepted c.before.before.before.before.before.before.before) right).n-high
 
 -- the word kept is the vertex's
 word-is : (c : After-is_codeword)
-    → get_or c.loop-v.kept c.loop-v.v 0 ≡ vertex_word (side_of (plan_in c.before.before.before.before.before.before.before.before.before.before.before) right) c.loop-v.block c.loop-v.v
+    → get_or c.loop-v.kept c.loop-v.v 0 ≡ vertex_word (side_of (plan_of c.args.left.now c.args.right.now c.args.nl c.args.nr c.args.wiring.now) right) c.loop-v.block c.loop-v.v
 unfolding at
 word-is c = c.loop-v.invariant.1.reads.each c.loop-v.v (below c)
 
 member : (c : After-is_codeword)
     → Member c.loop-v.finder (get_or c.loop-v.kept c.loop-v.v 0) c.is_codeword.result
 member c = member-means _ _ c.is_codeword.ensures
-
-abbrev ready_in : (c : After-is_codeword)
-    → SideReady c.args.right.now c.args.nr c.args.wiring.now c.loop-v.finder
-ready_in c = ready-side (plan_in c.before.before.before.before.before.before.before.before.before.before.before) (accepted c.before.before.before.before.before.before.before.before.before.before.before) right c.loop-v.invariant.2
 
 pub loop-v-init : goal.loop-v-init
 loop-v-init c = (search rules, round-start c.requires.1.1, c.requires.plan_value, λ i l. refl)
@@ -71,8 +64,8 @@ loop-v-preserved-then-is_codeword c =
     let is = c.if-is_codeword.true in (
       omega (arith, below (goal.at.loop-v-preserved-then-is_codeword c).After-is_codeword),
       round-kept (accepted (goal.at.loop-v-preserved-then-is_codeword c).Start) (below (goal.at.loop-v-preserved-then-is_codeword c).After-is_codeword) turn.invariant.1
-          (word-stays (ready_in (goal.at.loop-v-preserved-then-is_codeword c).After-is_codeword) right turn.block (below (goal.at.loop-v-preserved-then-is_codeword c).After-is_codeword) (word-is (goal.at.loop-v-preserved-then-is_codeword c).After-is_codeword) (member (goal.at.loop-v-preserved-then-is_codeword c).After-is_codeword) is)
-          (word-untied (ready_in (goal.at.loop-v-preserved-then-is_codeword c).After-is_codeword) right turn.block (below (goal.at.loop-v-preserved-then-is_codeword c).After-is_codeword) (word-is (goal.at.loop-v-preserved-then-is_codeword c).After-is_codeword) (member (goal.at.loop-v-preserved-then-is_codeword c).After-is_codeword) is),
+          (word-stays ((ready-side (plan_of c.args.left.now c.args.right.now c.args.nl c.args.nr c.args.wiring.now) (accepted c.before.before.before.before.before.before.before.before.before.before.before) right c.loop-v.invariant.2)) right turn.block (below (goal.at.loop-v-preserved-then-is_codeword c).After-is_codeword) (word-is (goal.at.loop-v-preserved-then-is_codeword c).After-is_codeword) (member (goal.at.loop-v-preserved-then-is_codeword c).After-is_codeword) is)
+          (word-untied ((ready-side (plan_of c.args.left.now c.args.right.now c.args.nl c.args.nr c.args.wiring.now) (accepted c.before.before.before.before.before.before.before.before.before.before.before) right c.loop-v.invariant.2)) right turn.block (below (goal.at.loop-v-preserved-then-is_codeword c).After-is_codeword) (word-is (goal.at.loop-v-preserved-then-is_codeword c).After-is_codeword) (member (goal.at.loop-v-preserved-then-is_codeword c).After-is_codeword) is),
       turn.invariant.2,
       turn.invariant.3,
     )
@@ -85,7 +78,7 @@ visit-bits-requires c =
 pub overflow_add-changed : goal.overflow_add-changed
 overflow_add-changed c =
     let turn = c.loop-v in
-    omega (arith, visits-le (ready_in (goal.at.overflow_add-changed c).After-is_codeword) right turn.invariant.0 turn.invariant.1.visits)
+    omega (arith, visits-le ((ready-side (plan_of c.args.left.now c.args.right.now c.args.nl c.args.nr c.args.wiring.now) (accepted c.before.before.before.before.before.before.before.before.before.before.before) right c.loop-v.invariant.2)) right turn.invariant.0 turn.invariant.1.visits)
 
 pub overflow_add-ties : goal.overflow_add-ties
 overflow_add-ties c =
@@ -107,7 +100,7 @@ loop-v-preserved c =
     let visit = c.visit-bits.ensures in (
       omega (arith, below (goal.at.loop-v-preserved c).After-is_codeword),
       round-visited (accepted (goal.at.loop-v-preserved c).Start) (below (goal.at.loop-v-preserved c).After-is_codeword) turn.invariant.1 visit.0
-          (visit-waits (ready_in (goal.at.loop-v-preserved c).After-is_codeword) right turn.block (below (goal.at.loop-v-preserved c).After-is_codeword) (word-is (goal.at.loop-v-preserved c).After-is_codeword) (member (goal.at.loop-v-preserved c).After-is_codeword) c.if-is_codeword.false visit.0.counted
+          (visit-waits ((ready-side (plan_of c.args.left.now c.args.right.now c.args.nl c.args.nr c.args.wiring.now) (accepted c.before.before.before.before.before.before.before.before.before.before.before) right c.loop-v.invariant.2)) right turn.block (below (goal.at.loop-v-preserved c).After-is_codeword) (word-is (goal.at.loop-v-preserved c).After-is_codeword) (member (goal.at.loop-v-preserved c).After-is_codeword) c.if-is_codeword.false visit.0.counted
           c.tie-ties.ensures),
       visit.1,
       λ i l. visit.0.keeps.own i l ∙ turn.invariant.3 i l,

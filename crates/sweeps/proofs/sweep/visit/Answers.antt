@@ -6,17 +6,14 @@ use Rattle.wiring.proofs.Sides.{sheet-for}
 use Rattle.sweeps.proofs.Rounds.{visit-codeword, visit-low, visit-put, nearest-asked}
 use borrow.Author.Rules.{rules}
 use Rattle.sweeps.proofs.sweep.visit.Goals as goal
-use Rattle.sweeps.proofs.sweep.visit.Goals.{After-nearest_on-step, Start}
-
-abbrev plan_in : Start → Plan
-plan_in c = plan_of c.args.left.now c.args.right.now c.args.nl c.args.nr c.args.wiring.now
+use Rattle.sweeps.proofs.sweep.visit.Goals.{After-nearest_on-step}
 
 -- the step is one by the side's sheet
 found : (c : After-nearest_on-step)
-    → Found (sheet_of (plan_in c.before.before.before.before.before.before.before.before.before.before.before.before) c.args.vertex.side) c.word_of-word.result c.nearest_on-step.result
+    → Found (sheet_of (plan_of c.args.left.now c.args.right.now c.args.nl c.args.nr c.args.wiring.now) c.args.vertex.side) c.word_of-word.result c.nearest_on-step.result
     c.nearest_on-step.new.finder
 found c =
-    rw (sheet-for (plan_in c.before.before.before.before.before.before.before.before.before.before.before.before) c.args.vertex.side) at c.nearest_on-step.ensures
+    rw (sheet-for (plan_of c.args.left.now c.args.right.now c.args.nl c.args.nr c.args.wiring.now) c.args.vertex.side) at c.nearest_on-step.ensures
 
 pub is_codeword-requires : goal.is_codeword-requires
 is_codeword-requires c = c.requires.v_bound.sized
@@ -24,14 +21,14 @@ is_codeword-requires c = c.requires.v_bound.sized
 pub returns-then-is_codeword : goal.returns-then-is_codeword
 returns-then-is_codeword c =
     record {
-      visited_at = visit-codeword (plan_in (goal.at.returns-then-is_codeword c).Start) c.requires.wiring_value c.args.vertex.side c.requires.v_bound _ _ c.requires.plan_value c.word_of-word.ensures
+      visited_at = visit-codeword (plan_of c.args.left.now c.args.right.now c.args.nl c.args.nr c.args.wiring.now) c.requires.wiring_value c.args.vertex.side c.requires.v_bound _ _ c.requires.plan_value c.word_of-word.ensures
           (member-means _ _ c.is_codeword.ensures) c.if-is_codeword.true c.requires.1.1.1.1;
       still_finds = c.requires.v_bound;
     }
 
 pub nearest_on-step-requires : goal.nearest_on-step-requires
 nearest_on-step-requires c =
-    nearest-asked (plan_in (goal.at.nearest_on-step-requires c).Start) c.args.vertex.side c.requires.v_bound _ _ c.word_of-word.ensures
+    nearest-asked (plan_of c.args.left.now c.args.right.now c.args.nl c.args.nr c.args.wiring.now) c.args.vertex.side c.requires.v_bound _ _ c.word_of-word.ensures
 
 pub put_told-requires : goal.put_told-requires
 put_told-requires c =
@@ -40,7 +37,7 @@ put_told-requires c =
       (
         c.requires.plan_value,
         (
-          visit-low (plan_in (goal.at.put_told-requires c).Start) c.requires.wiring_value c.args.vertex.side c.requires.v_bound _ c.args.kept.now c.requires.plan_value c.word_of-word.ensures
+          visit-low (plan_of c.args.left.now c.args.right.now c.args.nl c.args.nr c.args.wiring.now) c.requires.wiring_value c.args.vertex.side c.requires.v_bound _ c.args.kept.now c.requires.plan_value c.word_of-word.ensures
               (found (goal.at.put_told-requires c).After-nearest_on-step),
           (c.requires.finds, c.requires.1.1.1.1),
         ),
@@ -50,7 +47,7 @@ put_told-requires c =
 pub returns : goal.returns
 returns c =
     record {
-      visited_at = visit-put (plan_in (goal.at.returns c).Start) c.requires.wiring_value c.args.vertex.side c.requires.v_bound _ _ c.requires.plan_value c.word_of-word.ensures
+      visited_at = visit-put (plan_of c.args.left.now c.args.right.now c.args.nl c.args.nr c.args.wiring.now) c.requires.wiring_value c.args.vertex.side c.requires.v_bound _ _ c.requires.plan_value c.word_of-word.ensures
           (found (goal.at.returns c).After-nearest_on-step) c.put_told.ensures;
       still_finds = (found (goal.at.returns c).After-nearest_on-step).finds;
     }

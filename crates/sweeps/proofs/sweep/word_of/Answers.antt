@@ -11,15 +11,12 @@ use borrow.Author.Rules.{rules}
 use Rattle.sweeps.proofs.sweep.word_of.Goals as goal
 use Rattle.sweeps.proofs.sweep.word_of.Goals.{Start}
 
-abbrev plan_in : Start → Plan
-plan_in c = plan_of c.args.left.now c.args.right.now c.args.nl c.args.nr c.args.wiring.now
-
 vertex-few : (c : Start) → c.args.vertex.v < 2048
-vertex-few c = omega (arith, c.requires.plan_value, (plan-fits (plan_in c) c.requires.wiring_value c.args.vertex.side).n-high)
+vertex-few c = omega (arith, c.requires.plan_value, (plan-fits (plan_of c.args.left.now c.args.right.now c.args.nl c.args.nr c.args.wiring.now) c.requires.wiring_value c.args.vertex.side).n-high)
 
 pub bounds-left-0 : goal.bounds-left-0
 bounds-left-0 c =
-    fitted-sheet _ (plan-fits (plan_in (goal.at.bounds-left-0 c).Start) c.requires.wiring_value left)
+    fitted-sheet _ (plan-fits (plan_of c.args.left.now c.args.right.now c.args.nl c.args.nr c.args.wiring.now) c.requires.wiring_value left)
 
 pub overflow_cast-left : goal.overflow_cast-left
 overflow_cast-left c = omega (arith, c.type_inv.left 0)
@@ -27,7 +24,7 @@ overflow_cast-left c = omega (arith, c.type_inv.left 0)
 pub left_word-requires : goal.left_word-requires
 unfolding degree
 left_word-requires c =
-    let fits = plan-fits (plan_in (goal.at.left_word-requires c).Start) c.requires.wiring_value left in
+    let fits = plan-fits (plan_of c.args.left.now c.args.right.now c.args.nl c.args.nr c.args.wiring.now) c.requires.wiring_value left in
     let below : c.args.vertex.v < c.args.nl = rw c.in-Left.is at c.requires.plan_value in
     record {
       v_bound = omega (arith, below, fits.n-high);
@@ -43,7 +40,7 @@ bounds-kept-v c = omega (arith, vertex-few (goal.at.bounds-kept-v c).Start)
 pub returns-in-Left : goal.returns-in-Left
 unfolding degree
 returns-in-Left c =
-    rw c.in-Left.is (left-read (plan_in (goal.at.returns-in-Left c).Start) _ _ refl c.left_word.ensures)
+    rw c.in-Left.is (left-read (plan_of c.args.left.now c.args.right.now c.args.nl c.args.nr c.args.wiring.now) _ _ refl c.left_word.ensures)
 
 pub returns-in-Right : goal.returns-in-Right
 unfolding at

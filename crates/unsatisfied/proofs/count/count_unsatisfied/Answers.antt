@@ -14,12 +14,9 @@ use Rattle.wiring.proofs.VertexAccess.{plan-readable}
 use Rattle.wiring.proofs.Blocks.{block_room}
 use Rattle.unsatisfied.proofs.Answers.{count-plan-refused, count-block-refused, count-told}
 use Rattle.unsatisfied.proofs.count.count_unsatisfied.Goals as goal
-use Rattle.unsatisfied.proofs.count.count_unsatisfied.Goals.{In-Passed, In-Passed-check_block, Start}
+use Rattle.unsatisfied.proofs.count.count_unsatisfied.Goals.{In-Passed, In-Passed-check_block}
 
-abbrev plan_in : Start → Plan
-plan_in c = plan_of c.args.left.now c.args.right.now c.args.nl c.args.nr c.args.wiring.now
-
-plan : (c : In-Passed) → PlanAccepted (plan_in c.before.before.before.before.before.before.before.before) c.check_plan-plan.result
+plan : (c : In-Passed) → PlanAccepted (plan_of c.args.left.now c.args.right.now c.args.nl c.args.nr c.args.wiring.now) c.check_plan-plan.result
 plan c = plan-accepted _ _ c.check_plan-plan.ensures c.in-Passed.is
 
 pub overflow_mul-plan : goal.overflow_mul-plan
@@ -32,7 +29,7 @@ readable : (c : In-Passed-check_block) (name : SideName) (v : ℕ)
     → v < (code_in c.check_plan-plan.result name).n
     → Readable name c.args.wiring.now (code_in c.check_plan-plan.result name).d c.args.block.now v
 readable c name v below =
-    let p = plan (record { before = c.before.before.before.before.before; type_inv = record { block = c.shared_slice_known-4-1.given; wiring = c.shared_slice_known-3-1.given; right = c.shared_slice_known-2-1.given; left = c.shared_slice_known-1.given; } }) in
+    let p = plan (record { before = c.before.before.before.before; type_inv = record { block = c.shared_slice_known-4-1.given; wiring = c.shared_slice_known-3-1.given; right = c.shared_slice_known-2-1.given; left = c.shared_slice_known-1.given; } }) in
     let pass = sym c.check_block.ensures ∙ ap check_reply c.in-Passed-check_block.is in
     rw (p.code_is name) (plan-readable _ p.plan-done _ (rw (accepted-edges p) at (block_room _ _ pass)) name v (rw (p.code_is name) at below))
 

@@ -14,12 +14,9 @@ use Rattle.wiring.proofs.Permutation.{fitted-edges}
 use Rattle.wiring.proofs.Plans.{PlanAccepted, plan-accepted, plan-refused, accepted-edges}
 use Rattle.unsatisfied.proofs.Answers.{bit-plan-refused, bit-block-refused, bit_past, bit-checked, bit_kept, bit-turned}
 use Rattle.unsatisfied.proofs.set.set_bit.Goals as goal
-use Rattle.unsatisfied.proofs.set.set_bit.Goals.{In-Passed, In-Passed-check_block, Start}
+use Rattle.unsatisfied.proofs.set.set_bit.Goals.{In-Passed, In-Passed-check_block}
 
-abbrev plan_in : Start → Plan
-plan_in c = plan_of c.args.left.now c.args.right.now c.args.nl c.args.nr c.args.wiring.now
-
-plan : (c : In-Passed) → PlanAccepted (plan_in c.before.before.before.before.before.before.before.before) c.check_plan-plan.result
+plan : (c : In-Passed) → PlanAccepted (plan_of c.args.left.now c.args.right.now c.args.nl c.args.nr c.args.wiring.now) c.check_plan-plan.result
 plan c = plan-accepted _ _ c.check_plan-plan.ensures c.in-Passed.is
 
 pub overflow_mul-plan : goal.overflow_mul-plan
@@ -27,11 +24,8 @@ overflow_mul-plan c =
     let p = plan (goal.at.overflow_mul-plan c).In-Passed in
     omega (arith, accepted-edges p, fitted-edges p.plan-wired.left-fits)
 
-abbrev result_in : In-Passed-check_block → CheckedPlan
-result_in c = c.check_plan-plan.result
-
 block-done : (c : In-Passed-check_block)
-    → block_check ((result_in c).left.n * (result_in c).left.d) c.args.block.now ≡ done []
+    → block_check ((c.check_plan-plan.result).left.n * (c.check_plan-plan.result).left.d) c.args.block.now ≡ done []
 block-done c = sym c.check_block.ensures ∙ ap check_reply c.in-Passed-check_block.is
 
 pub overflow_mul-plan-in-Passed-check_block : goal.overflow_mul-plan-in-Passed-check_block

@@ -24,53 +24,46 @@ use Rattle.words.proofs.pattern.put_left.Goals.{After-highest-high, Start}
 
 -- ---- the call, the loop's head, and the plan
 
-abbrev plan_in : Start → Plan
-plan_in c = plan_of c.args.left.now c.args.right.now c.args.nl c.args.nr c.args.wiring.now
-
-accepted : (c : Start) → plan_check (plan_in c) ≡ done []
+accepted : (c : Start) → plan_check (plan_of c.args.left.now c.args.right.now c.args.nl c.args.nr c.args.wiring.now) ≡ done []
 accepted c = c.requires.wiring_value
 
 pub bounds-left-0 : goal.bounds-left-0
 bounds-left-0 c =
-    fitted-sheet _ (plan-fits (plan_in (goal.at.bounds-left-0 c).Start) (accepted (goal.at.bounds-left-0 c).Start) left)
+    fitted-sheet _ (plan-fits (plan_of c.args.left.now c.args.right.now c.args.nl c.args.nr c.args.wiring.now) (accepted (goal.at.bounds-left-0 c).Start) left)
 
 pub overflow_cast-d : goal.overflow_cast-d
 overflow_cast-d c = omega (arith, c.type_inv.left 0)
 
 pub bounds-right-0 : goal.bounds-right-0
-bounds-right-0 c = fitted-sheet _ (plan-fits (plan_in (goal.at.bounds-right-0 c).Start) (accepted (goal.at.bounds-right-0 c).Start) right)
+bounds-right-0 c = fitted-sheet _ (plan-fits (plan_of c.args.left.now c.args.right.now c.args.nl c.args.nr c.args.wiring.now) (accepted (goal.at.bounds-right-0 c).Start) right)
 
 pub overflow_cast-dr : goal.overflow_cast-dr
 overflow_cast-dr c = omega (arith, c.type_inv.right 0)
 
 -- an entry of vertex v
 entry-few : (c : Start) (j : ℕ) → j < degree c.args.left.now
-    → c.args.v * degree c.args.left.now + j < edge_count (plan_in c)
+    → c.args.v * degree c.args.left.now + j < edge_count (plan_of c.args.left.now c.args.right.now c.args.nl c.args.nr c.args.wiring.now)
 entry-few c j l = digits_lt c.requires.plan_value l
 
 pub overflow_mul-base : goal.overflow_mul-base
 unfolding degree
 overflow_mul-base c =
-    let fits = plan-fits (plan_in (goal.at.overflow_mul-base c).Start) (accepted (goal.at.overflow_mul-base c).Start) left in
-    omega (arith, entry-few (goal.at.overflow_mul-base c).Start 0 (omega (arith, fits.d-low)), plan-few (plan_in (goal.at.overflow_mul-base c).Start) (accepted (goal.at.overflow_mul-base c).Start))
+    let fits = plan-fits (plan_of c.args.left.now c.args.right.now c.args.nl c.args.nr c.args.wiring.now) (accepted (goal.at.overflow_mul-base c).Start) left in
+    omega (arith, entry-few (goal.at.overflow_mul-base c).Start 0 (omega (arith, fits.d-low)), plan-few (plan_of c.args.left.now c.args.right.now c.args.nl c.args.nr c.args.wiring.now) (accepted (goal.at.overflow_mul-base c).Start))
 
 pub loop-rest-init : goal.loop-rest-init
 loop-rest-init c =
-    putting-start (plan_in (goal.at.loop-rest-init c).Start) (accepted (goal.at.loop-rest-init c).Start) left c.args.v c.requires.plan_value c.args.pattern _ _ c.requires.v_lt_nl c.requires.1.1.1.1
+    putting-start (plan_of c.args.left.now c.args.right.now c.args.nl c.args.nr c.args.wiring.now) (accepted (goal.at.loop-rest-init c).Start) left c.args.v c.requires.plan_value c.args.pattern _ _ c.requires.v_lt_nl c.requires.1.1.1.1
 
 -- the highest one is within the word, and the edge is one of the plan's
 within : (c : After-highest-high) → c.highest-high.result < degree c.args.left.now
 within c = rest-high c.loop-rest.invariant.left_over _ c.highest-high.ensures.power_low c.highest-high.ensures.power_high
 
-abbrev edge_in : After-highest-high → ℕ
-edge_in c =
-    c.args.v * degree c.args.left.now + (degree c.args.left.now - 1 - c.highest-high.result)
-
-edge-lt : (c : After-highest-high) → edge_in c < edge_count (plan_in c.before.before.before.before.before.before.before.before.before.before.before)
+edge-lt : (c : After-highest-high) → (c.args.v * degree c.args.left.now + (degree c.args.left.now - 1 - c.highest-high.result)) < edge_count (plan_of c.args.left.now c.args.right.now c.args.nl c.args.nr c.args.wiring.now)
 edge-lt c = entry-few c.before.before.before.before.before.before.before.before.before.before.before _ (omega (arith, within c))
 
-edge_few : (c : After-highest-high) → edge_in c < 32768
-edge_few c = omega (arith, edge-lt c, plan-few (plan_in c.before.before.before.before.before.before.before.before.before.before.before) (accepted c.before.before.before.before.before.before.before.before.before.before.before))
+edge_few : (c : After-highest-high) → (c.args.v * degree c.args.left.now + (degree c.args.left.now - 1 - c.highest-high.result)) < 32768
+edge_few c = omega (arith, edge-lt c, plan-few (plan_of c.args.left.now c.args.right.now c.args.nl c.args.nr c.args.wiring.now) (accepted c.before.before.before.before.before.before.before.before.before.before.before))
 
 pub overflow_sub-edge : goal.overflow_sub-edge
 unfolding degree
@@ -91,34 +84,31 @@ offset_bounds-places-edge c = omega (arith, edge_few c)
 pub bounds-places-edge : goal.bounds-places-edge
 unfolding degree
 bounds-places-edge c =
-    omega (arith, edge-lt (goal.at.bounds-places-edge c).After-highest-high, plan-entries (plan_in (goal.at.bounds-places-edge c).Start) (accepted (goal.at.bounds-places-edge c).Start), c.requires.pattern_bound.sized)
+    omega (arith, edge-lt (goal.at.bounds-places-edge c).After-highest-high, plan-entries (plan_of c.args.left.now c.args.right.now c.args.nl c.args.nr c.args.wiring.now) (accepted (goal.at.bounds-places-edge c).Start), c.requires.pattern_bound.sized)
 
 pub overflow_cast-place : goal.overflow_cast-place
 unfolding degree at
 overflow_cast-place c =
     omega (
       arith,
-      places-lt (plan_in (goal.at.overflow_cast-place c).Start) (accepted (goal.at.overflow_cast-place c).Start) c.requires.pattern_bound (edge_in (goal.at.overflow_cast-place c).After-highest-high) (edge-lt (goal.at.overflow_cast-place c).After-highest-high),
-      plan-few (plan_in (goal.at.overflow_cast-place c).Start) (accepted (goal.at.overflow_cast-place c).Start),
+      places-lt (plan_of c.args.left.now c.args.right.now c.args.nl c.args.nr c.args.wiring.now) (accepted (goal.at.overflow_cast-place c).Start) c.requires.pattern_bound ((c.args.v * degree c.args.left.now + (degree c.args.left.now - 1 - c.highest-high.result))) (edge-lt (goal.at.overflow_cast-place c).After-highest-high),
+      plan-few (plan_of c.args.left.now c.args.right.now c.args.nl c.args.nr c.args.wiring.now) (accepted (goal.at.overflow_cast-place c).Start),
     )
 
 -- ---- the place of the edge
 
-abbrev place_in : After-highest-high → ℕ
-place_in c = at c.args.places.now (edge_in c)
+place-lt : (c : After-highest-high) → (at c.args.places.now ((c.args.v * degree c.args.left.now + (degree c.args.left.now - 1 - c.highest-high.result)))) < edge_count (plan_of c.args.left.now c.args.right.now c.args.nl c.args.nr c.args.wiring.now)
+place-lt c = places-lt (plan_of c.args.left.now c.args.right.now c.args.nl c.args.nr c.args.wiring.now) (accepted c.before.before.before.before.before.before.before.before.before.before.before) c.requires.pattern_bound ((c.args.v * degree c.args.left.now + (degree c.args.left.now - 1 - c.highest-high.result))) (edge-lt c)
 
-place-lt : (c : After-highest-high) → place_in c < edge_count (plan_in c.before.before.before.before.before.before.before.before.before.before.before)
-place-lt c = places-lt (plan_in c.before.before.before.before.before.before.before.before.before.before.before) (accepted c.before.before.before.before.before.before.before.before.before.before.before) c.requires.pattern_bound (edge_in c) (edge-lt c)
-
-place-vertex : (c : After-highest-high) → place_in c / degree c.args.right.now < c.args.nr
+place-vertex : (c : After-highest-high) → (at c.args.places.now ((c.args.v * degree c.args.left.now + (degree c.args.left.now - 1 - c.highest-high.result)))) / degree c.args.right.now < c.args.nr
 place-vertex c =
-    let w = plan-whole (plan_in c.before.before.before.before.before.before.before.before.before.before.before) (accepted c.before.before.before.before.before.before.before.before.before.before.before) right in
+    let w = plan-whole (plan_of c.args.left.now c.args.right.now c.args.nl c.args.nr c.args.wiring.now) (accepted c.before.before.before.before.before.before.before.before.before.before.before) right in
     (div-lt_iff_lt-mul w.degree-pos).1 (rw w.entries (place-lt c))
 
 pub tell_right-requires : goal.tell_right-requires
 unfolding degree at
 tell_right-requires c =
-    let fits = plan-fits (plan_in (goal.at.tell_right-requires c).Start) (accepted (goal.at.tell_right-requires c).Start) right in
+    let fits = plan-fits (plan_of c.args.left.now c.args.right.now c.args.nl c.args.nr c.args.wiring.now) (accepted (goal.at.tell_right-requires c).Start) right in
     record {
       d_nonzero = (omega (arith, fits.d-low), fits.d-high);
       kept_len = c.loop-rest.invariant.keeps.reads.sized;
@@ -127,7 +117,7 @@ tell_right-requires c =
 
 pub power-rest-requires : goal.power-rest-requires
 power-rest-requires c =
-    let fits = plan-fits (plan_in (goal.at.power-rest-requires c).Start) (accepted (goal.at.power-rest-requires c).Start) left in
+    let fits = plan-fits (plan_of c.args.left.now c.args.right.now c.args.nl c.args.nr c.args.wiring.now) (accepted (goal.at.power-rest-requires c).Start) left in
     omega (arith, within (goal.at.power-rest-requires c).After-highest-high, fits.d-high)
 
 pub overflow_sub-rest : goal.overflow_sub-rest
@@ -141,14 +131,14 @@ loop-rest-smaller c =
 pub loop-rest-preserved : goal.loop-rest-preserved
 unfolding degree at side_bit told_right news_of other
 loop-rest-preserved c =
-    let bit = places-bit (plan_in (goal.at.loop-rest-preserved c).Start) (accepted (goal.at.loop-rest-preserved c).Start) c.requires.pattern_bound (edge_in (goal.at.loop-rest-preserved c).After-highest-high) (edge-lt (goal.at.loop-rest-preserved c).After-highest-high) in
-    putting-more (plan_in (goal.at.loop-rest-preserved c).Start) (accepted (goal.at.loop-rest-preserved c).Start) left c.args.v c.requires.plan_value c.args.pattern _ _ c.loop-rest.invariant _ c.highest-high.ensures.power_low
+    let bit = places-bit (plan_of c.args.left.now c.args.right.now c.args.nl c.args.nr c.args.wiring.now) (accepted (goal.at.loop-rest-preserved c).Start) c.requires.pattern_bound ((c.args.v * degree c.args.left.now + (degree c.args.left.now - 1 - c.highest-high.result))) (edge-lt (goal.at.loop-rest-preserved c).After-highest-high) in
+    putting-more (plan_of c.args.left.now c.args.right.now c.args.nl c.args.nr c.args.wiring.now) (accepted (goal.at.loop-rest-preserved c).Start) left c.args.v c.requires.plan_value c.args.pattern _ _ c.loop-rest.invariant _ c.highest-high.ensures.power_low
     c.highest-high.ensures.power_high _ refl c.power-rest.ensures c.turn_bit.ensures
-    (place_in (goal.at.loop-rest-preserved c).After-highest-high) (place-lt (goal.at.loop-rest-preserved c).After-highest-high) bit refl (place_in (goal.at.loop-rest-preserved c).After-highest-high) (place-lt (goal.at.loop-rest-preserved c).After-highest-high) bit c.tell_right.ensures
+    ((at c.args.places.now ((c.args.v * degree c.args.left.now + (degree c.args.left.now - 1 - c.highest-high.result))))) (place-lt (goal.at.loop-rest-preserved c).After-highest-high) bit refl ((at c.args.places.now ((c.args.v * degree c.args.left.now + (degree c.args.left.now - 1 - c.highest-high.result))))) (place-lt (goal.at.loop-rest-preserved c).After-highest-high) bit c.tell_right.ensures
 
 pub shape_of-block : goal.shape_of-block
 shape_of-block c = rest-sized c.loop-rest.invariant.left_over ∙ length-pattern _ _ _ _ _ _
 
 pub returns : goal.returns
 returns c =
-    putting-done (plan_in (goal.at.returns c).Start) (accepted (goal.at.returns c).Start) left c.args.v c.requires.plan_value c.args.pattern _ _ c.loop-rest.invariant (omega arith)
+    putting-done (plan_of c.args.left.now c.args.right.now c.args.nl c.args.nr c.args.wiring.now) (accepted (goal.at.returns c).Start) left c.args.v c.requires.plan_value c.args.pattern _ _ c.loop-rest.invariant (omega arith)

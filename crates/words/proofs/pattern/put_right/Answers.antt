@@ -26,24 +26,21 @@ use Rattle.words.proofs.pattern.put_right.Goals.{After-highest-high, Start}
 
 -- ---- the call, the loop's head, and the plan
 
-abbrev plan_in : Start → Plan
-plan_in c = plan_of c.args.left.now c.args.right.now c.args.nl c.args.nr c.args.wiring.now
-
-accepted : (c : Start) → plan_check (plan_in c) ≡ done []
+accepted : (c : Start) → plan_check (plan_of c.args.left.now c.args.right.now c.args.nl c.args.nr c.args.wiring.now) ≡ done []
 accepted c = c.requires.wiring_value
 
 vertex-few : (c : Start) → c.args.v < 2048
-vertex-few c = omega (arith, c.requires.plan_value, (plan-fits (plan_in c) (accepted c) right).n-high)
+vertex-few c = omega (arith, c.requires.plan_value, (plan-fits (plan_of c.args.left.now c.args.right.now c.args.nl c.args.nr c.args.wiring.now) (accepted c) right).n-high)
 
 pub bounds-right-0 : goal.bounds-right-0
 bounds-right-0 c =
-    fitted-sheet _ (plan-fits (plan_in (goal.at.bounds-right-0 c).Start) (accepted (goal.at.bounds-right-0 c).Start) right)
+    fitted-sheet _ (plan-fits (plan_of c.args.left.now c.args.right.now c.args.nl c.args.nr c.args.wiring.now) (accepted (goal.at.bounds-right-0 c).Start) right)
 
 pub overflow_cast-d : goal.overflow_cast-d
 overflow_cast-d c = omega (arith, c.type_inv.right 0)
 
 pub bounds-left-0 : goal.bounds-left-0
-bounds-left-0 c = fitted-sheet _ (plan-fits (plan_in (goal.at.bounds-left-0 c).Start) (accepted (goal.at.bounds-left-0 c).Start) left)
+bounds-left-0 c = fitted-sheet _ (plan-fits (plan_of c.args.left.now c.args.right.now c.args.nl c.args.nr c.args.wiring.now) (accepted (goal.at.bounds-left-0 c).Start) left)
 
 pub overflow_cast-dl : goal.overflow_cast-dl
 overflow_cast-dl c = omega (arith, c.type_inv.left 0)
@@ -51,43 +48,39 @@ overflow_cast-dl c = omega (arith, c.type_inv.left 0)
 pub overflow_mul-base : goal.overflow_mul-base
 unfolding degree
 overflow_mul-base c =
-    let fits = plan-fits (plan_in (goal.at.overflow_mul-base c).Start) (accepted (goal.at.overflow_mul-base c).Start) right in
+    let fits = plan-fits (plan_of c.args.left.now c.args.right.now c.args.nl c.args.nr c.args.wiring.now) (accepted (goal.at.overflow_mul-base c).Start) right in
     omega (arith, vertex-few (goal.at.overflow_mul-base c).Start, mul-le-mul (le_of_lt (vertex-few (goal.at.overflow_mul-base c).Start)) fits.d-high)
 
 pub loop-rest-init : goal.loop-rest-init
 loop-rest-init c =
-    putting-start (plan_in (goal.at.loop-rest-init c).Start) (accepted (goal.at.loop-rest-init c).Start) right c.args.v c.requires.plan_value c.args.pattern _ _ c.requires.v_lt_nr c.requires.1.1.1
+    putting-start (plan_of c.args.left.now c.args.right.now c.args.nl c.args.nr c.args.wiring.now) (accepted (goal.at.loop-rest-init c).Start) right c.args.v c.requires.plan_value c.args.pattern _ _ c.requires.v_lt_nr c.requires.1.1.1
 
 -- the highest one is within the word, and its entry is one of the plan's
 within : (c : After-highest-high) → c.highest-high.result < degree c.args.right.now
 within c = rest-high c.loop-rest.invariant.left_over _ c.highest-high.ensures.power_low c.highest-high.ensures.power_high
 
-abbrev entry_in : After-highest-high → ℕ
-entry_in c =
-    c.args.v * degree c.args.right.now + (degree c.args.right.now - 1 - c.highest-high.result)
-
-entry_lt : (c : After-highest-high) → entry_in c < edge_count (plan_in c.before.before.before.before.before.before.before.before.before.before)
+entry_lt : (c : After-highest-high) → (c.args.v * degree c.args.right.now + (degree c.args.right.now - 1 - c.highest-high.result)) < edge_count (plan_of c.args.left.now c.args.right.now c.args.nl c.args.nr c.args.wiring.now)
 entry_lt c =
-    putting-entry (plan_in c.before.before.before.before.before.before.before.before.before.before) (accepted c.before.before.before.before.before.before.before.before.before.before) right c.args.v c.requires.plan_value c.args.pattern _ _ c.loop-rest.invariant _ c.highest-high.ensures.power_low
+    putting-entry (plan_of c.args.left.now c.args.right.now c.args.nl c.args.nr c.args.wiring.now) (accepted c.before.before.before.before.before.before.before.before.before.before) right c.args.v c.requires.plan_value c.args.pattern _ _ c.loop-rest.invariant _ c.highest-high.ensures.power_low
     c.highest-high.ensures.power_high
 
-entry-few : (c : After-highest-high) → entry_in c < 32768
-entry-few c = omega (arith, entry_lt c, plan-few (plan_in c.before.before.before.before.before.before.before.before.before.before) (accepted c.before.before.before.before.before.before.before.before.before.before))
+entry-few : (c : After-highest-high) → (c.args.v * degree c.args.right.now + (degree c.args.right.now - 1 - c.highest-high.result)) < 32768
+entry-few c = omega (arith, entry_lt c, plan-few (plan_of c.args.left.now c.args.right.now c.args.nl c.args.nr c.args.wiring.now) (accepted c.before.before.before.before.before.before.before.before.before.before))
 
 -- the bit's left vertex
 high-few : (c : After-highest-high) → c.highest-high.result < 16
-high-few c = omega (arith, within c, (plan-fits (plan_in c.before.before.before.before.before.before.before.before.before.before) (accepted c.before.before.before.before.before.before.before.before.before.before) right).d-high)
+high-few c = omega (arith, within c, (plan-fits (plan_of c.args.left.now c.args.right.now c.args.nl c.args.nr c.args.wiring.now) (accepted c.before.before.before.before.before.before.before.before.before.before) right).d-high)
 
-edge-lt : (c : After-highest-high) {edge : ℕ} → edge ≡ edge_of c.args.wiring.now (entry_in c) → edge < edge_count (plan_in c.before.before.before.before.before.before.before.before.before.before)
+edge-lt : (c : After-highest-high) {edge : ℕ} → edge ≡ edge_of c.args.wiring.now ((c.args.v * degree c.args.right.now + (degree c.args.right.now - 1 - c.highest-high.result))) → edge < edge_count (plan_of c.args.left.now c.args.right.now c.args.nl c.args.nr c.args.wiring.now)
 unfolding side_bit
-edge-lt c e = rw e ((plan-whole (plan_in c.before.before.before.before.before.before.before.before.before.before) (accepted c.before.before.before.before.before.before.before.before.before.before) right).bit-lt (entry_in c) (entry_lt c))
+edge-lt c e = rw e ((plan-whole (plan_of c.args.left.now c.args.right.now c.args.nl c.args.nr c.args.wiring.now) (accepted c.before.before.before.before.before.before.before.before.before.before) right).bit-lt ((c.args.v * degree c.args.right.now + (degree c.args.right.now - 1 - c.highest-high.result))) (entry_lt c))
 
-left-few : (c : After-highest-high) {edge : ℕ} → edge ≡ edge_of c.args.wiring.now (entry_in c)
+left-few : (c : After-highest-high) {edge : ℕ} → edge ≡ edge_of c.args.wiring.now ((c.args.v * degree c.args.right.now + (degree c.args.right.now - 1 - c.highest-high.result)))
     → edge / degree c.args.left.now < 2048
 left-few c {edge} e =
-    let w = plan-whole (plan_in c.before.before.before.before.before.before.before.before.before.before) (accepted c.before.before.before.before.before.before.before.before.before.before) left in
+    let w = plan-whole (plan_of c.args.left.now c.args.right.now c.args.nl c.args.nr c.args.wiring.now) (accepted c.before.before.before.before.before.before.before.before.before.before) left in
     let l : edge / degree c.args.left.now < c.args.nl = (div-lt_iff_lt-mul w.degree-pos).1 (rw w.entries (edge-lt c e)) in
-    omega (arith, l, (plan-fits (plan_in c.before.before.before.before.before.before.before.before.before.before) (accepted c.before.before.before.before.before.before.before.before.before.before) left).n-high)
+    omega (arith, l, (plan-fits (plan_of c.args.left.now c.args.right.now c.args.nl c.args.nr c.args.wiring.now) (accepted c.before.before.before.before.before.before.before.before.before.before) left).n-high)
 
 pub overflow_sub-d : goal.overflow_sub-d
 unfolding degree
@@ -103,7 +96,7 @@ overflow_add-base c = omega (arith, entry-few c)
 
 pub edge_at-edge-requires : goal.edge_at-edge-requires
 unfolding degree
-edge_at-edge-requires c = omega (arith, entry_lt c, (plan-fits (plan_in (goal.at.edge_at-edge-requires c).Start) (accepted (goal.at.edge_at-edge-requires c).Start) left).sized)
+edge_at-edge-requires c = omega (arith, entry_lt c, (plan-fits (plan_of c.args.left.now c.args.right.now c.args.nl c.args.nr c.args.wiring.now) (accepted (goal.at.edge_at-edge-requires c).Start) left).sized)
 
 pub offset_bounds-kept-v : goal.offset_bounds-kept-v
 offset_bounds-kept-v c = omega (arith, vertex-few (goal.at.offset_bounds-kept-v c).Start)
@@ -122,7 +115,7 @@ bounds-kept-v-in-loop-rest c = omega (arith, vertex-few (goal.at.bounds-kept-v-i
 
 pub vertex_at-requires : goal.vertex_at-requires
 unfolding degree
-vertex_at-requires c = omega (arith, (plan-fits (plan_in (goal.at.vertex_at-requires c).Start) (accepted (goal.at.vertex_at-requires c).Start) left).d-low)
+vertex_at-requires c = omega (arith, (plan-fits (plan_of c.args.left.now c.args.right.now c.args.nl c.args.nr c.args.wiring.now) (accepted (goal.at.vertex_at-requires c).Start) left).d-low)
 
 pub mark-requires : goal.mark-requires
 unfolding degree
@@ -150,13 +143,13 @@ loop-rest-preserved c =
     let d : ℕ = degree c.args.right.now in
     let kept = c.loop-rest.kept in
     let in-word : d - 1 - c.highest-high.result < d = omega (arith, within (goal.at.loop-rest-preserved c).After-highest-high) in
-    let vertex : c.args.v ≡ entry_in (goal.at.loop-rest-preserved c).After-highest-high / d = sym (digits_div c.args.v in-word) in
-    let weight : c.highest-high.result ≡ d - 1 - entry_in (goal.at.loop-rest-preserved c).After-highest-high % d = omega (arith, within (goal.at.loop-rest-preserved c).After-highest-high, digits_mod c.args.v in-word) in
+    let vertex : c.args.v ≡ (c.args.v * degree c.args.right.now + (degree c.args.right.now - 1 - c.highest-high.result)) / d = sym (digits_div c.args.v in-word) in
+    let weight : c.highest-high.result ≡ d - 1 - (c.args.v * degree c.args.right.now + (degree c.args.right.now - 1 - c.highest-high.result)) % d = omega (arith, within (goal.at.loop-rest-preserved c).After-highest-high, digits_mod c.args.v in-word) in
     let edge = c.edge_at-edge.ensures in
     let power = c.power.ensures in
-    putting-more (plan_in (goal.at.loop-rest-preserved c).Start) (accepted (goal.at.loop-rest-preserved c).Start) right c.args.v c.requires.plan_value c.args.pattern _ _ c.loop-rest.invariant _ c.highest-high.ensures.power_low
+    putting-more (plan_of c.args.left.now c.args.right.now c.args.nl c.args.nr c.args.wiring.now) (accepted (goal.at.loop-rest-preserved c).Start) right c.args.v c.requires.plan_value c.args.pattern _ _ c.loop-rest.invariant _ c.highest-high.ensures.power_low
     c.highest-high.ensures.power_high _ edge c.power-rest.ensures c.turn_bit.ensures
-    (entry_in (goal.at.loop-rest-preserved c).After-highest-high) (entry_lt (goal.at.loop-rest-preserved c).After-highest-high) edge
+    ((c.args.v * degree c.args.right.now + (degree c.args.right.now - 1 - c.highest-high.result))) (entry_lt (goal.at.loop-rest-preserved c).After-highest-high) edge
     (ap₂ (λ (i x : ℕ). set kept i (bit_xor (at kept i) x)) vertex (power ∙ ap (λ (i : ℕ). 2 ^ i) weight))
     c.edge_at-edge.result (edge-lt (goal.at.loop-rest-preserved c).After-highest-high edge) refl
     (c.mark.ensures
@@ -168,4 +161,4 @@ shape_of-block c = rest-sized c.loop-rest.invariant.left_over ∙ length-pattern
 
 pub returns : goal.returns
 returns c =
-    putting-done (plan_in (goal.at.returns c).Start) (accepted (goal.at.returns c).Start) right c.args.v c.requires.plan_value c.args.pattern _ _ c.loop-rest.invariant (omega arith)
+    putting-done (plan_of c.args.left.now c.args.right.now c.args.nl c.args.nr c.args.wiring.now) (accepted (goal.at.returns c).Start) right c.args.v c.requires.plan_value c.args.pattern _ _ c.loop-rest.invariant (omega arith)

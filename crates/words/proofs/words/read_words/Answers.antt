@@ -23,18 +23,15 @@ use Rattle.words.proofs.RightWords.{words_more}
 use Rattle.words.proofs.words.read_words.Goals as goal
 use Rattle.words.proofs.words.read_words.Goals.{In-loop-v, Start}
 
-abbrev plan_in : Start → Plan
-plan_in c = plan_of c.args.left.now c.args.right.now c.args.nl c.args.nr c.args.wiring.now
-
-accepted : (c : Start) → plan_check (plan_in c) ≡ done []
+accepted : (c : Start) → plan_check (plan_of c.args.left.now c.args.right.now c.args.nl c.args.nr c.args.wiring.now) ≡ done []
 accepted c = c.requires.wiring_value
 
 -- the block holds every bit
-room : (c : Start) → edge_count (plan_in c) ≤ length c.args.block.now * 8
-room c = block_room (edge_count (plan_in c)) c.args.block.now c.requires.plan_value
+room : (c : Start) → edge_count (plan_of c.args.left.now c.args.right.now c.args.nl c.args.nr c.args.wiring.now) ≤ length c.args.block.now * 8
+room c = block_room (edge_count (plan_of c.args.left.now c.args.right.now c.args.nl c.args.nr c.args.wiring.now)) c.args.block.now c.requires.plan_value
 
 pub bounds-right-0 : goal.bounds-right-0
-bounds-right-0 c = fitted-sheet _ (plan-fits (plan_in (goal.at.bounds-right-0 c).Start) (accepted (goal.at.bounds-right-0 c).Start) right)
+bounds-right-0 c = fitted-sheet _ (plan-fits (plan_of c.args.left.now c.args.right.now c.args.nl c.args.nr c.args.wiring.now) (accepted (goal.at.bounds-right-0 c).Start) right)
 
 pub overflow_cast-d : goal.overflow_cast-d
 overflow_cast-d c = omega (arith, c.type_inv.right 0)
@@ -46,17 +43,17 @@ loop-v-init c = (search rules, c.requires.1.1, λ u l. absurd (omega arith))
 last_entry : (c : In-loop-v)
     → c.loop-v.v * degree c.args.right.now + degree c.args.right.now ≤ 32768
 last_entry c =
-    let fits = plan-fits (plan_in c.before.before.before.before.before.before.before.before) (accepted c.before.before.before.before.before.before.before.before) right in
+    let fits = plan-fits (plan_of c.args.left.now c.args.right.now c.args.nl c.args.nr c.args.wiring.now) (accepted c.before.before.before.before.before.before.before.before) right in
     omega (
       arith,
       fitted-vertex fits c.loop-v.v (omega arith),
       fits.sized,
-      (plan-whole (plan_in c.before.before.before.before.before.before.before.before) (accepted c.before.before.before.before.before.before.before.before) right).entries,
-      plan-few (plan_in c.before.before.before.before.before.before.before.before) (accepted c.before.before.before.before.before.before.before.before),
+      (plan-whole (plan_of c.args.left.now c.args.right.now c.args.nl c.args.nr c.args.wiring.now) (accepted c.before.before.before.before.before.before.before.before) right).entries,
+      plan-few (plan_of c.args.left.now c.args.right.now c.args.nl c.args.nr c.args.wiring.now) (accepted c.before.before.before.before.before.before.before.before),
     )
 
 few : (c : In-loop-v) → c.loop-v.v < 2048
-few c = omega (arith, (plan-fits (plan_in c.before.before.before.before.before.before.before.before) (accepted c.before.before.before.before.before.before.before.before) right).n-high)
+few c = omega (arith, (plan-fits (plan_of c.args.left.now c.args.right.now c.args.nl c.args.nr c.args.wiring.now) (accepted c.before.before.before.before.before.before.before.before) right).n-high)
 
 pub overflow_mul-v : goal.overflow_mul-v
 unfolding degree
@@ -65,7 +62,7 @@ overflow_mul-v c = omega (arith, last_entry c)
 pub gathered-requires : goal.gathered-requires
 unfolding degree side_bit
 gathered-requires c =
-    let plan = plan_in (goal.at.gathered-requires c).Start in
+    let plan = (plan_of c.args.left.now c.args.right.now c.args.nl c.args.nr c.args.wiring.now) in
     let fits = plan-fits plan (accepted (goal.at.gathered-requires c).Start) right in
     let whole = plan-whole plan (accepted (goal.at.gathered-requires c).Start) right in record {
       d_bound = fits.d-high;
@@ -89,7 +86,7 @@ loop-v-preserved c =
         sized = length-set turn.auto turn.v _ ∙ turn.invariant.1.sized;
         each = λ i l h. at_set_other turn.auto turn.v i _ (omega (arith, few (goal.at.loop-v-preserved c).In-loop-v)) ∙ turn.invariant.1.each i l h;
       },
-      words_more (side_of (plan_in (goal.at.loop-v-preserved c).Start) right) c.args.block.now turn.auto turn.v _
+      words_more (side_of (plan_of c.args.left.now c.args.right.now c.args.nl c.args.nr c.args.wiring.now) right) c.args.block.now turn.auto turn.v _
           (omega (arith, turn.invariant.1.sized, few (goal.at.loop-v-preserved c).In-loop-v)) refl turn.invariant.2 c.gathered.ensures,
     )
 
@@ -98,7 +95,7 @@ returns c =
     let end : c.loop-v.v ≡ c.args.nr = omega arith in record {
       words_read = record {
         sized = c.loop-v.invariant.1.sized;
-        room = rw (plan-whole (plan_in (goal.at.returns c).Start) (accepted (goal.at.returns c).Start) right).entries (room (goal.at.returns c).Start);
+        room = rw (plan-whole (plan_of c.args.left.now c.args.right.now c.args.nl c.args.nr c.args.wiring.now) (accepted (goal.at.returns c).Start) right).entries (room (goal.at.returns c).Start);
         each = rw end at c.loop-v.invariant.2;
       };
       still_cleared = c.loop-v.invariant.1;
