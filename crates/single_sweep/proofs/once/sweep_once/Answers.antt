@@ -31,12 +31,20 @@ passed c =
 pub sweep_left-requires : goal.sweep_left-requires
 sweep_left-requires c =
     let p = plan (goal.at.sweep_left-requires c).In-Passed in
-    (passed (goal.at.sweep_left-requires c).In-Passed-check_block, (p.code_is left, p.code_is right))
+    record {
+      block_value = passed (goal.at.sweep_left-requires c).In-Passed-check_block;
+      left_code_value = p.code_is left;
+      right_code_value = p.code_is right;
+    }
 
 pub sweep_right-requires : goal.sweep_right-requires
 sweep_right-requires c =
     let p = plan (goal.at.sweep_right-requires c).In-Passed in
-    (passed (goal.at.sweep_right-requires c).In-Passed-check_block, (p.code_is left, p.code_is right))
+    record {
+      block_value = passed (goal.at.sweep_right-requires c).In-Passed-check_block;
+      left_code_value = p.code_is left;
+      right_code_value = p.code_is right;
+    }
 
 pub returns-in-Refused : goal.returns-in-Refused
 returns-in-Refused c =
