@@ -54,7 +54,7 @@ pub(crate) fn measured_numbers(
     nr: usize,
     wiring: &[u8],
 ) -> PlanNumbers
-    requires plan_value { let plan : Plan = plan_of left.now right.now nl nr wiring.now in plan_check plan ≡ done [] }
+    requires { let plan : Plan = plan_of left.now right.now nl nr wiring.now in plan_check plan ≡ done [] }
     ensures { let plan : Plan = plan_of left.now right.now nl nr wiring.now in result ≡ numbers_of plan }
 {
     let dl = left[0] as u64;

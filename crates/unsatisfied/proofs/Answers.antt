@@ -62,8 +62,8 @@ module _ (plan : Plan) (block : List ℕ) where
         → done ((here + there) ∷ []) ≡ count_answer plan block
     unfolding count_answer unsatisfied_count
     count-told e here there counted-left counted-right =
-        ap₂ (λ (x y : ℕ). done ((x + y) ∷ [])) (counted-left ∙ up-to-defined plan p.plan-done left block (p.code-is left))
-        (counted-right ∙ up-to-defined plan p.plan-done right block (p.code-is right))
+        ap₂ (λ (x y : ℕ). done ((x + y) ∷ [])) (counted-left ∙ up-to-defined plan p.plan-done left block (p.code_is left))
+        (counted-right ∙ up-to-defined plan p.plan-done right block (p.code_is right))
         ∙ sym (checks-passed plan block _ r p e)
 
 -- ---- a bit that is set
@@ -81,8 +81,8 @@ module _ (plan : Plan) (bit : ℕ) (block : List ℕ) (r : CheckedPlan) (p : Pla
   bit-checked pass within =
       record {
         plan-done = p.plan-done;
-        left_is = p.code-is left;
-        right_is = p.code-is right;
+        left_is = p.code_is left;
+        right_is = p.code_is right;
         block-done = rw (accepted-edges p) at pass;
         bit-lt = rw (accepted-edges p) at within;
       }

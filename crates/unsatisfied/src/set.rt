@@ -63,7 +63,7 @@ fn turn_counted(
     bit: usize,
     block: &mut [u8],
 ) -> usize
-    requires checked_bit { let plan : Plan = plan_of left.now right.now nl nr wiring.now in CheckedBit plan left_code right_code bit block.old }
+    requires { let plan : Plan = plan_of left.now right.now nl nr wiring.now in CheckedBit plan left_code right_code bit block.old }
     ensures value { let plan : Plan = plan_of left.now right.now nl nr wiring.now in result ≡ count_change (side_of plan) block.old (turned block.old bit 1) }
     ensures block_after { block.new ≡ turned block.old bit 1 }
 {
