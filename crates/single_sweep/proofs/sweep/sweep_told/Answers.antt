@@ -92,7 +92,7 @@ loop-v-preserved-then-is_codeword c =
 
 pub nearest_on-step-requires : goal.nearest_on-step-requires
 nearest_on-step-requires c =
-    nearest-asked (plan_of c.args.left.now c.args.right.now c.args.nl c.args.nr c.args.wiring.now) c.args.side c.loop-v.invariant.2 c.loop-v.block c.loop-v.v (read_is (goal.at.nearest_on-step-requires c).After-read_word-word)
+    let both = (nearest-asked (plan_of c.args.left.now c.args.right.now c.args.nl c.args.nr c.args.wiring.now) c.args.side c.loop-v.invariant.2 c.loop-v.block c.loop-v.v (read_is (goal.at.nearest_on-step-requires c).After-read_word-word)) in record { finds = both.0; word_bound = both.1 }
 
 -- ---- a word that is no codeword
 
@@ -175,5 +175,5 @@ loop-v-preserved c =
 
 pub returns : goal.returns
 returns c =
-    visited-all (plan_of c.args.left.now c.args.right.now c.args.nl c.args.nr c.args.wiring.now) (accepted (goal.at.returns c).Start) c.args.side c.loop-v.invariant.1
-    (omega (arith, c.loop-v.invariant.0, ap (λ (x : SideCode). x.n) (held (goal.at.returns c).After-code_of-code)))
+    let both = (visited-all (plan_of c.args.left.now c.args.right.now c.args.nl c.args.nr c.args.wiring.now) (accepted (goal.at.returns c).Start) c.args.side c.loop-v.invariant.1
+    (omega (arith, c.loop-v.invariant.0, ap (λ (x : SideCode). x.n) (held (goal.at.returns c).After-code_of-code)))) in record { value = both.0; block_after = both.1 }

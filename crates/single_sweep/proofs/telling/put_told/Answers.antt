@@ -64,8 +64,8 @@ overflow_add-base c = rw (degree-is (goal.at.overflow_add-base c).After-code_of-
 
 pub place_across-place-requires : goal.place_across-place-requires
 place_across-place-requires c =
-    rw (degree-is (goal.at.place_across-place-requires c).After-code_of-here)
-    ((entry-few c).1, λ is-left. omega (arith, (entry-few c).0, plan-entries (plan_of c.args.left.now c.args.right.now c.args.nl c.args.nr c.args.wiring.now) (accepted (goal.at.place_across-place-requires c).Start), (c.requires.across.noted is-left).sized))
+    let both = (rw (degree-is (goal.at.place_across-place-requires c).After-code_of-here)
+    ((entry-few c).1, λ is-left. omega (arith, (entry-few c).0, plan-entries (plan_of c.args.left.now c.args.right.now c.args.nl c.args.nr c.args.wiring.now) (accepted (goal.at.place_across-place-requires c).Start), (c.requires.across.noted is-left).sized))) in record { i_bound = both.0; i_in_bounds = both.1 }
 
 -- the entry of the other side that has the bit
 placed : (c : After-place_across-place)

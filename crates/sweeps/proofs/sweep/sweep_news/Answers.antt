@@ -192,6 +192,6 @@ returns c =
     let enough : count_of (plan_of c.args.left.now c.args.right.now c.args.nl c.args.nr c.args.wiring.now) c.args.side ≤ 16 * c.Numbers-of.result =
     le_trans (le_of_eq (sym (c.count_of.ensures ∙ count-for (plan_of c.args.left.now c.args.right.now c.args.nl c.args.nr c.args.wiring.now) c.args.side))) c.Numbers-of.ensures.0 in
     let all : count_of (plan_of c.args.left.now c.args.right.now c.args.nl c.args.nr c.args.wiring.now) c.args.side ≤ 16 * turn.i = omega (arith, turn.invariant.0, enough) in record {
-      news_swept = news-round-end c.requires.plan_value (hears (goal.at.returns c).Start) all turn.invariant.1 (news-round-clear c.requires.plan_value (hears (goal.at.returns c).Start) turn.auto turn.i all turn.invariant.4 turn.invariant.3);
+      news_swept = news-round-end c.requires.plan_value (hears (goal.at.returns c).Start) all turn.invariant.1 (news-round-clear c.requires.plan_value (hears (goal.at.returns c).Start) turn.kept turn.i all turn.invariant.4 turn.invariant.3);
       still_finds = turn.invariant.2;
     }

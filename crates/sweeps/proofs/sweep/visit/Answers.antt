@@ -28,7 +28,7 @@ returns-then-is_codeword c =
 
 pub nearest_on-step-requires : goal.nearest_on-step-requires
 nearest_on-step-requires c =
-    nearest-asked (plan_of c.args.left.now c.args.right.now c.args.nl c.args.nr c.args.wiring.now) c.args.vertex.side c.requires.finds _ _ c.word_of-word.ensures
+    let both = (nearest-asked (plan_of c.args.left.now c.args.right.now c.args.nl c.args.nr c.args.wiring.now) c.args.vertex.side c.requires.finds _ _ c.word_of-word.ensures) in record { finds = both.0; word_bound = both.1 }
 
 pub put_told-requires : goal.put_told-requires
 put_told-requires c =

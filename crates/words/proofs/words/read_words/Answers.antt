@@ -84,10 +84,10 @@ loop-v-preserved c =
     (
       omega arith,
       record {
-        sized = length-set turn.auto turn.v _ ∙ turn.invariant.1.sized;
-        each = λ i l h. at_set_other turn.auto turn.v i _ (omega (arith, few (goal.at.loop-v-preserved c).In-loop-v)) ∙ turn.invariant.1.each i l h;
+        sized = length-set turn.kept turn.v _ ∙ turn.invariant.1.sized;
+        each = λ i l h. at_set_other turn.kept turn.v i _ (omega (arith, few (goal.at.loop-v-preserved c).In-loop-v)) ∙ turn.invariant.1.each i l h;
       },
-      words_more (side_of (plan_of c.args.left.now c.args.right.now c.args.nl c.args.nr c.args.wiring.now) right) c.args.block.now turn.auto turn.v _
+      words_more (side_of (plan_of c.args.left.now c.args.right.now c.args.nl c.args.nr c.args.wiring.now) right) c.args.block.now turn.kept turn.v _
           (omega (arith, turn.invariant.1.sized, few (goal.at.loop-v-preserved c).In-loop-v)) refl turn.invariant.2 c.gathered.ensures,
     )
 
