@@ -32,7 +32,7 @@ loop-c-preserved c =
       search rules,
       copied_more args.count args.digit m args.table.now args.costs.now c.loop-c.table c.loop-c.costs (omega arith)
           (omega (arith, c.requires.room.entries)) (omega (arith, c.requires.room.weights)) c.loop-c.invariant.1 _ _ _
-          (λ i. (c.type_inv.table i).fits) refl
+          (λ i. (c.slice_known-in-loop-c-1.given i).fits) refl
           (ap (λ (x : ℕ). bit_xor x (args.digit % 256))
           (get_or-set_other c.loop-c.table (2 * (args.count + m)) (2 * m + 1) _ 0 (λ e. omega (arith, e))))
           refl,

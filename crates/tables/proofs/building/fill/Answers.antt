@@ -184,25 +184,25 @@ loop-b-preserved c =
       omega arith,
       c.loop-b.invariant.1,
       (elim c.if-left-digit.branch [
-          | then-left-digit w ↦ ap length w.8 ∙ w.3.ensures.sized ∙ c.loop-b.invariant.2
-          | else-left-digit w ↦ ap length w.9 ∙ w.4.ensures.sized ∙ c.loop-b.invariant.2
+          | then-left-digit w ↦ ap length w.table-is ∙ w.copy_with.ensures.sized ∙ c.loop-b.invariant.2
+          | else-left-digit w ↦ ap length w.table-is ∙ w.fold.ensures.sized ∙ c.loop-b.invariant.2
         ]),
       (elim c.if-left-digit.branch [
-          | then-left-digit w ↦ ap length w.9 ∙ w.3.ensures.costed ∙ c.loop-b.invariant.3
-          | else-left-digit w ↦ ap length w.10 ∙ w.4.ensures.costed ∙ c.loop-b.invariant.3
+          | then-left-digit w ↦ ap length w.costs-is ∙ w.copy_with.ensures.costed ∙ c.loop-b.invariant.3
+          | else-left-digit w ↦ ap length w.costs-is ∙ w.fold.ensures.costed ∙ c.loop-b.invariant.3
         ]),
       (elim c.if-left-digit.branch [
-          | then-left-digit w ↦ filled-same sheet (fine (goal.at.loop-b-preserved c).Start) _ _ _ _ _ _ w.10 w.8 w.9
+          | then-left-digit w ↦ filled-same sheet (fine (goal.at.loop-b-preserved c).Start) _ _ _ _ _ _ w.count-is w.table-is w.costs-is
           (filled-copied sheet (fine (goal.at.loop-b-preserved c).Start) c.loop-b.b c.loop-b.count (b_lt (goal.at.loop-b-preserved c).In-loop-b) c.loop-b.table c.loop-b.costs
-          c.loop-b.invariant.4 (free (goal.at.loop-b-preserved c).After-residue-left w.if-left-digit.true) _ _ _ (digit-is (goal.at.loop-b-preserved c).In-loop-b) c.loop-b.invariant.5 w.3.ensures)
-          | else-left-digit w ↦ filled-same sheet (fine (goal.at.loop-b-preserved c).Start) _ _ _ _ _ _ w.11 w.9 w.10
+          c.loop-b.invariant.4 (free (goal.at.loop-b-preserved c).After-residue-left w.if-left-digit.true) _ _ _ (digit-is (goal.at.loop-b-preserved c).In-loop-b) c.loop-b.invariant.5 w.copy_with.ensures)
+          | else-left-digit w ↦ filled-same sheet (fine (goal.at.loop-b-preserved c).Start) _ _ _ _ _ _ w.count-is w.table-is w.costs-is
           (filled-folded sheet (fine (goal.at.loop-b-preserved c).Start) c.loop-b.b c.loop-b.count (b_lt (goal.at.loop-b-preserved c).In-loop-b) c.loop-b.table c.loop-b.costs
-          c.loop-b.invariant.4 (taken (goal.at.loop-b-preserved c).After-residue-left w.if-left-digit.false) _ (apart (goal.at.loop-b-preserved c).After-residue-left _ w.3.ensures) _ _ _
-          (digit-is (goal.at.loop-b-preserved c).In-loop-b) w.4.ensures)
+          c.loop-b.invariant.4 (taken (goal.at.loop-b-preserved c).After-residue-left w.if-left-digit.false) _ (apart (goal.at.loop-b-preserved c).After-residue-left _ w.squeeze.ensures) _ _ _
+          (digit-is (goal.at.loop-b-preserved c).In-loop-b) w.fold.ensures)
         ]),
       (elim c.if-left-digit.branch [
-          | then-left-digit w ↦ λ i. subst⁻¹ (λ (l : List ℕ). get_or l i 0 < 256) w.8 (w.5.given i).fits
-          | else-left-digit w ↦ λ i. subst⁻¹ (λ (l : List ℕ). get_or l i 0 < 256) w.9 (w.6.given i).fits
+          | then-left-digit w ↦ λ i. subst⁻¹ (λ (l : List ℕ). get_or l i 0 < 256) w.table-is (w.slice_known-then-left-digit-1.given i).fits
+          | else-left-digit w ↦ λ i. subst⁻¹ (λ (l : List ℕ). get_or l i 0 < 256) w.table-is (w.slice_known-else-left-digit-1.given i).fits
         ]),
     )
 

@@ -32,9 +32,9 @@ loop-c-preserved c =
     let turn = c.loop-c.c in (
       search rules,
       (elim c.if-c-other.branch [
-          | then-c-other w ↦ folded-same _ _ _ _ w.8 w.9
-          (folded_both args.count args.apart args.digit _ _ turn _ _ (omega arith) so _ _ w.if-c-other.true w.3.ensures)
-          | else-c-other w ↦ folded-same _ _ _ _ w.1 w.2
+          | then-c-other w ↦ folded-same _ _ _ _ w.table-is w.costs-is
+          (folded_both args.count args.apart args.digit _ _ turn _ _ (omega arith) so _ _ w.if-c-other.true w.fold_pair.ensures)
+          | else-c-other w ↦ folded-same _ _ _ _ w.table-is w.costs-is
           (folded-passed args.count args.apart args.digit _ _ turn _ _ (omega arith) so w.if-c-other.false)
         ]),
     )
