@@ -35,25 +35,26 @@ overflow_mul-plan-in-Passed-check_block c =
 
 pub returns-then-plan-bit : goal.returns-then-plan-bit
 returns-then-plan-bit c =
-    bit_past _ _ _ _ _ (plan (goal.at.returns-then-plan-bit c).In-Passed) (block-done (goal.at.returns-then-plan-bit c).In-Passed-check_block) c.if-plan-bit.true
+    let both = (bit_past _ _ _ _ _ (plan (goal.at.returns-then-plan-bit c).In-Passed) (block-done (goal.at.returns-then-plan-bit c).In-Passed-check_block) c.if-plan-bit.true) in record { result_value = both.0; block_after = both.1 }
 
 pub returns-then-bit-value : goal.returns-then-bit-value
 returns-then-bit-value c =
-    bit_kept _ _ _ _ _ (plan (goal.at.returns-then-bit-value c).In-Passed) (block-done (goal.at.returns-then-bit-value c).In-Passed-check_block) c.if-plan-bit.false (sym c.bit.ensures ∙ c.if-bit-value.true)
+    let both = (bit_kept _ _ _ _ _ (plan (goal.at.returns-then-bit-value c).In-Passed) (block-done (goal.at.returns-then-bit-value c).In-Passed-check_block) c.if-plan-bit.false (sym c.bit.ensures ∙ c.if-bit-value.true)) in record { result_value = both.0; block_after = both.1 }
 
 pub turn_counted-requires : goal.turn_counted-requires
 turn_counted-requires c =
     bit-checked _ _ _ _ (plan (goal.at.turn_counted-requires c).In-Passed) (block-done (goal.at.turn_counted-requires c).In-Passed-check_block) c.if-plan-bit.false
 
 pub returns-in-Refused : goal.returns-in-Refused
-returns-in-Refused c = bit-plan-refused _ _ _ _ _ _ (plan-refused _ _ c.check_plan-plan.ensures _ c.in-Refused.is)
+returns-in-Refused c =
+    let both = (bit-plan-refused _ _ _ _ _ _ (plan-refused _ _ c.check_plan-plan.ensures _ c.in-Refused.is)) in record { result_value = both.0; block_after = both.1 }
 
 pub returns-in-Refused-check_block : goal.returns-in-Refused-check_block
 returns-in-Refused-check_block c =
-    bit-block-refused _ _ _ _ _ (plan (goal.at.returns-in-Refused-check_block c).In-Passed) _ _
-    (sym c.check_block.ensures ∙ ap check_reply c.in-Refused-check_block.is)
+    let both = (bit-block-refused _ _ _ _ _ (plan (goal.at.returns-in-Refused-check_block c).In-Passed) _ _
+    (sym c.check_block.ensures ∙ ap check_reply c.in-Refused-check_block.is)) in record { result_value = both.0; block_after = both.1 }
 
 pub returns-else-bit-value : goal.returns-else-bit-value
 returns-else-bit-value c =
-    bit-turned _ _ _ _ _ (plan (goal.at.returns-else-bit-value c).In-Passed) (block-done (goal.at.returns-else-bit-value c).In-Passed-check_block) c.if-plan-bit.false (λ e. c.if-bit-value.false (c.bit.ensures ∙ e))
-    c.turn_counted.ensures.value c.turn_counted.ensures.block_after
+    let both = (bit-turned _ _ _ _ _ (plan (goal.at.returns-else-bit-value c).In-Passed) (block-done (goal.at.returns-else-bit-value c).In-Passed-check_block) c.if-plan-bit.false (λ e. c.if-bit-value.false (c.bit.ensures ∙ e))
+    c.turn_counted.ensures.value c.turn_counted.ensures.block_after) in record { result_value = both.0; block_after = both.1 }
