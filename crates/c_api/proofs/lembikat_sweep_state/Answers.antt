@@ -8,6 +8,6 @@ pub returns : goal.returns
 returns c =
     let called = c.sweep_state.ensures in
     record {
-      value = c.shown.ensures ∙ ap told_state called.0;
-      state_after = called.1;
+      value = c.shown.ensures ∙ ap told_state called.result_value;
+      state_after = called.state_after;
     }

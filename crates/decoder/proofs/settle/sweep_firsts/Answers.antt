@@ -36,5 +36,5 @@ sweep_right-second-requires c =
     let read = c.read_words.ensures in
     record {
       ready = ready-left-swept c.requires.ready c.sweep_first-first.ensures.finds;
-      listening = cleared-listening (plan_of c.args.left.now c.args.right.now c.args.nl c.args.nr c.args.wiring.now) c.requires.ready.plan-done right read.0 read.1;
+      listening = cleared-listening (plan_of c.args.left.now c.args.right.now c.args.nl c.args.nr c.args.wiring.now) c.requires.ready.plan-done right read.words_read read.still_cleared;
     }

@@ -11,7 +11,7 @@ use Rattle.finder.proofs.finder.find_numbered.Goals.{After-check_into, After-num
 fewer : (c : After-check_into) → Fewer c.args.sheet.now c.check_into.new.basis
 fewer c =
     let known = c.requires in
-    record { accepted = known.0.accepted; echelon = checked-echelon _ c.check_into.ensures known.0.accepted; few = known.1.1 }
+    record { accepted = known.finds.accepted; echelon = checked-echelon _ c.check_into.ensures known.finds.accepted; few = known.sheet_bound }
 
 pub number_classes-requires : goal.number_classes-requires
 number_classes-requires c = record {
@@ -29,13 +29,13 @@ pub by_entry-requires : goal.by_entry-requires
 by_entry-requires c =
     let known = c.requires in
     let done = numbered (goal.at.by_entry-requires c).After-number_classes in
-    let finds = renumbered-finds known.0 known.1.1 done in
+    let finds = renumbered-finds known.finds known.sheet_bound done in
     record {
       finder_len = finds.sized;
-      left_bound = entry_lt finds c.args.word known.1.0 done.flag _ c.left_of.ensures;
+      left_bound = entry_lt finds c.args.word known.word_bound done.flag _ c.left_of.ensures;
     }
 
 pub returns : goal.returns
 returns c =
     let known = c.requires in
-    found-numbered known.0 known.1.0 known.1.1 (numbered (goal.at.returns c).After-number_classes) _ c.left_of.ensures c.by_entry.ensures
+    found-numbered known.finds known.word_bound known.sheet_bound (numbered (goal.at.returns c).After-number_classes) _ c.left_of.ensures c.by_entry.ensures

@@ -108,7 +108,7 @@ told-one : (c : After-turn_told-one)
     ≡ turned c.loop-rest.block (side_bit c.args.side c.args.wiring.now ((c.args.v * (degree (sheet_of (plan_of c.args.left.now c.args.right.now c.args.nl c.args.nr c.args.wiring.now) c.args.side)) + ((degree (sheet_of (plan_of c.args.left.now c.args.right.now c.args.nl c.args.nr c.args.wiring.now) c.args.side)) - 1 - c.highest-high.result)))) 1)
 told-one c =
     let told = rw c.other_side.ensures at c.turn_told-one.ensures in
-    (told.0, told.1 ∙ ap (λ (e : ℕ). turned c.loop-rest.block e 1) (placed (record { before = c.before.before.before.before; type_inv = record { places = c.shared_slice_known-4-1.given; wiring = c.shared_slice_known-3-1.given; right = c.shared_slice_known-2-1.given; left = c.shared_slice_known-1.given; } })).1)
+    (told.block_value, told.block_after ∙ ap (λ (e : ℕ). turned c.loop-rest.block e 1) (placed (record { before = c.before.before.before.before; type_inv = record { places = c.shared_slice_known-4-1.given; wiring = c.shared_slice_known-3-1.given; right = c.shared_slice_known-2-1.given; left = c.shared_slice_known-1.given; } })).1)
 
 -- the numbers are in range
 few : (c : After-highest-high) (block : List ℕ) → missing c block ≤ 2048

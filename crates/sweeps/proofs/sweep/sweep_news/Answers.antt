@@ -132,9 +132,9 @@ loop-rest-preserved c =
     let visit = c.visit-bits.ensures in (
       λ before marks h so_far.
           news-scan-more c.requires.plan_value h (few (goal.at.loop-rest-preserved c).After-rest-1) (turn.invariant.0 before marks h so_far) _ c.highest-high.ensures.power_low
-          c.highest-high.ensures.power_high c.highest-high.ensures.fits_word visit.0 c.power-rest.ensures,
-      λ f. visit.1,
-      λ j l. visit.0.keeps.own j l ∙ turn.invariant.2 j l,
+          c.highest-high.ensures.power_high c.highest-high.ensures.fits_word visit.visited_at c.power-rest.ensures,
+      λ f. visit.still_finds,
+      λ j l. visit.visited_at.keeps.own j l ∙ turn.invariant.2 j l,
     )
 
 -- numbers of the list, over plain numbers

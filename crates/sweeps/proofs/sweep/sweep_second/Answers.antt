@@ -105,11 +105,11 @@ loop-v-preserved c =
     let turn = c.loop-v in
     let visit = c.visit-bits.ensures in (
       omega (arith, below (goal.at.loop-v-preserved c).After-is_codeword),
-      round-visited (accepted (goal.at.loop-v-preserved c).Start) (below (goal.at.loop-v-preserved c).After-is_codeword) turn.invariant.1 visit.0
-          (visit-waits ((ready-side (plan_of c.args.left.now c.args.right.now c.args.nl c.args.nr c.args.wiring.now) (accepted c.before.before.before.before.before.before.before.before.before.before.before) right c.loop-v.invariant.2)) right turn.block (below (goal.at.loop-v-preserved c).After-is_codeword) (word-is (goal.at.loop-v-preserved c).After-is_codeword) (member (goal.at.loop-v-preserved c).After-is_codeword) c.if-is_codeword.false visit.0.counted
+      round-visited (accepted (goal.at.loop-v-preserved c).Start) (below (goal.at.loop-v-preserved c).After-is_codeword) turn.invariant.1 visit.visited_at
+          (visit-waits ((ready-side (plan_of c.args.left.now c.args.right.now c.args.nl c.args.nr c.args.wiring.now) (accepted c.before.before.before.before.before.before.before.before.before.before.before) right c.loop-v.invariant.2)) right turn.block (below (goal.at.loop-v-preserved c).After-is_codeword) (word-is (goal.at.loop-v-preserved c).After-is_codeword) (member (goal.at.loop-v-preserved c).After-is_codeword) c.if-is_codeword.false visit.visited_at.counted
           c.tie-ties.ensures),
-      visit.1,
-      λ i l. visit.0.keeps.own i l ∙ turn.invariant.3 i l,
+      visit.still_finds,
+      λ i l. visit.visited_at.keeps.own i l ∙ turn.invariant.3 i l,
     )
 
 -- look: no goal for `same-length`

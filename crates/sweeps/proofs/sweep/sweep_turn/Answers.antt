@@ -28,8 +28,8 @@ returns-then-right_finder-eq0 c =
     let is = c.in-Right.is in
     let swept = c.sweep_news-then-right_finder-eq0.ensures in
     record {
-      news_swept = swept.0;
-      still_ready = ready-shared-swept c.requires.ready c.if-right_finder-eq0.true (rw is at swept.1);
+      news_swept = swept.news_swept;
+      still_ready = ready-shared-swept c.requires.ready c.if-right_finder-eq0.true (rw is at swept.still_finds);
     }
 
 pub sweep_news-requires-in-Right : goal.sweep_news-requires-in-Right
@@ -47,8 +47,8 @@ returns-in-Left c =
     let is = c.in-Left.is in
     let swept = c.sweep_news.ensures in
     record {
-      news_swept = swept.0;
-      still_ready = ready-left-swept c.requires.ready (rw is at swept.1);
+      news_swept = swept.news_swept;
+      still_ready = ready-left-swept c.requires.ready (rw is at swept.still_finds);
     }
 
 pub returns-else-right_finder-eq0 : goal.returns-else-right_finder-eq0
