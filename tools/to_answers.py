@@ -187,6 +187,37 @@ class Function:
         return re.sub(r"(\b[\w'₀-₉-]+|[)»])((?:\.«?[\w'₀-₉-]+»?)+)", lambda m: turn(m) if not re.match(r"^(Rattle|tie|goal|mathlib|native|borrow|lib|Prim|denote|mir)$", m.group(1)) else m.group(0), text)
 
 
+def _aliases(self, text):
+    """`let known = c.requires in known.1.0`: a name that stands for clauses, with its projections by their names."""
+    by_new = {}
+    for step, (new, callee, fields) in self.steps.items():
+        if fields:
+            by_new[new] = fields
+    out = []
+    for ch in text.split("\n\n"):
+        for m in list(re.finditer(r"let ([\w'-]+) = [^\n]*?\b([\w-]+)\.(requires|ensures) in\b", ch)) + list(re.finditer(r"let ([\w'-]+) = ([\w-]+)\.(requires) in\b", ch)):
+            names = (self.requires if len(self.requires) > 1 else None) if m.group(3) == "requires" else by_new.get(m.group(2))
+            if not names:
+                continue
+
+            def turn(q):
+                nums = q.group(1)[1:].split(".")
+                at, used = self.index(nums, len(names))
+                if at is None or at >= len(names):
+                    return q.group(0)
+                rest = nums[used:]
+                return m.group(1) + "." + names[at] + "".join("." + r for r in rest)
+
+            head, tail = ch[:m.end()], ch[m.end():]
+            tail = re.sub(r"(?<![\w.-])" + re.escape(m.group(1)) + r"((?:\.[0-9]+)+)", turn, tail)
+            ch = head + tail
+        out.append(ch)
+    return "\n\n".join(out)
+
+
+Function.aliases = _aliases
+
+
 def split_tuple(text):
     """The parts of a text '(a, b, c)', or None."""
     t = text.strip()
@@ -431,6 +462,7 @@ def convert(crate, fn_path, text, entry, source):
 
     ans = re.sub(r"tie\.([A-Za-z0-9_«»-]+)((?: (?:invariant|decreases)-[A-Za-z0-9_-]+)*)", place, ans)
     ans = f.paths(ans)
+    ans = f.aliases(ans)
     if any("kept" in vs for _, vs in f.loops):
         ans = re.sub(r"\.auto(?![.\w-])", ".kept", ans)
     ans = re.sub(r"\.inv\b(?!-)", ".invariant", ans)

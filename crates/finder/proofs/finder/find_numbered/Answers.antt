@@ -23,7 +23,7 @@ numbered : (c : After-number_classes)
     → Renumbered c.args.sheet.now c.args.finder.now c.number_classes.new.finder
 numbered c =
     subst⁻¹ (Renumbered c.args.sheet.now c.args.finder.now) c.number_classes.ensures
-    (renumbered c.args.sheet.now _ c.args.finder.now c.requires.finds.sized (fewer (record { before = c.before.before.before.before; type_inv = record { basis = c.type_inv.basis; finder = c.slice_known-1.given; sheet = c.shared_slice_known-1.given; } })))
+    (renumbered c.args.sheet.now _ c.args.finder.now c.requires.finds.sized (record { accepted = c.requires.finds.accepted; echelon = checked-echelon _ c.check_into.ensures c.requires.finds.accepted; few = c.requires.sheet_bound }))
 
 pub by_entry-requires : goal.by_entry-requires
 by_entry-requires c =
