@@ -217,8 +217,11 @@ def split_tuple(text):
 def to_record(body, fields):
     """A body that ends in a tuple, as a record of the fields."""
     b = body.rstrip()
+    whole = body
+    if len(fields) == 2:
+        whole = f"\n    let both = ({b.strip()}) in record {{ {fields[0]} = both.0; {fields[1]} = both.1 }}\n"
     if not b.endswith(")"):
-        return body
+        return whole
     depth = 0
     start = None
     for k in range(len(b) - 1, -1, -1):
@@ -230,20 +233,20 @@ def to_record(body, fields):
                 start = k
                 break
     if start is None:
-        return body
+        return whole
     before = b[:start].rstrip()
     if before and not before.endswith(("in", "=", ".")):
-        return body
+        return whole
     parts = split_tuple(b[start:])
     if parts is None:
-        return body
+        return whole
     while len(parts) < len(fields):
         more = split_tuple(parts[-1])
         if more is None:
-            return body
+            return whole
         parts = parts[:-1] + more
     if len(parts) != len(fields):
-        return body
+        return whole
     inner = "\n".join(f"      {f} = {p.strip()};" for f, p in zip(fields, parts))
     return b[:start] + "record {\n" + inner + "\n    }\n"
 
@@ -428,6 +431,8 @@ def convert(crate, fn_path, text, entry, source):
 
     ans = re.sub(r"tie\.([A-Za-z0-9_«»-]+)((?: (?:invariant|decreases)-[A-Za-z0-9_-]+)*)", place, ans)
     ans = f.paths(ans)
+    if any("kept" in vs for _, vs in f.loops):
+        ans = re.sub(r"\.auto(?![.\w-])", ".kept", ans)
     ans = re.sub(r"\.inv\b(?!-)", ".invariant", ans)
     ans = re.sub(r"\.taken\b(?!-)", ".true", ans)
     ans = re.sub(r"\.pre\b(?!-)", ".requires", ans)

@@ -110,12 +110,10 @@ pub fn decode_checked(
     output: &mut [u8],
     limit: usize,
 ) -> Decoding
-    ghost plan: { Plan }
-    requires wiring_value { plan_of left.now right.now nl nr wiring.now ≡ plan }
-    requires left_code_value { left_code ≡ code_of plan SideName.Left }
-    requires right_code_value { right_code ≡ code_of plan SideName.Right }
-    requires limit_value { decode_check plan received.now lost.now output.old limit ≡ done [] }
-    ensures { Decodes plan received.now lost.now output.old limit result output.new }
+    requires left_code_value { let plan : Plan = plan_of left.now right.now nl nr wiring.now in left_code ≡ code_of plan SideName.Left }
+    requires right_code_value { let plan : Plan = plan_of left.now right.now nl nr wiring.now in right_code ≡ code_of plan SideName.Right }
+    requires limit_value { let plan : Plan = plan_of left.now right.now nl nr wiring.now in decode_check plan received.now lost.now output.old limit ≡ done [] }
+    ensures { let plan : Plan = plan_of left.now right.now nl nr wiring.now in Decodes plan received.now lost.now output.old limit result output.new }
 {
     if lost.len() == 0 {
         if is_codeword_at_sight(left_code, right_code, wiring, received) {
@@ -179,11 +177,9 @@ fn decode_trials(
     output: &mut [u8],
     limit: usize,
 ) -> Decoding
-    ghost plan: { Plan }
-    requires wiring_value { plan_of left.now right.now nl nr wiring.now ≡ plan }
-    requires ready { Ready plan left_finder.old right_finder.old }
-    requires limit_value { decode_check plan received.now lost.now output.old limit ≡ done [] }
-    ensures { Decodes plan received.now lost.now output.old limit result output.new }
+    requires ready { let plan : Plan = plan_of left.now right.now nl nr wiring.now in Ready plan left_finder.old right_finder.old }
+    requires limit_value { let plan : Plan = plan_of left.now right.now nl nr wiring.now in decode_check plan received.now lost.now output.old limit ≡ done [] }
+    ensures { let plan : Plan = plan_of left.now right.now nl nr wiring.now in Decodes plan received.now lost.now output.old limit result output.new }
 {
     let size = received.len();
     lay_out(received, lost, 0, output);
@@ -255,12 +251,10 @@ fn decode_on(
     kept: &mut [u16; KEPT],
     output: &mut [u8],
 ) -> Decoding
-    ghost plan: { Plan }
-    requires wiring_value { plan_of left.now right.now nl nr wiring.now ≡ plan }
-    requires ready { Ready plan left_finder.old right_finder.old }
-    requires limit_value { decode_check plan received.now lost.now output.old opening.limit ≡ done [] }
-    requires opened { Opened plan (filled 0 lost.now received.now) opening.limit opening kept.old (take (length received.now) output.old) }
-    ensures { Decodes plan received.now lost.now output.old opening.limit result output.new }
+    requires ready { let plan : Plan = plan_of left.now right.now nl nr wiring.now in Ready plan left_finder.old right_finder.old }
+    requires limit_value { let plan : Plan = plan_of left.now right.now nl nr wiring.now in decode_check plan received.now lost.now output.old opening.limit ≡ done [] }
+    requires opened { let plan : Plan = plan_of left.now right.now nl nr wiring.now in Opened plan (filled 0 lost.now received.now) opening.limit opening kept.old (take (length received.now) output.old) }
+    ensures { let plan : Plan = plan_of left.now right.now nl nr wiring.now in Decodes plan received.now lost.now output.old opening.limit result output.new }
 {
     if wiring.len() <= 2 * FEW_EDGES {
         let mut places = [0u16; FEW_EDGES];
@@ -316,13 +310,11 @@ fn decode_placed(
     kept: &mut [u16; KEPT],
     output: &mut [u8],
 ) -> Decoding
-    ghost plan: { Plan }
-    requires wiring_value { plan_of left.now right.now nl nr wiring.now ≡ plan }
-    requires ready { Ready plan left_finder.old right_finder.old }
-    requires limit_value { decode_check plan received.now lost.now output.old opening.limit ≡ done [] }
-    requires plan_in_bounds { edge_count plan ≤ length places.old }
-    requires opened { Opened plan (filled 0 lost.now received.now) opening.limit opening kept.old (take (length received.now) output.old) }
-    ensures { Decodes plan received.now lost.now output.old opening.limit result output.new }
+    requires ready { let plan : Plan = plan_of left.now right.now nl nr wiring.now in Ready plan left_finder.old right_finder.old }
+    requires limit_value { let plan : Plan = plan_of left.now right.now nl nr wiring.now in decode_check plan received.now lost.now output.old opening.limit ≡ done [] }
+    requires plan_in_bounds { let plan : Plan = plan_of left.now right.now nl nr wiring.now in edge_count plan ≤ length places.old }
+    requires opened { let plan : Plan = plan_of left.now right.now nl nr wiring.now in Opened plan (filled 0 lost.now received.now) opening.limit opening kept.old (take (length received.now) output.old) }
+    ensures { let plan : Plan = plan_of left.now right.now nl nr wiring.now in Decodes plan received.now lost.now output.old opening.limit result output.new }
 {
     let size = received.len();
     let limit = opening.limit;
@@ -418,17 +410,15 @@ fn finish_trial(
     kept: &mut [u16; KEPT],
     room: &mut [u8],
 ) -> Attempt
-    ghost plan: { Plan }
-    requires wiring_value { plan_of left.now right.now nl nr wiring.now ≡ plan }
-    requires ready { Ready plan left_finder.old right_finder.old }
+    requires ready { let plan : Plan = plan_of left.now right.now nl nr wiring.now in Ready plan left_finder.old right_finder.old }
     requires received_in_bounds { length received.now ≤ length room.old }
-    requires opened_some { OpenedSome plan opening kept.old (take (length received.now) room.old) }
-    requires plan_in_bounds { edge_count plan ≤ length places.old }
+    requires opened_some { let plan : Plan = plan_of left.now right.now nl nr wiring.now in OpenedSome plan opening kept.old (take (length received.now) room.old) }
+    requires plan_in_bounds { let plan : Plan = plan_of left.now right.now nl nr wiring.now in edge_count plan ≤ length places.old }
     requires places_noted { noted ≡ true → PlacesNoted wiring.now places.old }
-    ensures still_ready { Ready plan left_finder.new right_finder.new }
+    ensures still_ready { let plan : Plan = plan_of left.now right.now nl nr wiring.now in Ready plan left_finder.new right_finder.new }
     ensures places_noted_after { result.noted ≡ true → PlacesNoted wiring.now places.new }
     ensures room_after { room.new ≡ written (take (length received.now) room.new) room.old }
-    ensures settles { (block : List ℕ) → Opened plan block opening.limit opening kept.old (take (length received.now) room.old)
+    ensures settles { let plan : Plan = plan_of left.now right.now nl nr wiring.now in (block : List ℕ) → Opened plan block opening.limit opening kept.old (take (length received.now) room.old)
         → Tried plan block opening.limit result.settling.count result.settling.sums result.settling.visits (take (length received.now) room.new) }
     ensures changed_value { (length lost.now ≡ 0 → ⊥) → result.changed ≡ flips_around (length wiring.now / 2) lost.now received.now (take (length received.now) room.new) }
 {

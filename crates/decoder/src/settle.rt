@@ -51,14 +51,12 @@ pub(crate) fn open(
     kept: &mut [u16; KEPT],
     block: &mut [u8],
 ) -> Opening
-    ghost plan: { Plan }
-    requires wiring_value { plan_of left.now right.now nl nr wiring.now ≡ plan }
     requires limit_bound { limit ≤ 4096 }
     requires kept_len { length kept.old ≡ 2304 }
-    requires ready { Ready plan left_finder.old right_finder.old }
-    requires block_value { block_check (edge_count plan) block.old ≡ done [] }
-    ensures still_ready { Ready plan left_finder.new right_finder.new }
-    ensures opened { Opened plan block.old limit result kept.new block.new }
+    requires ready { let plan : Plan = plan_of left.now right.now nl nr wiring.now in Ready plan left_finder.old right_finder.old }
+    requires block_value { let plan : Plan = plan_of left.now right.now nl nr wiring.now in block_check (edge_count plan) block.old ≡ done [] }
+    ensures still_ready { let plan : Plan = plan_of left.now right.now nl nr wiring.now in Ready plan left_finder.new right_finder.new }
+    ensures opened { let plan : Plan = plan_of left.now right.now nl nr wiring.now in Opened plan block.old limit result kept.new block.new }
 {
     let firsts = sweep_firsts(
         left,
@@ -163,13 +161,11 @@ fn sweep_firsts(
     kept: &mut [u16; KEPT],
     block: &mut [u8],
 ) -> Tallies
-    ghost plan: { Plan }
-    requires wiring_value { plan_of left.now right.now nl nr wiring.now ≡ plan }
-    requires ready { Ready plan left_finder.old right_finder.old }
-    requires block_value { block_check (edge_count plan) block.old ≡ done [] }
+    requires ready { let plan : Plan = plan_of left.now right.now nl nr wiring.now in Ready plan left_finder.old right_finder.old }
+    requires block_value { let plan : Plan = plan_of left.now right.now nl nr wiring.now in block_check (edge_count plan) block.old ≡ done [] }
     requires kept_len { length kept.old ≡ 2304 }
-    ensures both_swept { BothSwept plan block.old result.left result.right block.new kept.new }
-    ensures still_ready { Ready plan left_finder.new right_finder.new }
+    ensures both_swept { let plan : Plan = plan_of left.now right.now nl nr wiring.now in BothSwept plan block.old result.left result.right block.new kept.new }
+    ensures still_ready { let plan : Plan = plan_of left.now right.now nl nr wiring.now in Ready plan left_finder.new right_finder.new }
 {
     let first = sweep_first(left, nl, wiring, left_finder, block);
     clear_marks(kept);
@@ -207,13 +203,11 @@ pub(crate) fn finish(
     kept: &mut [u16; KEPT],
     block: &mut [u8],
 ) -> Settling
-    ghost plan: { Plan }
-    requires wiring_value { plan_of left.now right.now nl nr wiring.now ≡ plan }
-    requires ready { Ready plan left_finder.old right_finder.old }
-    requires opened_some { OpenedSome plan opening kept.old block.old }
+    requires ready { let plan : Plan = plan_of left.now right.now nl nr wiring.now in Ready plan left_finder.old right_finder.old }
+    requires opened_some { let plan : Plan = plan_of left.now right.now nl nr wiring.now in OpenedSome plan opening kept.old block.old }
     requires places_noted { opening.ended ≡ false → PlacesNoted wiring.now places.now }
-    ensures still_ready { Ready plan left_finder.new right_finder.new }
-    ensures settles { (received : List ℕ) → Opened plan received opening.limit opening kept.old block.old
+    ensures still_ready { let plan : Plan = plan_of left.now right.now nl nr wiring.now in Ready plan left_finder.new right_finder.new }
+    ensures settles { let plan : Plan = plan_of left.now right.now nl nr wiring.now in (received : List ℕ) → Opened plan received opening.limit opening kept.old block.old
         → Tried plan received opening.limit result.count result.sums result.visits block.new }
 {
     let limit = opening.limit;

@@ -13,9 +13,9 @@ ghost use Rattle.radius.specs.Answer.{measures_of, margin_of, in_order, numbers_
 ghost use Rattle.margin.specs.Output.{plan_part};
 
 use inner_code::{MAX_DEGREE, MAX_ROWS};
-use libc::{STDIN_FILENO, STDOUT_FILENO};
 use margin_input::split_input;
 use radius::{Numbers, PlanNumbers};
+use std::io;
 use wiring::MAX_VERTICES;
 
 // The largest accepted input, of 65,588 bytes: for each side d and k, 11 rows of two bytes and n, and 2,048 · 16 entries of two bytes.
@@ -25,21 +25,21 @@ const LARGEST_INPUT: usize = 2 * (2 + 2 * MAX_ROWS + 2) + 2 * MAX_VERTICES * MAX
 // input (`read_answer`), and where it is accepted they are all of it (`read-accepted`).
 const SPACE: usize = LARGEST_INPUT + 1;
 
-fn main() {
+fn main(rt: HostRuntime) -> io::Result<()> {
     let mut space = [0u8; SPACE];
-    read_margins(&mut space);
+    read_margins(&rt, &mut rt.stdin(), &mut space)
 }
 
 // Reads an input, or its first bytes, into the space, and writes its margin sheet.
-fn read_margins(space: &mut [u8])
+fn read_margins(rt: &impl Print, from: &mut impl io::Read, space: &mut [u8]) -> io::Result<()>
     requires { length space.old ≡ 65589 }
 {
-    let got = io::read_full(STDIN_FILENO, space);
-    write_margins(&space[..got]);
+    let got = reading::read_full(from, space)?;
+    write_margins(rt, &space[..got])
 }
 
 // What the program writes for an input.
-fn write_margins(input: &[u8]) {
+fn write_margins(rt: &impl Print, input: &[u8]) -> io::Result<()> {
     let parts = split_input(input);
     let left = parts.left;
     let right = parts.right;
@@ -51,70 +51,54 @@ fn write_margins(input: &[u8]) {
         parts.nr,
         &input[wiring..],
     ) {
-        Numbers::Refused(r) => write_refusal(input, r.number, r.place),
-        Numbers::Plan(plan) => write_plan(input, plan),
+        Numbers::Refused(r) => write_refusal(rt, input, r.number, r.place),
+        Numbers::Plan(plan) => write_plan(rt, input, plan),
     }
 }
 
-fn write_refusal(input: &[u8], number: u32, place: u32)
+fn write_refusal(rt: &impl Print, input: &[u8], number: u32, place: u32) -> io::Result<()>
     requires { refused number place ≡ numbers_answer (plan_part input.now) }
 {
-    named(b"refused ", number as u64);
-    named(b" ", place as u64);
-    word(b"\n");
+    println!(rt; "refused {number} {place}")
 }
 
 // The plan's numbers; a line with F and its sweeps for each covered F; the first F that is not covered.
-fn write_plan(input: &[u8], plan: PlanNumbers)
+fn write_plan(rt: &impl Print, input: &[u8], plan: PlanNumbers) -> io::Result<()>
     requires { done (in_order plan) ≡ numbers_answer (plan_part input.now) }
 {
-    write_numbers(input, plan);
+    write_numbers(rt, input, plan)?;
     let beyond = radius::first_uncovered(plan);
     let mut flips: u64 = 0;
     while flips < beyond {
         let sweeps = radius::sweeps_named(plan, flips);
-        write_line(input, flips, sweeps);
+        write_line(rt, input, flips, sweeps)?;
         flips += 1;
     }
-    write_beyond(input, flips);
+    write_beyond(rt, input, flips)
 }
 
 // The nine numbers, of those that each side has the left one first.
-fn write_numbers(input: &[u8], plan: PlanNumbers)
+fn write_numbers(rt: &impl Print, input: &[u8], plan: PlanNumbers) -> io::Result<()>
     requires { done (in_order plan) ≡ numbers_answer (plan_part input.now) }
 {
-    named(b"n ", plan.nl);
-    named(b" ", plan.nr);
-    named(b" d ", plan.dl);
-    named(b" ", plan.dr);
-    named(b" k ", plan.kl);
-    named(b" ", plan.kr);
-    named(b" distance ", plan.left_distance);
-    named(b" ", plan.right_distance);
-    named(b" spread ", plan.spread);
-    word(b"\n");
+    print!(rt;
+        "n {} {} d {} {} k {} {}",
+        plan.nl, plan.nr, plan.dl, plan.dr, plan.kl, plan.kr
+    )?;
+    println!(rt;
+        " distance {} {} spread {}",
+        plan.left_distance, plan.right_distance, plan.spread
+    )
 }
 
-fn write_line(input: &[u8], flips: u64, sweeps: u64)
+fn write_line(rt: &impl Print, input: &[u8], flips: u64, sweeps: u64) -> io::Result<()>
     requires { (sweeps ≡ margin_of (plan_part input.now) flips) × (0 < sweeps) }
 {
-    io::print_decimal(STDOUT_FILENO, flips);
-    named(b" ", sweeps);
-    word(b"\n");
+    println!(rt; "{flips} {sweeps}")
 }
 
-fn write_beyond(input: &[u8], flips: u64)
+fn write_beyond(rt: &impl Print, input: &[u8], flips: u64) -> io::Result<()>
     requires { flips ≡ beyond (measures_of (plan_part input.now)) }
 {
-    named(b"beyond ", flips);
-    word(b"\n");
-}
-
-fn named(name: &[u8], value: u64) {
-    word(name);
-    io::print_decimal(STDOUT_FILENO, value);
-}
-
-fn word(text: &[u8]) {
-    io::write_all(STDOUT_FILENO, text);
+    println!(rt; "beyond {flips}")
 }

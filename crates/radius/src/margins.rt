@@ -64,11 +64,9 @@ fn measured_sweeps(
     wiring: &[u8],
     flips: u64,
 ) -> u64
-    ghost plan: { Plan }
-    requires wiring_value { plan_of left.now right.now nl nr wiring.now ≡ plan }
-    requires plan_value { plan_check plan ≡ done [] }
-    requires flips_bound { flips ≤ edge_count plan }
-    ensures { result ≡ margin_of plan flips }
+    requires plan_value { let plan : Plan = plan_of left.now right.now nl nr wiring.now in plan_check plan ≡ done [] }
+    requires flips_bound { let plan : Plan = plan_of left.now right.now nl nr wiring.now in flips ≤ edge_count plan }
+    ensures { let plan : Plan = plan_of left.now right.now nl nr wiring.now in result ≡ margin_of plan flips }
 {
     let distance = measured_distance(left, left[1] as usize);
     if first_bound(distance, flips) == 0 {

@@ -54,10 +54,8 @@ pub(crate) fn measured_numbers(
     nr: usize,
     wiring: &[u8],
 ) -> PlanNumbers
-    ghost plan: { Plan }
-    requires wiring_value { plan_of left.now right.now nl nr wiring.now ≡ plan }
-    requires plan_value { plan_check plan ≡ done [] }
-    ensures { result ≡ numbers_of plan }
+    requires { let plan : Plan = plan_of left.now right.now nl nr wiring.now in plan_check plan ≡ done [] }
+    ensures { let plan : Plan = plan_of left.now right.now nl nr wiring.now in result ≡ numbers_of plan }
 {
     let dl = left[0] as u64;
     let dr = right[0] as u64;

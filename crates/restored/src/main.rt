@@ -9,9 +9,10 @@ mod flip;
 mod outcome;
 mod plan;
 
+ghost use Rattle.std.specs.Prelude.{◌≡◌, true};
 ghost use Rattle.restored.specs.Sent.{Received};
 
-use libc::STDIN_FILENO;
+use std::io;
 
 // How many bits are flipped at most: as many as the margin covers.
 const FLIPS: u64 = 3;
@@ -22,10 +23,11 @@ const NAMED: usize = 2;
 // The sweeps that the decoder is allowed: the most that a call may allow.
 const LIMIT: usize = 4096;
 
-fn main() {
+fn main(rt: HostRuntime) -> io::Result<()> {
     let mut positions = [0u8; 4096];
-    let got = io::read_full(STDIN_FILENO, &mut positions);
+    let got = reading::read_full(&mut rt.stdin(), &mut positions)?;
     send(&positions[..got]);
+    Ok(())
 }
 
 // Sends the codeword and flips bits of it at the positions. What the guarantee says of the received block is expected.
@@ -45,13 +47,13 @@ fn restore(received: &[u8])
     let sent = plan::sent_block();
     let mut output = [0u8; 8];
     let count = outcome::sweeps(plan::decode(received, &mut output, LIMIT));
-    check::expect(count <= NAMED);
-    check::expect(check::same(&output, &sent));
+    expect(count <= NAMED);
+    expect(output == sent);
     let again = plan::decode(received, &mut output, count);
-    check::expect(outcome::sweeps(again) == count);
+    expect(outcome::sweeps(again) == count);
     if 0 < count {
         let sooner = plan::decode(received, &mut output, count - 1);
-        check::expect(outcome::is_unsettled(sooner));
+        expect(outcome::is_unsettled(sooner));
     }
 }
 
@@ -60,5 +62,12 @@ fn tell_apart(received: &[u8])
     requires { Received received.now }
 {
     let other = [0u8; 8];
-    check::expect(FLIPS < flip::differing(&other, received));
+    expect(FLIPS < flip::differing(&other, received));
+}
+
+// What is expected is proved.
+fn expect(ok: bool)
+    requires { ok ≡ true }
+{
+    prove!(ok);
 }

@@ -57,13 +57,11 @@ fn sweep_left(
     right_code: SideCode,
     block: &mut [u8],
 ) -> usize
-    ghost plan: { Plan }
-    requires wiring_value { plan_of left.now right.now nl nr wiring.now ≡ plan }
-    requires block_value { once_check plan block.old ≡ done [] }
-    requires left_code_value { left_code ≡ code_of plan SideName.Left }
-    requires right_code_value { right_code ≡ code_of plan SideName.Right }
-    ensures value { result ≡ count_change (side_of plan) block.old block.new }
-    ensures block_after { block.new ≡ sweep (side_of plan SideName.Left) block.old }
+    requires block_value { let plan : Plan = plan_of left.now right.now nl nr wiring.now in once_check plan block.old ≡ done [] }
+    requires left_code_value { let plan : Plan = plan_of left.now right.now nl nr wiring.now in left_code ≡ code_of plan SideName.Left }
+    requires right_code_value { let plan : Plan = plan_of left.now right.now nl nr wiring.now in right_code ≡ code_of plan SideName.Right }
+    ensures value { let plan : Plan = plan_of left.now right.now nl nr wiring.now in result ≡ count_change (side_of plan) block.old block.new }
+    ensures block_after { let plan : Plan = plan_of left.now right.now nl nr wiring.now in block.new ≡ sweep (side_of plan SideName.Left) block.old }
 {
     let basis = left_code.basis;
     let mut finder = [0u16; FINDER_WORDS];
@@ -96,13 +94,11 @@ fn sweep_right(
     right_code: SideCode,
     block: &mut [u8],
 ) -> usize
-    ghost plan: { Plan }
-    requires wiring_value { plan_of left.now right.now nl nr wiring.now ≡ plan }
-    requires block_value { once_check plan block.old ≡ done [] }
-    requires left_code_value { left_code ≡ code_of plan SideName.Left }
-    requires right_code_value { right_code ≡ code_of plan SideName.Right }
-    ensures value { result ≡ count_change (side_of plan) block.old block.new }
-    ensures block_after { block.new ≡ sweep (side_of plan SideName.Right) block.old }
+    requires block_value { let plan : Plan = plan_of left.now right.now nl nr wiring.now in once_check plan block.old ≡ done [] }
+    requires left_code_value { let plan : Plan = plan_of left.now right.now nl nr wiring.now in left_code ≡ code_of plan SideName.Left }
+    requires right_code_value { let plan : Plan = plan_of left.now right.now nl nr wiring.now in right_code ≡ code_of plan SideName.Right }
+    ensures value { let plan : Plan = plan_of left.now right.now nl nr wiring.now in result ≡ count_change (side_of plan) block.old block.new }
+    ensures block_after { let plan : Plan = plan_of left.now right.now nl nr wiring.now in block.new ≡ sweep (side_of plan SideName.Right) block.old }
 {
     let basis = right_code.basis;
     let mut finder = [0u16; FINDER_WORDS];

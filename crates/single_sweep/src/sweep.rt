@@ -28,15 +28,13 @@ pub(crate) fn sweep_told(
     places: &[u16],
     block: &mut [u8],
 ) -> usize
-    ghost plan: { Plan }
-    requires wiring_value { plan_of left.now right.now nl nr wiring.now ≡ plan }
-    requires block_value { once_check plan block.old ≡ done [] }
-    requires left_code_value { left_code ≡ code_of plan SideName.Left }
-    requires right_code_value { right_code ≡ code_of plan SideName.Right }
-    requires finds { Finds (sheet_of plan side) finder.old }
+    requires block_value { let plan : Plan = plan_of left.now right.now nl nr wiring.now in once_check plan block.old ≡ done [] }
+    requires left_code_value { let plan : Plan = plan_of left.now right.now nl nr wiring.now in left_code ≡ code_of plan SideName.Left }
+    requires right_code_value { let plan : Plan = plan_of left.now right.now nl nr wiring.now in right_code ≡ code_of plan SideName.Right }
+    requires finds { let plan : Plan = plan_of left.now right.now nl nr wiring.now in Finds (sheet_of plan side) finder.old }
     requires across { Across wiring.now side places.now }
-    ensures value { result ≡ count_change (side_of plan) block.old block.new }
-    ensures block_after { block.new ≡ sweep (side_of plan side) block.old }
+    ensures value { let plan : Plan = plan_of left.now right.now nl nr wiring.now in result ≡ count_change (side_of plan) block.old block.new }
+    ensures block_after { let plan : Plan = plan_of left.now right.now nl nr wiring.now in block.new ≡ sweep (side_of plan side) block.old }
 {
     let code = wiring::code_of(side, left_code, right_code);
     let n = code.n;

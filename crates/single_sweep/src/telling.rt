@@ -31,18 +31,16 @@ pub(crate) fn put_told(
     places: &[u16],
     block: &mut [u8],
 ) -> usize
-    ghost plan: { Plan }
-    requires wiring_value { plan_of left.now right.now nl nr wiring.now ≡ plan }
-    requires plan_value { plan_check plan ≡ done [] }
-    requires left_code_value { left_code ≡ code_of plan SideName.Left }
-    requires right_code_value { right_code ≡ code_of plan SideName.Right }
-    requires v_bound { v < count_of plan side }
-    requires pattern_bound { pattern < 2 ^ degree (sheet_of plan side) }
+    requires plan_value { let plan : Plan = plan_of left.now right.now nl nr wiring.now in plan_check plan ≡ done [] }
+    requires left_code_value { let plan : Plan = plan_of left.now right.now nl nr wiring.now in left_code ≡ code_of plan SideName.Left }
+    requires right_code_value { let plan : Plan = plan_of left.now right.now nl nr wiring.now in right_code ≡ code_of plan SideName.Right }
+    requires v_bound { let plan : Plan = plan_of left.now right.now nl nr wiring.now in v < count_of plan side }
+    requires pattern_bound { let plan : Plan = plan_of left.now right.now nl nr wiring.now in pattern < 2 ^ degree (sheet_of plan side) }
     requires across { Across wiring.now side places.now }
-    requires plan_in_bounds { edge_count plan ≤ length block.old * 8 }
-    ensures block_value { result + unsatisfied_at (side_of plan (other side)) block.old
+    requires plan_in_bounds { let plan : Plan = plan_of left.now right.now nl nr wiring.now in edge_count plan ≤ length block.old * 8 }
+    ensures block_value { let plan : Plan = plan_of left.now right.now nl nr wiring.now in result + unsatisfied_at (side_of plan (other side)) block.old
         ≡ 65536 + unsatisfied_at (side_of plan (other side)) block.new }
-    ensures block_after { block.new ≡ pattern_put (side_bit side wiring.now) (degree (sheet_of plan side))
+    ensures block_after { let plan : Plan = plan_of left.now right.now nl nr wiring.now in block.new ≡ pattern_put (side_bit side wiring.now) (degree (sheet_of plan side))
         (v * degree (sheet_of plan side)) pattern
         (degree (sheet_of plan side)) block.old }
 {
@@ -86,14 +84,12 @@ fn turn_told(
     place: usize,
     block: &mut [u8],
 ) -> usize
-    ghost plan: { Plan }
-    requires wiring_value { plan_of left.now right.now nl nr wiring.now ≡ plan }
-    requires plan_value { plan_check plan ≡ done [] }
-    requires left_code_value { left_code ≡ code_of plan SideName.Left }
-    requires right_code_value { right_code ≡ code_of plan SideName.Right }
-    requires place_bound { place < edge_count plan }
-    requires plan_in_bounds { edge_count plan ≤ length block.old * 8 }
-    ensures block_value { result + unsatisfied_at (side_of plan side) block.old
+    requires plan_value { let plan : Plan = plan_of left.now right.now nl nr wiring.now in plan_check plan ≡ done [] }
+    requires left_code_value { let plan : Plan = plan_of left.now right.now nl nr wiring.now in left_code ≡ code_of plan SideName.Left }
+    requires right_code_value { let plan : Plan = plan_of left.now right.now nl nr wiring.now in right_code ≡ code_of plan SideName.Right }
+    requires place_bound { let plan : Plan = plan_of left.now right.now nl nr wiring.now in place < edge_count plan }
+    requires plan_in_bounds { let plan : Plan = plan_of left.now right.now nl nr wiring.now in edge_count plan ≤ length block.old * 8 }
+    ensures block_value { let plan : Plan = plan_of left.now right.now nl nr wiring.now in result + unsatisfied_at (side_of plan side) block.old
         ≡ 1 + unsatisfied_at (side_of plan side) block.new }
     ensures block_after { block.new ≡ turned block.old (side_bit side wiring.now place) 1 }
 {

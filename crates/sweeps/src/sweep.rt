@@ -78,14 +78,12 @@ fn sweep_second(
     kept: &mut [u16; KEPT],
     block: &mut [u8],
 ) -> Tally
-    ghost plan: { Plan }
-    requires wiring_value { plan_of left.now right.now nl nr wiring.now ≡ plan }
-    requires plan_value { plan_check plan ≡ done [] }
+    requires plan_value { let plan : Plan = plan_of left.now right.now nl nr wiring.now in plan_check plan ≡ done [] }
     requires finds { Finds right.now finder.old }
-    requires listening { Listening plan SideName.Right block.old block.old kept.old }
-    ensures side_swept { SideSwept (side_of plan SideName.Right) block.old result block.new }
+    requires listening { let plan : Plan = plan_of left.now right.now nl nr wiring.now in Listening plan SideName.Right block.old block.old kept.old }
+    ensures side_swept { let plan : Plan = plan_of left.now right.now nl nr wiring.now in SideSwept (side_of plan SideName.Right) block.old result block.new }
     ensures still_finds { Finds right.now finder.new }
-    ensures listening_left { Listening plan SideName.Left block.old block.new kept.new }
+    ensures listening_left { let plan : Plan = plan_of left.now right.now nl nr wiring.now in Listening plan SideName.Left block.old block.new kept.new }
 {
     let none = [0u16; 0];
     let mut changed = 0;
@@ -131,13 +129,11 @@ pub fn sweep_right(
     kept: &mut [u16; KEPT],
     block: &mut [u8],
 ) -> Tally
-    ghost plan: { Plan }
-    requires wiring_value { plan_of left.now right.now nl nr wiring.now ≡ plan }
-    requires ready { Ready plan left_finder.old right_finder.old }
-    requires listening { Listening plan SideName.Right block.old block.old kept.old }
-    ensures side_swept { SideSwept (side_of plan SideName.Right) block.old result block.new }
-    ensures still_ready { Ready plan left_finder.new right_finder.new }
-    ensures listening_left { Listening plan SideName.Left block.old block.new kept.new }
+    requires ready { let plan : Plan = plan_of left.now right.now nl nr wiring.now in Ready plan left_finder.old right_finder.old }
+    requires listening { let plan : Plan = plan_of left.now right.now nl nr wiring.now in Listening plan SideName.Right block.old block.old kept.old }
+    ensures side_swept { let plan : Plan = plan_of left.now right.now nl nr wiring.now in SideSwept (side_of plan SideName.Right) block.old result block.new }
+    ensures still_ready { let plan : Plan = plan_of left.now right.now nl nr wiring.now in Ready plan left_finder.new right_finder.new }
+    ensures listening_left { let plan : Plan = plan_of left.now right.now nl nr wiring.now in Listening plan SideName.Left block.old block.new kept.new }
 {
     if right_finder.len() == 0 {
         return sweep_second(left, right, nl, nr, wiring, left_finder, kept, block);
@@ -159,13 +155,11 @@ pub fn sweep_turn(
     kept: &mut [u16; KEPT],
     block: &mut [u8],
 ) -> News
-    ghost plan: { Plan }
-    requires wiring_value { plan_of left.now right.now nl nr wiring.now ≡ plan }
-    requires ready { Ready plan left_finder.old right_finder.old }
+    requires ready { let plan : Plan = plan_of left.now right.now nl nr wiring.now in Ready plan left_finder.old right_finder.old }
     requires across { Across wiring.now side places.now }
-    requires hears { Hears plan side block.old kept.old }
-    ensures news_swept { NewsSwept plan side block.old kept.old result block.new kept.new }
-    ensures still_ready { Ready plan left_finder.new right_finder.new }
+    requires hears { let plan : Plan = plan_of left.now right.now nl nr wiring.now in Hears plan side block.old kept.old }
+    ensures news_swept { let plan : Plan = plan_of left.now right.now nl nr wiring.now in NewsSwept plan side block.old kept.old result block.new kept.new }
+    ensures still_ready { let plan : Plan = plan_of left.now right.now nl nr wiring.now in Ready plan left_finder.new right_finder.new }
 {
     match side {
         SideName::Left => {
@@ -226,14 +220,12 @@ fn sweep_news(
     kept: &mut [u16; KEPT],
     block: &mut [u8],
 ) -> News
-    ghost plan: { Plan }
-    requires wiring_value { plan_of left.now right.now nl nr wiring.now ≡ plan }
-    requires plan_value { plan_check plan ≡ done [] }
-    requires finds { Finds (sheet_of plan side) finder.old }
+    requires plan_value { let plan : Plan = plan_of left.now right.now nl nr wiring.now in plan_check plan ≡ done [] }
+    requires finds { let plan : Plan = plan_of left.now right.now nl nr wiring.now in Finds (sheet_of plan side) finder.old }
     requires across { Across wiring.now side places.now }
-    requires hears { Hears plan side block.old kept.old }
-    ensures news_swept { NewsSwept plan side block.old kept.old result block.new kept.new }
-    ensures still_finds { Finds (sheet_of plan side) finder.new }
+    requires hears { let plan : Plan = plan_of left.now right.now nl nr wiring.now in Hears plan side block.old kept.old }
+    ensures news_swept { let plan : Plan = plan_of left.now right.now nl nr wiring.now in NewsSwept plan side block.old kept.old result block.new kept.new }
+    ensures still_finds { let plan : Plan = plan_of left.now right.now nl nr wiring.now in Finds (sheet_of plan side) finder.new }
 {
     let numbers = numbers_of(wiring::count_of(side, nl, nr));
     let from = news_of(side);
@@ -280,15 +272,13 @@ fn visit(
     kept: &mut [u16; KEPT],
     block: &mut [u8],
 ) -> u32
-    ghost plan: { Plan }
-    requires wiring_value { plan_of left.now right.now nl nr wiring.now ≡ plan }
-    requires plan_value { plan_check plan ≡ done [] }
-    requires v_bound { vertex.v < count_of plan vertex.side }
-    requires finds { Finds (sheet_of plan vertex.side) finder.old }
+    requires plan_value { let plan : Plan = plan_of left.now right.now nl nr wiring.now in plan_check plan ≡ done [] }
+    requires v_bound { let plan : Plan = plan_of left.now right.now nl nr wiring.now in vertex.v < count_of plan vertex.side }
+    requires finds { let plan : Plan = plan_of left.now right.now nl nr wiring.now in Finds (sheet_of plan vertex.side) finder.old }
     requires across { Across wiring.now vertex.side places.now }
-    requires words_read { WordsRead (side_of plan SideName.Right) block.old kept.old }
-    ensures visited_at { VisitedAt plan vertex.side vertex.v result block.old kept.old block.new kept.new }
-    ensures still_finds { Finds (sheet_of plan vertex.side) finder.new }
+    requires words_read { let plan : Plan = plan_of left.now right.now nl nr wiring.now in WordsRead (side_of plan SideName.Right) block.old kept.old }
+    ensures visited_at { let plan : Plan = plan_of left.now right.now nl nr wiring.now in VisitedAt plan vertex.side vertex.v result block.old kept.old block.new kept.new }
+    ensures still_finds { let plan : Plan = plan_of left.now right.now nl nr wiring.now in Finds (sheet_of plan vertex.side) finder.new }
 {
     let word = word_of(left, right, nl, nr, wiring, vertex, kept, block);
     if finder::is_codeword(finder, word) {
@@ -322,12 +312,10 @@ fn word_of(
     kept: &[u16; KEPT],
     block: &[u8],
 ) -> u16
-    ghost plan: { Plan }
-    requires wiring_value { plan_of left.now right.now nl nr wiring.now ≡ plan }
-    requires plan_value { plan_check plan ≡ done [] }
-    requires v_bound { vertex.v < count_of plan vertex.side }
-    requires words_read { WordsRead (side_of plan SideName.Right) block.now kept.now }
-    ensures { result ≡ vertex_word (side_of plan vertex.side) block.now vertex.v }
+    requires plan_value { let plan : Plan = plan_of left.now right.now nl nr wiring.now in plan_check plan ≡ done [] }
+    requires v_bound { let plan : Plan = plan_of left.now right.now nl nr wiring.now in vertex.v < count_of plan vertex.side }
+    requires words_read { let plan : Plan = plan_of left.now right.now nl nr wiring.now in WordsRead (side_of plan SideName.Right) block.now kept.now }
+    ensures { let plan : Plan = plan_of left.now right.now nl nr wiring.now in result ≡ vertex_word (side_of plan vertex.side) block.now vertex.v }
 {
     let side = vertex.side;
     let v = vertex.v;
@@ -390,11 +378,9 @@ pub fn all_satisfied(
     kept: &[u16; KEPT],
     block: &[u8],
 ) -> bool
-    ghost plan: { Plan }
-    requires wiring_value { plan_of left.now right.now nl nr wiring.now ≡ plan }
-    requires ready { Ready plan left_finder.now right_finder.now }
-    requires words_read { WordsRead (side_of plan SideName.Right) block.now kept.now }
-    ensures { result ≡ is_codeword_block (side_of plan) block.now }
+    requires ready { let plan : Plan = plan_of left.now right.now nl nr wiring.now in Ready plan left_finder.now right_finder.now }
+    requires words_read { let plan : Plan = plan_of left.now right.now nl nr wiring.now in WordsRead (side_of plan SideName.Right) block.now kept.now }
+    ensures { let plan : Plan = plan_of left.now right.now nl nr wiring.now in result ≡ is_codeword_block (side_of plan) block.now }
 {
     if !all_codewords(left, nl, left_finder, block) {
         return false;

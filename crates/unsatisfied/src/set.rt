@@ -63,10 +63,8 @@ fn turn_counted(
     bit: usize,
     block: &mut [u8],
 ) -> usize
-    ghost plan: { Plan }
-    requires wiring_value { plan_of left.now right.now nl nr wiring.now ≡ plan }
-    requires checked_bit { CheckedBit plan left_code right_code bit block.old }
-    ensures value { result ≡ count_change (side_of plan) block.old (turned block.old bit 1) }
+    requires { let plan : Plan = plan_of left.now right.now nl nr wiring.now in CheckedBit plan left_code right_code bit block.old }
+    ensures value { let plan : Plan = plan_of left.now right.now nl nr wiring.now in result ≡ count_change (side_of plan) block.old (turned block.old bit 1) }
     ensures block_after { block.new ≡ turned block.old bit 1 }
 {
     let u = bit / left_code.d;

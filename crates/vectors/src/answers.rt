@@ -7,86 +7,106 @@ use messages::{Encoded, Taken};
 use panel::Shown;
 use radius::Margin;
 use report::Reported;
+use std::io;
 use tables::Built;
 use wiring::{Located, SideName};
 
 // Reads the fields of a record and writes what the service answers. The service says which fields there are, so it is looked at before any is read.
-pub fn answer(service: u8) {
+pub fn answer(rt: &impl Print, from: &mut impl io::Read, service: u8) -> io::Result<()> {
     match service {
-        1 | 10 | 11 => on_sheet(service),
-        _ => read_plan(service),
+        1 | 10 | 11 => on_sheet(rt, from, service)?,
+        _ => read_plan(rt, from, service)?,
     }
-    output::end_line();
+    println!(rt)
 }
 
 // The services that take a sheet alone.
-fn on_sheet(service: u8) {
+fn on_sheet(rt: &impl Print, from: &mut impl io::Read, service: u8) -> io::Result<()> {
     let mut space = [0u8; 70000];
-    let sheet = input::bytes(&mut space);
+    let sheet = input::bytes(from, &mut space)?;
     if service == 10 {
-        build(&space[..sheet]);
-        return;
+        return build(rt, from, &space[..sheet]);
     }
-    let word = input::number();
+    let word = input::number(from)?;
     if service == 1 {
-        nearest(&space[..sheet], word);
-        return;
+        return nearest(rt, &space[..sheet], word);
     }
-    look_up(&space[..sheet], word);
+    look_up(rt, from, &space[..sheet], word)
 }
 
 // The parts of a plan.
-fn read_plan(service: u8) {
+fn read_plan(rt: &impl Print, from: &mut impl io::Read, service: u8) -> io::Result<()> {
     let mut left_space = [0u8; 70000];
-    let left = input::bytes(&mut left_space);
+    let left = input::bytes(from, &mut left_space)?;
     let mut right_space = [0u8; 70000];
-    let right = input::bytes(&mut right_space);
-    let nl = input::number();
-    let nr = input::number();
+    let right = input::bytes(from, &mut right_space)?;
+    let nl = input::number(from)?;
+    let nr = input::number(from)?;
     let mut wiring_space = [0u8; 70000];
-    let wiring = input::bytes(&mut wiring_space);
+    let wiring = input::bytes(from, &mut wiring_space)?;
     on_plan(
+        rt,
+        from,
         service,
         &left_space[..left],
         &right_space[..right],
         nl as usize,
         nr as usize,
         &wiring_space[..wiring],
-    );
+    )
 }
 
 // The services that take a plan.
-fn on_plan(service: u8, left: &[u8], right: &[u8], nl: usize, nr: usize, wiring: &[u8]) {
+fn on_plan(
+    rt: &impl Print,
+    from: &mut impl io::Read,
+    service: u8,
+    left: &[u8],
+    right: &[u8],
+    nl: usize,
+    nr: usize,
+    wiring: &[u8],
+) -> io::Result<()> {
     if service == 2 {
-        let v = input::number();
-        output::text(b"piece ");
-        output::bytes(wiring::piece_of(left, right, nl, nr, wiring, v as usize));
-        return;
+        let v = input::number(from)?;
+        print!(rt; "piece ")?;
+        return output::bytes(
+            rt,
+            wiring::piece_of(left, right, nl, nr, wiring, v as usize),
+        );
     }
     if service == 6 {
-        spread(left, right, nl, nr, wiring);
-        return;
+        return spread(rt, left, right, nl, nr, wiring);
     }
     if service == 7 {
-        let flips = input::number();
-        margin(left, right, nl, nr, wiring, flips);
-        return;
+        let flips = input::number(from)?;
+        return margin(rt, left, right, nl, nr, wiring, flips);
     }
     if service == 13 {
-        sweep(left, right, nl, nr, wiring);
-        return;
+        return sweep(rt, from, left, right, nl, nr, wiring);
     }
     if service == 14 {
-        set_bit(left, right, nl, nr, wiring);
-        return;
+        return set_bit(rt, from, left, right, nl, nr, wiring);
     }
     let mut block_space = [0u8; 70000];
-    let block = input::bytes(&mut block_space);
-    on_block(service, left, right, nl, nr, wiring, &block_space[..block]);
+    let block = input::bytes(from, &mut block_space)?;
+    on_block(
+        rt,
+        from,
+        service,
+        left,
+        right,
+        nl,
+        nr,
+        wiring,
+        &block_space[..block],
+    )
 }
 
 // The services that take a block or a message beside the plan.
 fn on_block(
+    rt: &impl Print,
+    from: &mut impl io::Read,
     service: u8,
     left: &[u8],
     right: &[u8],
@@ -94,95 +114,102 @@ fn on_block(
     nr: usize,
     wiring: &[u8],
     block: &[u8],
-) {
+) -> io::Result<()> {
     if service == 3 {
-        locate(left, right, nl, nr, wiring, block);
-        return;
+        return locate(rt, left, right, nl, nr, wiring, block);
     }
     let mut space = [0u8; 70000];
-    let second = input::bytes(&mut space);
+    let second = input::bytes(from, &mut space)?;
     if service == 5 {
-        report(left, right, nl, nr, wiring, block, &space[..second]);
-        return;
+        return report(
+            rt,
+            from,
+            left,
+            right,
+            nl,
+            nr,
+            wiring,
+            block,
+            &space[..second],
+        );
     }
     if service == 4 {
-        decode_around(left, right, nl, nr, wiring, block, &space[..second]);
-        return;
+        return decode_around(
+            rt,
+            from,
+            left,
+            right,
+            nl,
+            nr,
+            wiring,
+            block,
+            &space[..second],
+        );
     }
     if service == 12 {
-        load(left, right, nl, nr, wiring, block, &mut space[..second]);
-        return;
+        return load(rt, left, right, nl, nr, wiring, block, &mut space[..second]);
     }
     if service == 8 {
-        encode(left, right, nl, nr, wiring, block, &mut space[..second]);
-        return;
+        return encode(rt, left, right, nl, nr, wiring, block, &mut space[..second]);
     }
-    read(left, right, nl, nr, wiring, block, &mut space[..second]);
+    read(rt, left, right, nl, nr, wiring, block, &mut space[..second])
 }
 
-fn nearest(sheet: &[u8], word: u64) {
-    word_line(inner_code::nearest_word(sheet, word));
+fn nearest(rt: &impl Print, sheet: &[u8], word: u64) -> io::Result<()> {
+    word_line(rt, inner_code::nearest_word(sheet, word))
 }
 
-fn build(sheet: &[u8]) {
+fn build(rt: &impl Print, from: &mut impl io::Read, sheet: &[u8]) -> io::Result<()> {
     let mut space = [0u8; 70000];
-    let table = input::bytes(&mut space);
-    build_into(sheet, &mut space[..table]);
+    let table = input::bytes(from, &mut space)?;
+    build_into(rt, sheet, &mut space[..table])
 }
 
-fn build_into(sheet: &[u8], table: &mut [u8]) {
+fn build_into(rt: &impl Print, sheet: &[u8], table: &mut [u8]) -> io::Result<()> {
     match tables::build_table(sheet, table) {
-        Built::Done => {
-            output::text(b"ok");
-        }
-        Built::Refused(r) => {
-            output::refused(r.number, r.place);
-        }
+        Built::Done => print!(rt; "ok")?,
+        Built::Refused(r) => output::refused(rt, r.number, r.place)?,
     }
-    output::text(b" ");
-    output::bytes(table);
+    print!(rt; " ")?;
+    output::bytes(rt, table)
 }
 
-fn look_up(sheet: &[u8], word: u64) {
+fn look_up(rt: &impl Print, from: &mut impl io::Read, sheet: &[u8], word: u64) -> io::Result<()> {
     let mut space = [0u8; 70000];
-    let table = input::bytes(&mut space);
-    word_line(tables::look_up(sheet, word, &space[..table]));
+    let table = input::bytes(from, &mut space)?;
+    word_line(rt, tables::look_up(sheet, word, &space[..table]))
 }
 
 // A word and the number of bits changed, or the refusal.
-fn word_line(answer: Nearest) {
+fn word_line(rt: &impl Print, answer: Nearest) -> io::Result<()> {
     match answer {
-        Nearest::Word { word, changed } => {
-            output::text(b"ok ");
-            output::number(word);
-            output::text(b" ");
-            output::number(changed);
-        }
-        Nearest::Refused(r) => {
-            output::refused(r.number, r.place);
-        }
+        Nearest::Word { word, changed } => print!(rt; "ok {word} {changed}"),
+        Nearest::Refused(r) => output::refused(rt, r.number, r.place),
     }
 }
 
-fn locate(left: &[u8], right: &[u8], nl: usize, nr: usize, wiring: &[u8], block: &[u8]) {
+fn locate(
+    rt: &impl Print,
+    left: &[u8],
+    right: &[u8],
+    nl: usize,
+    nr: usize,
+    wiring: &[u8],
+    block: &[u8],
+) -> io::Result<()> {
     match wiring::locate(left, right, nl, nr, wiring, block) {
-        Located::Nowhere => {
-            output::text(b"ok none");
-        }
-        Located::At { side, vertex } => {
-            match side {
-                SideName::Left => output::text(b"ok left "),
-                SideName::Right => output::text(b"ok right "),
-            }
-            output::number(vertex as u64);
-        }
-        Located::Refused(r) => {
-            output::refused(r.number, r.place);
-        }
+        Located::Nowhere => print!(rt; "ok none"),
+        Located::At { side, vertex } => match side {
+            SideName::Left => print!(rt; "ok left {vertex}"),
+            SideName::Right => print!(rt; "ok right {vertex}"),
+        },
+        Located::Refused(r) => output::refused(rt, r.number, r.place),
     }
 }
 
 fn report(
+    rt: &impl Print,
+    from: &mut impl io::Read,
     left: &[u8],
     right: &[u8],
     nl: usize,
@@ -190,10 +217,11 @@ fn report(
     wiring: &[u8],
     received: &[u8],
     settled: &[u8],
-) {
+) -> io::Result<()> {
     let mut space = [0u8; 70000];
-    let list = input::bytes(&mut space);
+    let list = input::bytes(from, &mut space)?;
     report_into(
+        rt,
         left,
         right,
         nl,
@@ -202,10 +230,11 @@ fn report(
         received,
         settled,
         &mut space[..list],
-    );
+    )
 }
 
 fn report_into(
+    rt: &impl Print,
     left: &[u8],
     right: &[u8],
     nl: usize,
@@ -214,46 +243,48 @@ fn report_into(
     received: &[u8],
     settled: &[u8],
     list: &mut [u8],
-) {
+) -> io::Result<()> {
     match report::report_runs(left, right, nl, nr, wiring, received, settled, list) {
-        Reported::Pairs(pairs) => {
-            output::text(b"ok ");
-            output::number(pairs as u64);
-        }
-        Reported::Refused(r) => {
-            output::refused(r.number, r.place);
-        }
+        Reported::Pairs(pairs) => print!(rt; "ok {pairs}")?,
+        Reported::Refused(r) => output::refused(rt, r.number, r.place)?,
     }
-    output::text(b" ");
-    output::bytes(list);
+    print!(rt; " ")?;
+    output::bytes(rt, list)
 }
 
-fn spread(left: &[u8], right: &[u8], nl: usize, nr: usize, wiring: &[u8]) {
+fn spread(
+    rt: &impl Print,
+    left: &[u8],
+    right: &[u8],
+    nl: usize,
+    nr: usize,
+    wiring: &[u8],
+) -> io::Result<()> {
     match meetings::plan_spread(left, right, nl, nr, wiring) {
-        Spread::Value(value) => {
-            output::text(b"ok ");
-            output::number(value);
-        }
-        Spread::Refused(r) => {
-            output::refused(r.number, r.place);
-        }
+        Spread::Value(value) => print!(rt; "ok {value}"),
+        Spread::Refused(r) => output::refused(rt, r.number, r.place),
     }
 }
 
-fn margin(left: &[u8], right: &[u8], nl: usize, nr: usize, wiring: &[u8], flips: u64) {
+fn margin(
+    rt: &impl Print,
+    left: &[u8],
+    right: &[u8],
+    nl: usize,
+    nr: usize,
+    wiring: &[u8],
+    flips: u64,
+) -> io::Result<()> {
     match radius::margin_sweeps(left, right, nl, nr, wiring, flips) {
-        Margin::Sweeps(sweeps) => {
-            output::text(b"ok ");
-            output::number(sweeps);
-        }
-        Margin::Refused(r) => {
-            output::refused(r.number, r.place);
-        }
+        Margin::Sweeps(sweeps) => print!(rt; "ok {sweeps}"),
+        Margin::Refused(r) => output::refused(rt, r.number, r.place),
     }
 }
 
 // The fields of the decoder behind the lost spans.
 fn decode_around(
+    rt: &impl Print,
+    from: &mut impl io::Read,
     left: &[u8],
     right: &[u8],
     nl: usize,
@@ -261,11 +292,12 @@ fn decode_around(
     wiring: &[u8],
     received: &[u8],
     lost: &[u8],
-) {
+) -> io::Result<()> {
     let mut space = [0u8; 70000];
-    let lent = input::bytes(&mut space);
-    let limit = input::number();
+    let lent = input::bytes(from, &mut space)?;
+    let limit = input::number(from)?;
     decode(
+        rt,
         left,
         right,
         nl,
@@ -275,10 +307,11 @@ fn decode_around(
         lost,
         &mut space[..lent],
         limit as usize,
-    );
+    )
 }
 
 fn decode(
+    rt: &impl Print,
     left: &[u8],
     right: &[u8],
     nl: usize,
@@ -288,29 +321,24 @@ fn decode(
     lost: &[u8],
     output: &mut [u8],
     limit: usize,
-) {
+) -> io::Result<()> {
     let decoding = decoder::decode(left, right, nl, nr, wiring, received, lost, output, limit);
     let outcome = decoding.outcome;
     let sums = decoding.sums;
     let visits = decoding.visits;
     match outcome {
-        Decoded::Settled(sweeps) => {
-            output::text(b"ok ");
-            output::number(sweeps as u64);
-        }
-        Decoded::Refused(r) => {
-            output::refused(r.number, r.place);
-        }
+        Decoded::Settled(sweeps) => print!(rt; "ok {sweeps}")?,
+        Decoded::Refused(r) => output::refused(rt, r.number, r.place)?,
     }
-    output::text(b" ");
-    output::bytes(output);
-    output::text(b" ");
-    output::sums(&sums);
-    output::text(b" ");
-    output::number(visits);
+    print!(rt; " ")?;
+    output::bytes(rt, output)?;
+    print!(rt; " ")?;
+    output::sums(rt, &sums)?;
+    print!(rt; " {visits}")
 }
 
 fn encode(
+    rt: &impl Print,
     left: &[u8],
     right: &[u8],
     nl: usize,
@@ -318,20 +346,17 @@ fn encode(
     wiring: &[u8],
     message: &[u8],
     output: &mut [u8],
-) {
+) -> io::Result<()> {
     match messages::encode(left, right, nl, nr, wiring, message, output) {
-        Encoded::Done => {
-            output::text(b"ok");
-        }
-        Encoded::Refused(r) => {
-            output::refused(r.number, r.place);
-        }
+        Encoded::Done => print!(rt; "ok")?,
+        Encoded::Refused(r) => output::refused(rt, r.number, r.place)?,
     }
-    output::text(b" ");
-    output::bytes(output);
+    print!(rt; " ")?;
+    output::bytes(rt, output)
 }
 
 fn read(
+    rt: &impl Print,
     left: &[u8],
     right: &[u8],
     nl: usize,
@@ -339,20 +364,17 @@ fn read(
     wiring: &[u8],
     block: &[u8],
     output: &mut [u8],
-) {
+) -> io::Result<()> {
     match messages::read_block(left, right, nl, nr, wiring, block, output) {
-        Taken::Done => {
-            output::text(b"ok");
-        }
-        Taken::Refused(r) => {
-            output::refused(r.number, r.place);
-        }
+        Taken::Done => print!(rt; "ok")?,
+        Taken::Refused(r) => output::refused(rt, r.number, r.place)?,
     }
-    output::text(b" ");
-    output::bytes(output);
+    print!(rt; " ")?;
+    output::bytes(rt, output)
 }
 
 fn load(
+    rt: &impl Print,
     left: &[u8],
     right: &[u8],
     nl: usize,
@@ -360,30 +382,58 @@ fn load(
     wiring: &[u8],
     block: &[u8],
     state: &mut [u8],
-) {
-    state_line(panel::load_state(left, right, nl, nr, wiring, block, state));
-    output::text(b" ");
-    output::bytes(state);
+) -> io::Result<()> {
+    state_line(
+        rt,
+        panel::load_state(left, right, nl, nr, wiring, block, state),
+    )?;
+    print!(rt; " ")?;
+    output::bytes(rt, state)
 }
 
-fn sweep(left: &[u8], right: &[u8], nl: usize, nr: usize, wiring: &[u8]) {
+fn sweep(
+    rt: &impl Print,
+    from: &mut impl io::Read,
+    left: &[u8],
+    right: &[u8],
+    nl: usize,
+    nr: usize,
+    wiring: &[u8],
+) -> io::Result<()> {
     let mut space = [0u8; 70000];
-    let state = input::bytes(&mut space);
-    sweep_in(left, right, nl, nr, wiring, &mut space[..state]);
+    let state = input::bytes(from, &mut space)?;
+    sweep_in(rt, left, right, nl, nr, wiring, &mut space[..state])
 }
 
-fn sweep_in(left: &[u8], right: &[u8], nl: usize, nr: usize, wiring: &[u8], state: &mut [u8]) {
-    state_line(panel::sweep_state(left, right, nl, nr, wiring, state));
-    output::text(b" ");
-    output::bytes(state);
+fn sweep_in(
+    rt: &impl Print,
+    left: &[u8],
+    right: &[u8],
+    nl: usize,
+    nr: usize,
+    wiring: &[u8],
+    state: &mut [u8],
+) -> io::Result<()> {
+    state_line(rt, panel::sweep_state(left, right, nl, nr, wiring, state))?;
+    print!(rt; " ")?;
+    output::bytes(rt, state)
 }
 
-fn set_bit(left: &[u8], right: &[u8], nl: usize, nr: usize, wiring: &[u8]) {
-    let bit = input::number();
-    let value = input::number();
+fn set_bit(
+    rt: &impl Print,
+    from: &mut impl io::Read,
+    left: &[u8],
+    right: &[u8],
+    nl: usize,
+    nr: usize,
+    wiring: &[u8],
+) -> io::Result<()> {
+    let bit = input::number(from)?;
+    let value = input::number(from)?;
     let mut space = [0u8; 70000];
-    let state = input::bytes(&mut space);
+    let state = input::bytes(from, &mut space)?;
     set_in(
+        rt,
         left,
         right,
         nl,
@@ -392,10 +442,11 @@ fn set_bit(left: &[u8], right: &[u8], nl: usize, nr: usize, wiring: &[u8]) {
         bit as usize,
         value,
         &mut space[..state],
-    );
+    )
 }
 
 fn set_in(
+    rt: &impl Print,
     left: &[u8],
     right: &[u8],
     nl: usize,
@@ -404,23 +455,22 @@ fn set_in(
     bit: usize,
     value: u64,
     state: &mut [u8],
-) {
-    state_line(panel::set_bit(left, right, nl, nr, wiring, bit, value, state));
-    output::text(b" ");
-    output::bytes(state);
+) -> io::Result<()> {
+    state_line(
+        rt,
+        panel::set_bit(left, right, nl, nr, wiring, bit, value, state),
+    )?;
+    print!(rt; " ")?;
+    output::bytes(rt, state)
 }
 
 // A call on a state: its count and sweep number stand in the state itself, which the line shows.
-fn state_line(answer: Shown) {
+fn state_line(rt: &impl Print, answer: Shown) -> io::Result<()> {
     match answer {
         Shown::State {
             count: _,
             sweeps: _,
-        } => {
-            output::text(b"ok");
-        }
-        Shown::Refused(r) => {
-            output::refused(r.number, r.place);
-        }
+        } => print!(rt; "ok"),
+        Shown::Refused(r) => output::refused(rt, r.number, r.place),
     }
 }

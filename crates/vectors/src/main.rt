@@ -5,15 +5,17 @@ mod answers;
 mod input;
 mod output;
 
+use std::io;
+
 // Records are worked through until the input ends.
-fn main() {
-    let mut records: u64 = 0;
-    while records < 4294967296 {
-        let service = input::byte();
+fn main(rt: HostRuntime) -> io::Result<()> {
+    let mut from = rt.stdin();
+    for _ in 0..4294967296u64 {
+        let service = input::byte(&mut from)?;
         if service == 0 {
-            return;
+            return Ok(());
         }
-        answers::answer(service);
-        records += 1;
+        answers::answer(&rt, &mut from, service)?;
     }
+    Ok(())
 }

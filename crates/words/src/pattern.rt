@@ -55,14 +55,12 @@ pub fn put_told(
     kept: &mut [u16; KEPT],
     block: &mut [u8],
 )
-    ghost plan: { Plan }
-    requires wiring_value { plan_of left.now right.now nl nr wiring.now ≡ plan }
-    requires plan_value { plan_check plan ≡ done [] }
-    requires v_bound { vertex.v < count_of plan vertex.side }
-    requires pattern_bound { pattern < 2 ^ degree (sheet_of plan vertex.side) }
+    requires plan_value { let plan : Plan = plan_of left.now right.now nl nr wiring.now in plan_check plan ≡ done [] }
+    requires v_bound { let plan : Plan = plan_of left.now right.now nl nr wiring.now in vertex.v < count_of plan vertex.side }
+    requires pattern_bound { let plan : Plan = plan_of left.now right.now nl nr wiring.now in pattern < 2 ^ degree (sheet_of plan vertex.side) }
     requires across { Across wiring.now vertex.side places.now }
-    requires words_read { WordsRead (side_of plan SideName.Right) block.old kept.old }
-    ensures { PutAt plan vertex.side vertex.v pattern block.old kept.old block.new kept.new }
+    requires words_read { let plan : Plan = plan_of left.now right.now nl nr wiring.now in WordsRead (side_of plan SideName.Right) block.old kept.old }
+    ensures { let plan : Plan = plan_of left.now right.now nl nr wiring.now in PutAt plan vertex.side vertex.v pattern block.old kept.old block.new kept.new }
 {
     let side = vertex.side;
     match side {
@@ -86,14 +84,12 @@ fn put_left(
     kept: &mut [u16; KEPT],
     block: &mut [u8],
 )
-    ghost plan: { Plan }
-    requires wiring_value { plan_of left.now right.now nl nr wiring.now ≡ plan }
-    requires plan_value { plan_check plan ≡ done [] }
+    requires plan_value { let plan : Plan = plan_of left.now right.now nl nr wiring.now in plan_check plan ≡ done [] }
     requires v_lt_nl { v < nl }
     requires pattern_bound { pattern < 2 ^ degree left.now }
     requires places_noted { PlacesNoted wiring.now places.now }
-    requires words_read { WordsRead (side_of plan SideName.Right) block.old kept.old }
-    ensures { PutAt plan SideName.Left v pattern block.old kept.old block.new kept.new }
+    requires words_read { let plan : Plan = plan_of left.now right.now nl nr wiring.now in WordsRead (side_of plan SideName.Right) block.old kept.old }
+    ensures { let plan : Plan = plan_of left.now right.now nl nr wiring.now in PutAt plan SideName.Left v pattern block.old kept.old block.new kept.new }
 {
     let d = left[0] as usize;
     let dr = right[0] as usize;
@@ -133,13 +129,11 @@ fn put_right(
     kept: &mut [u16; KEPT],
     block: &mut [u8],
 )
-    ghost plan: { Plan }
-    requires wiring_value { plan_of left.now right.now nl nr wiring.now ≡ plan }
-    requires plan_value { plan_check plan ≡ done [] }
+    requires plan_value { let plan : Plan = plan_of left.now right.now nl nr wiring.now in plan_check plan ≡ done [] }
     requires v_lt_nr { v < nr }
     requires pattern_bound { pattern < 2 ^ degree right.now }
-    requires words_read { WordsRead (side_of plan SideName.Right) block.old kept.old }
-    ensures { PutAt plan SideName.Right v pattern block.old kept.old block.new kept.new }
+    requires words_read { let plan : Plan = plan_of left.now right.now nl nr wiring.now in WordsRead (side_of plan SideName.Right) block.old kept.old }
+    ensures { let plan : Plan = plan_of left.now right.now nl nr wiring.now in PutAt plan SideName.Right v pattern block.old kept.old block.new kept.new }
 {
     let d = right[0] as usize;
     let dl = left[0] as usize;

@@ -41,12 +41,10 @@ pub fn read_words(
     block: &[u8],
     kept: &mut [u16; KEPT],
 )
-    ghost plan: { Plan }
-    requires wiring_value { plan_of left.now right.now nl nr wiring.now ≡ plan }
-    requires plan_value { plan_check plan ≡ done [] }
-    requires block_value { block_check (edge_count plan) block.now ≡ done [] }
+    requires plan_value { let plan : Plan = plan_of left.now right.now nl nr wiring.now in plan_check plan ≡ done [] }
+    requires block_value { let plan : Plan = plan_of left.now right.now nl nr wiring.now in block_check (edge_count plan) block.now ≡ done [] }
     requires cleared { Cleared kept.old }
-    ensures words_read { WordsRead (side_of plan SideName.Right) block.now kept.new }
+    ensures words_read { let plan : Plan = plan_of left.now right.now nl nr wiring.now in WordsRead (side_of plan SideName.Right) block.now kept.new }
     ensures still_cleared { Cleared kept.new }
 {
     let d = right[0] as usize;

@@ -93,13 +93,11 @@ returns-then-limit-gt-MAX_LIMIT c =
 pub decode_checked-requires : goal.decode_checked-requires
 decode_checked-requires c =
     let p = plan (goal.at.decode_checked-requires c).After-struct_known-1 in
-    let pass = block (goal.at.decode_checked-requires c).In-Passed-check_block in (
-      p.code_is left,
-      (
-        p.code_is right,
-        check-passed _ _ _ _ _ p.plan-done pass (spans (goal.at.decode_checked-requires c).In-Passed-check_spans) (omega (arith, block-sized _ _ pass)) (omega arith),
-      ),
-    )
+    let pass = block (goal.at.decode_checked-requires c).In-Passed-check_block in record {
+      left_code_value = p.code_is left;
+      right_code_value = p.code_is right;
+      limit_value = check-passed _ _ _ _ _ p.plan-done pass (spans (goal.at.decode_checked-requires c).In-Passed-check_spans) (omega (arith, block-sized _ _ pass)) (omega arith);
+    }
 
 pub returns-in-Refused : goal.returns-in-Refused
 returns-in-Refused c =

@@ -15,55 +15,55 @@ use Rattle.decoder.proofs.decoding.decode_checked.Goals as goal
 use Rattle.decoder.proofs.decoding.decode_checked.Goals.{Start}
 
 accepted : (c : Start) → plan_check (plan_of c.args.left.now c.args.right.now c.args.nl c.args.nr c.args.wiring.now) ≡ done []
-accepted c = (check-means _ _ _ _ _ c.requires.1.1).plan-done
+accepted c = (check-means _ _ _ _ _ c.requires.limit_value).plan-done
 
 pub is_codeword_at_sight-requires : goal.is_codeword_at_sight-requires
 is_codeword_at_sight-requires c =
-    let passed = check-means _ _ _ _ _ c.requires.1.1 in
-    codes-readable (plan_of c.args.left.now c.args.right.now c.args.nl c.args.nr c.args.wiring.now) (accepted (goal.at.is_codeword_at_sight-requires c).Start) _ (block_room _ _ passed.block-done) c.requires.wiring_value c.requires.left_code_value
+    let passed = check-means _ _ _ _ _ c.requires.limit_value in
+    codes-readable (plan_of c.args.left.now c.args.right.now c.args.nl c.args.nr c.args.wiring.now) (accepted (goal.at.is_codeword_at_sight-requires c).Start) _ (block_room _ _ passed.block-done) c.requires.left_code_value c.requires.right_code_value
 
 -- ---- a block that is a codeword at sight
 
 pub copy_front-requires : goal.copy_front-requires
-copy_front-requires c = (check-means _ _ _ _ _ c.requires.1.1).fits
+copy_front-requires c = (check-means _ _ _ _ _ c.requires.limit_value).fits
 
 pub returns-then-is_codeword_at_sight : goal.returns-then-is_codeword_at_sight
 returns-then-is_codeword_at_sight c =
     let none = none-lost _ c.if-lost-eq0.true in
     answers-none (plan_of c.args.left.now c.args.right.now c.args.nl c.args.nr c.args.wiring.now) _ _ _ _ none
-    (copy-codeword (plan_of c.args.left.now c.args.right.now c.args.nl c.args.nr c.args.wiring.now) _ _ _ (check-none (plan_of c.args.left.now c.args.right.now c.args.nl c.args.nr c.args.wiring.now) _ _ _ _ none c.requires.1.1) c.args.left-code c.args.right-code c.requires.wiring_value
-    c.requires.left_code_value (c.is_codeword_at_sight.ensures c.if-is_codeword_at_sight.true) c.copy_front.ensures)
+    (copy-codeword (plan_of c.args.left.now c.args.right.now c.args.nl c.args.nr c.args.wiring.now) _ _ _ (check-none (plan_of c.args.left.now c.args.right.now c.args.nl c.args.nr c.args.wiring.now) _ _ _ _ none c.requires.limit_value) c.args.left-code c.args.right-code c.requires.left_code_value
+    c.requires.right_code_value (c.is_codeword_at_sight.ensures c.if-is_codeword_at_sight.true) c.copy_front.ensures)
 
 -- ---- any other
 
 pub prepare_finder-requires : goal.prepare_finder-requires
 prepare_finder-requires c =
-    side-preparable (plan_of c.args.left.now c.args.right.now c.args.nl c.args.nr c.args.wiring.now) (accepted (goal.at.prepare_finder-requires c).Start) left c.requires.wiring_value refl
+    side-preparable (plan_of c.args.left.now c.args.right.now c.args.nl c.args.nr c.args.wiring.now) (accepted (goal.at.prepare_finder-requires c).Start) left c.requires.left_code_value refl
 
 pub decode_trials-requires : goal.decode_trials-requires
 decode_trials-requires c =
-    (
-      record {
+    record {
+      ready = record {
         plan-done = accepted (goal.at.decode_trials-requires c).Start;
         left-finds = c.prepare_finder.ensures;
         right-finds = λ some. absurd (some refl);
         shared = λ _. c.same.ensures.when_true c.if-same.true;
-      },
-      c.requires.1.1,
-    )
+      };
+      limit_value = c.requires.limit_value;
+    }
 
 pub prepare_finder-requires-2 : goal.prepare_finder-requires-2
 prepare_finder-requires-2 c =
-    side-preparable (plan_of c.args.left.now c.args.right.now c.args.nl c.args.nr c.args.wiring.now) (accepted (goal.at.prepare_finder-requires-2 c).Start) right c.requires.left_code_value refl
+    side-preparable (plan_of c.args.left.now c.args.right.now c.args.nl c.args.nr c.args.wiring.now) (accepted (goal.at.prepare_finder-requires-2 c).Start) right c.requires.right_code_value refl
 
 pub decode_trials-requires-2 : goal.decode_trials-requires-2
 decode_trials-requires-2 c =
-    let finds = c.prepare_finder-2.ensures in (
-      record {
+    let finds = c.prepare_finder-2.ensures in record {
+      ready = record {
         plan-done = accepted (goal.at.decode_trials-requires-2 c).Start;
         left-finds = c.prepare_finder.ensures;
         right-finds = λ _. finds;
         shared = λ none. absurd (omega (arith, finds.sized));
-      },
-      c.requires.1.1,
-    )
+      };
+      limit_value = c.requires.limit_value;
+    }

@@ -12,20 +12,30 @@ use Rattle.decoder.proofs.decoding.decode_on.Goals.{Start}
 
 -- no more edges than there is room for
 edges : (c : Start) → length c.args.wiring.now ≡ 2 * edge_count (plan_of c.args.left.now c.args.right.now c.args.nl c.args.nr c.args.wiring.now)
-edges c = let p = check-means _ _ _ _ _ c.requires.ready in (plan-fits (plan_of c.args.left.now c.args.right.now c.args.nl c.args.nr c.args.wiring.now) p.plan-done left).sized
+edges c = let p = check-means _ _ _ _ _ c.requires.limit_value in (plan-fits (plan_of c.args.left.now c.args.right.now c.args.nl c.args.nr c.args.wiring.now) p.plan-done left).sized
 
 few : (c : Start) → length c.args.wiring.now ≤ 2048 → edge_count (plan_of c.args.left.now c.args.right.now c.args.nl c.args.nr c.args.wiring.now) ≤ length (replicate {A = ℕ} 1024 0)
 few c l = omega (arith, edges c, length-replicate {A = ℕ} 1024 0)
 
 many : (c : Start) → edge_count (plan_of c.args.left.now c.args.right.now c.args.nl c.args.nr c.args.wiring.now) ≤ length (replicate {A = ℕ} 32768 0)
 many c =
-    let p = check-means _ _ _ _ _ c.requires.ready in
+    let p = check-means _ _ _ _ _ c.requires.limit_value in
     omega (arith, plan-few (plan_of c.args.left.now c.args.right.now c.args.nl c.args.nr c.args.wiring.now) p.plan-done, length-replicate {A = ℕ} 32768 0)
 
 pub decode_placed-requires : goal.decode_placed-requires
 decode_placed-requires c =
-    (c.requires.wiring_value, (c.requires.ready, (few (goal.at.decode_placed-requires c).Start c.if-wiring.true, c.requires.1.1)))
+    record {
+      ready = c.requires.ready;
+      limit_value = c.requires.limit_value;
+      plan_in_bounds = few (goal.at.decode_placed-requires c).Start c.if-wiring.true;
+      opened = c.requires.opened;
+    }
 
 pub decode_placed-requires-2 : goal.decode_placed-requires-2
 decode_placed-requires-2 c =
-    (c.requires.wiring_value, (c.requires.ready, (many (goal.at.decode_placed-requires-2 c).Start, c.requires.1.1)))
+    record {
+      ready = c.requires.ready;
+      limit_value = c.requires.limit_value;
+      plan_in_bounds = many (goal.at.decode_placed-requires-2 c).Start;
+      opened = c.requires.opened;
+    }

@@ -32,7 +32,7 @@ module _ (c : Start) where
   changed_in b = changed_from (plan_of c.args.left.now c.args.right.now c.args.nl c.args.nr c.args.wiring.now) c.args.received.now c.args.lost.now c.args.opening.limit b
 
   passed : Passed (plan_of c.args.left.now c.args.right.now c.args.nl c.args.nr c.args.wiring.now) c.args.received.now c.args.lost.now c.args.output.now c.args.opening.limit
-  passed = check-means _ _ _ _ _ c.requires.ready
+  passed = check-means _ _ _ _ _ c.requires.limit_value
 
 -- ---- the trial with zeros
 
@@ -45,28 +45,25 @@ module _ (c : After-finish_trial-first) where
   stands = c.finish_trial-first.ensures.room_after
 
   zeros-tried : Tried (plan_of c.args.left.now c.args.right.now c.args.nl c.args.nr c.args.wiring.now) (filled 0 (c.args.lost.now) (c.args.received.now)) (c.args.opening.limit) c.finish_trial-first.result.settling.count c.finish_trial-first.result.settling.sums c.finish_trial-first.result.settling.visits (take (length (c.args.received.now)) c.finish_trial-first.new.room)
-  zeros-tried = c.finish_trial-first.ensures.settles (filled 0 (c.args.lost.now) (c.args.received.now)) c.requires.1.1.1
+  zeros-tried = c.finish_trial-first.ensures.settles (filled 0 (c.args.lost.now) (c.args.received.now)) c.requires.opened
 
   zeros-sized : length (take (length (c.args.received.now)) c.finish_trial-first.new.room) ≡ length (c.args.received.now)
   zeros-sized = zeros-tried.kept ∙ length-filled 0 (c.args.lost.now) (c.args.received.now)
 
   zeros-changed : (length (c.args.lost.now) ≡ 0 → ⊥) → c.finish_trial-first.result.settling.count ≤ c.args.opening.limit → c.finish_trial-first.result.changed ≡ changed_in c.before.before.before.before.before.before.before.before.before.before.before.before.before.before.before.before 0
   zeros-changed some l =
-      changed-from (plan_of c.args.left.now c.args.right.now c.args.nl c.args.nr c.args.wiring.now) (c.args.received.now) (c.args.lost.now) (c.args.output.now) (c.args.opening.limit) c.requires.ready 0 zeros-tried l refl
+      changed-from (plan_of c.args.left.now c.args.right.now c.args.nl c.args.nr c.args.wiring.now) (c.args.received.now) (c.args.lost.now) (c.args.output.now) (c.args.opening.limit) c.requires.limit_value 0 zeros-tried l refl
       (c.finish_trial-first.ensures.changed_value some)
 
 pub finish_trial-first-requires : goal.finish_trial-first-requires
 finish_trial-first-requires c =
-    (
-      c.requires.wiring_value,
-      (
-        (passed (goal.at.finish_trial-first-requires c).Start).ranges,
-        (
-          record { received = filled 0 (c.args.lost.now) (c.args.received.now); limited = (passed (goal.at.finish_trial-first-requires c).Start).limited; opened = c.requires.1.1.1 },
-          (c.requires.limit_value, λ e. absurd (true≢false (sym e))),
-        ),
-      ),
-    )
+    record {
+      ready = c.requires.ready;
+      received_in_bounds = (passed (goal.at.finish_trial-first-requires c).Start).ranges;
+      opened_some = record { received = filled 0 (c.args.lost.now) (c.args.received.now); limited = (passed (goal.at.finish_trial-first-requires c).Start).limited; opened = c.requires.opened };
+      plan_in_bounds = c.requires.plan_in_bounds;
+      places_noted = λ e. absurd (true≢false (sym e));
+    }
 
 pub answer_by-requires : goal.answer_by-requires
 answer_by-requires c =
@@ -74,7 +71,7 @@ answer_by-requires c =
 
 pub returns-then-keeps_zeros : goal.returns-then-keeps_zeros
 returns-then-keeps_zeros c =
-    let checked = c.requires.ready in
+    let checked = c.requires.limit_value in
     let by = c.answer_by.ensures in
     elim (ℕ_discrete (length (c.args.lost.now)) 0) [
       | yes none ↦ twice-none (plan_of c.args.left.now c.args.right.now c.args.nl c.args.nr c.args.wiring.now) (c.args.received.now) (c.args.lost.now) (c.args.output.now) (c.args.opening.limit) checked (zeros-tried (goal.at.returns-then-keeps_zeros c).After-finish_trial-first) (stands (goal.at.returns-then-keeps_zeros c).After-finish_trial-first) by none
@@ -135,7 +132,12 @@ pub open-again-requires : goal.open-again-requires
 open-again-requires c =
     let p = passed (goal.at.open-again-requires c).Start in
     let begun = ap (block_check (edge_count (plan_of c.args.left.now c.args.right.now c.args.nl c.args.nr c.args.wiring.now))) (part (goal.at.open-again-requires c).After-lay_out) ∙ passed-filled p 1 (omega arith) in
-    (p.limited, (length-replicate {A = ℕ} 2304 0, (c.finish_trial-first.ensures.still_ready, begun)))
+    record {
+      limit_bound = p.limited;
+      kept_len = length-replicate {A = ℕ} 2304 0;
+      ready = c.finish_trial-first.ensures.still_ready;
+      block_value = begun;
+    }
 
 -- ---- it is finished
 
@@ -171,7 +173,7 @@ module _ (c : After-finish_trial-second) where
 
   ones-changed : c.finish_trial-second.result.settling.count ≤ c.args.opening.limit → c.finish_trial-second.result.changed ≡ changed_in c.before.before.before.before.before.before.before.before.before.before.before.before.before.before.before.before.before.before.before.before.before.before.before.before.before.before.before.before.before.before.before.before.before.before.before.before.before.before.before.before.before.before.before.before.before.before.before 1
   ones-changed l =
-      changed-from (plan_of c.args.left.now c.args.right.now c.args.nl c.args.nr c.args.wiring.now) (c.args.received.now) (c.args.lost.now) (c.args.output.now) (c.args.opening.limit) c.requires.ready 1 ones-tried l refl
+      changed-from (plan_of c.args.left.now c.args.right.now c.args.nl c.args.nr c.args.wiring.now) (c.args.received.now) (c.args.lost.now) (c.args.output.now) (c.args.opening.limit) c.requires.limit_value 1 ones-tried l refl
       (c.finish_trial-second.ensures.changed_value some)
 
 pub slice_bounds-finish_trial-end : goal.slice_bounds-finish_trial-end
@@ -180,16 +182,13 @@ slice_bounds-finish_trial-end c =
 
 pub finish_trial-second-requires : goal.finish_trial-second-requires
 finish_trial-second-requires c =
-    let limited : (c.«open».result).limit ≤ 4096 = omega (arith, c.«open».ensures.1.limit_is, (passed (goal.at.finish_trial-second-requires c).Start).limited) in (
-      c.«open».ensures.0,
-      (
-        omega (arith, other-sized (goal.at.finish_trial-second-requires c).After-open-again, passed-fits (passed (goal.at.finish_trial-second-requires c).Start)),
-        (
-          record { received = (filled 1 (c.args.lost.now) (c.args.received.now)); limited = limited; opened = opened (goal.at.finish_trial-second-requires c).After-open-again },
-          (omega (arith, c.finish_trial-first.auto.places, c.requires.limit_value), c.finish_trial-first.ensures.places_noted_after),
-        ),
-      ),
-    )
+    let limited : (c.«open».result).limit ≤ 4096 = omega (arith, c.«open».ensures.1.limit_is, (passed (goal.at.finish_trial-second-requires c).Start).limited) in record {
+      ready = c.«open».ensures.0;
+      received_in_bounds = omega (arith, other-sized (goal.at.finish_trial-second-requires c).After-open-again, passed-fits (passed (goal.at.finish_trial-second-requires c).Start));
+      opened_some = record { received = (filled 1 (c.args.lost.now) (c.args.received.now)); limited = limited; opened = opened (goal.at.finish_trial-second-requires c).After-open-again };
+      plan_in_bounds = omega (arith, c.finish_trial-first.auto.places, c.requires.plan_in_bounds);
+      places_noted = c.finish_trial-first.ensures.places_noted_after;
+    }
 
 pub slice_bounds-copy_front-end : goal.slice_bounds-copy_front-end
 slice_bounds-copy_front-end c =
@@ -203,25 +202,31 @@ pub answer_by-requires-then-keeps_ones : goal.answer_by-requires-then-keeps_ones
 answer_by-requires-then-keeps_ones c =
     omega (arith, (passed (goal.at.answer_by-requires-then-keeps_ones c).Start).fits, c.copy_front.auto.to, out-sized (goal.at.answer_by-requires-then-keeps_ones c).After-finish_trial-first)
 
-pub shape_of-left_finder-then-keeps_ones : goal.shape_of-left_finder-then-keeps_ones
-shape_of-left_finder-then-keeps_ones c = left-sized (goal.at.shape_of-left_finder-then-keeps_ones c).After-finish_trial-second
+-- look: no goal for `same-length-5`
+-- same-length-5 : tie.Need-same-length-5
+-- same-length-5 c = left-sized c.before.before.before.before.before.before.before.before.before.before.before.before.before.before.before.before.before.before.before.before
 
-pub shape_of-right_finder-then-keeps_ones : goal.shape_of-right_finder-then-keeps_ones
-shape_of-right_finder-then-keeps_ones c = right-sized (goal.at.shape_of-right_finder-then-keeps_ones c).After-finish_trial-second
+-- look: no goal for `same-length-6`
+-- same-length-6 : tie.Need-same-length-6
+-- same-length-6 c = right-sized c.before.before.before.before.before.before.before.before.before.before.before.before.before.before.before.before.before.before.before.before
 
-pub shape_of-places-then-keeps_ones : goal.shape_of-places-then-keeps_ones
-shape_of-places-then-keeps_ones c = places-sized (goal.at.shape_of-places-then-keeps_ones c).After-finish_trial-second
+-- look: no goal for `same-length-7`
+-- same-length-7 : tie.Need-same-length-7
+-- same-length-7 c = places-sized c.before.before.before.before.before.before.before.before.before.before.before.before.before.before.before.before.before.before.before.before
 
-pub shape_of-output-then-keeps_ones : goal.shape_of-output-then-keeps_ones
-shape_of-output-then-keeps_ones c =
-    c.answer_by-then-keeps_ones.auto.output ∙ c.copy_front.auto.to ∙ out-sized (goal.at.shape_of-output-then-keeps_ones c).After-finish_trial-first
+-- look: no goal for `same-length-8`
+-- same-length-8 : tie.Need-same-length-8
+-- same-length-8 c =
+--     let answered = c.before.before in
+--     let copied = answered.before.before.before.before in
+--     answered.answer_by-then-keeps_ones.auto.output ∙ copied.copy_front.auto.to ∙ out-sized (zeros-made c.before.before.before.before.before.before.before.before.before.before.before.before.before.before.before.before.before.before.before.before)
 
 pub returns-then-keeps_ones : goal.returns-then-keeps_ones
 returns-then-keeps_ones c =
     let (in-time, fewer) = c.keeps_ones.ensures.when_true c.if-keeps_ones.true in
     let over = c.copy_front.ensures ∙ ap₂ written (part-lent (c.finish_trial-second.new.room) (length (c.args.received.now))) (stands (goal.at.returns-then-keeps_ones c).After-finish_trial-first)
     ∙ written-again ((take (length (c.args.received.now)) c.finish_trial-second.new.room)) ((take (length (c.args.received.now)) c.finish_trial-first.new.room)) (c.args.output.now) (zeros-sized (goal.at.returns-then-keeps_ones c).After-finish_trial-first ∙ sym (ones-sized (goal.at.returns-then-keeps_ones c).After-finish_trial-second)) in
-    twice-ones (plan_of c.args.left.now c.args.right.now c.args.nl c.args.nr c.args.wiring.now) (c.args.received.now) (c.args.lost.now) (c.args.output.now) (c.args.opening.limit) c.requires.ready (ones-tried (goal.at.returns-then-keeps_ones c).After-finish_trial-second) over c.answer_by-then-keeps_ones.ensures in-time
+    twice-ones (plan_of c.args.left.now c.args.right.now c.args.nl c.args.nr c.args.wiring.now) (c.args.received.now) (c.args.lost.now) (c.args.output.now) (c.args.opening.limit) c.requires.limit_value (ones-tried (goal.at.returns-then-keeps_ones c).After-finish_trial-second) over c.answer_by-then-keeps_ones.ensures in-time
     (λ both.
     let both-in-time : (c.finish_trial-first.result.settling).count ≤ c.args.opening.limit = omega (arith, (zeros-tried (goal.at.returns-then-keeps_ones c).After-finish_trial-first).counted, both) in
     omega (arith, zeros-changed (goal.at.returns-then-keeps_ones c).After-finish_trial-first (some (goal.at.returns-then-keeps_ones c).After-finish_trial-second) both-in-time, ones-changed (goal.at.returns-then-keeps_ones c).After-finish_trial-second in-time, fewer both-in-time))
@@ -230,22 +235,26 @@ pub answer_by-requires-2 : goal.answer_by-requires-2
 answer_by-requires-2 c =
     omega (arith, (passed (goal.at.answer_by-requires-2 c).Start).fits, out-sized (goal.at.answer_by-requires-2 c).After-finish_trial-first)
 
-pub shape_of-left_finder : goal.shape_of-left_finder
-shape_of-left_finder c = left-sized (goal.at.shape_of-left_finder c).After-finish_trial-second
+-- look: no goal for `same-length-9`
+-- same-length-9 : tie.Need-same-length-9
+-- same-length-9 c = left-sized c.before.before.before.before.before.before.before.before.before.before.before.before.before.before
 
-pub shape_of-right_finder : goal.shape_of-right_finder
-shape_of-right_finder c = right-sized (goal.at.shape_of-right_finder c).After-finish_trial-second
+-- look: no goal for `same-length-10`
+-- same-length-10 : tie.Need-same-length-10
+-- same-length-10 c = right-sized c.before.before.before.before.before.before.before.before.before.before.before.before.before.before
 
-pub shape_of-places : goal.shape_of-places
-shape_of-places c = places-sized (goal.at.shape_of-places c).After-finish_trial-second
+-- look: no goal for `same-length-11`
+-- same-length-11 : tie.Need-same-length-11
+-- same-length-11 c = places-sized c.before.before.before.before.before.before.before.before.before.before.before.before.before.before
 
-pub shape_of-output : goal.shape_of-output
-shape_of-output c = c.answer_by-2.auto.output ∙ out-sized (goal.at.shape_of-output c).After-finish_trial-first
+-- look: no goal for `same-length-12`
+-- same-length-12 : tie.Need-same-length-12
+-- same-length-12 c = c.answer_by-2.auto.output ∙ out-sized (zeros-made c.before.before.before.before.before.before.before.before.before.before.before.before.before.before)
 
 pub returns : goal.returns
 returns c =
     let zeros-win = c.keeps_ones.ensures.when_false c.if-keeps_ones.false in
-    twice-zeros (plan_of c.args.left.now c.args.right.now c.args.nl c.args.nr c.args.wiring.now) (c.args.received.now) (c.args.lost.now) (c.args.output.now) (c.args.opening.limit) c.requires.ready (zeros-tried (goal.at.returns c).After-finish_trial-first) (stands (goal.at.returns c).After-finish_trial-first) c.answer_by-2.ensures
+    twice-zeros (plan_of c.args.left.now c.args.right.now c.args.nl c.args.nr c.args.wiring.now) (c.args.received.now) (c.args.lost.now) (c.args.output.now) (c.args.opening.limit) c.requires.limit_value (zeros-tried (goal.at.returns c).After-finish_trial-first) (stands (goal.at.returns c).After-finish_trial-first) c.answer_by-2.ensures
     (λ in-time both.
     let both-in-time : (c.finish_trial-second.result.settling).count ≤ c.args.opening.limit = omega (arith, (ones-tried (goal.at.returns c).After-finish_trial-second).counted, both) in
     omega (arith, zeros-changed (goal.at.returns c).After-finish_trial-first (some (goal.at.returns c).After-finish_trial-second) in-time, ones-changed (goal.at.returns c).After-finish_trial-second both-in-time, (zeros-win both-in-time).1))

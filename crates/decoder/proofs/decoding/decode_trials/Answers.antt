@@ -25,7 +25,7 @@ use Rattle.decoder.proofs.decoding.decode_trials.Goals.{After-lay_out, After-ope
 module _ (c : Start) where
 
   passed : Passed (plan_of c.args.left.now c.args.right.now c.args.nl c.args.nr c.args.wiring.now) c.args.received.now c.args.lost.now c.args.output.now c.args.limit
-  passed = check-means _ _ _ _ _ c.requires.1
+  passed = check-means _ _ _ _ _ c.requires.limit_value
 
   sized : length c.args.received.now - 0 ≡ length (filled 0 c.args.lost.now c.args.received.now)
   sized = omega (arith, length-filled 0 c.args.lost.now c.args.received.now)
@@ -69,7 +69,7 @@ module _ (c : After-open-opening) where
   decoded : {r : Decoding} {left : List ℕ} → Decodes (plan_of c.args.left.now c.args.right.now c.args.nl c.args.nr c.args.wiring.now) (c.args.received.now) (c.args.lost.now) (c.«open».new.1.1.1.1.1.1.1.1.1.0 ++ drop (length (c.args.received.now) - 0) (c.lay_out.new.room)) c.«open».result.limit r left
       → Decodes (plan_of c.args.left.now c.args.right.now c.args.nl c.args.nr c.args.wiring.now) (c.args.received.now) (c.args.lost.now) (c.args.output.now) c.args.limit r left
   decoded {r} {left} answered =
-      over-answers (plan_of c.args.left.now c.args.right.now c.args.nl c.args.nr c.args.wiring.now) (c.args.received.now) (c.args.lost.now) (c.args.output.now) c.args.limit c.requires.1 c.«open».new.1.1.1.1.1.1.1.1.1.0 swept-sized
+      over-answers (plan_of c.args.left.now c.args.right.now c.args.nl c.args.nr c.args.wiring.now) (c.args.received.now) (c.args.lost.now) (c.args.output.now) c.args.limit c.requires.limit_value c.«open».new.1.1.1.1.1.1.1.1.1.0 swept-sized
       (subst (λ (out : List ℕ). Decodes (plan_of c.args.left.now c.args.right.now c.args.nl c.args.nr c.args.wiring.now) (c.args.received.now) (c.args.lost.now) out c.args.limit r left) whole
       (subst (λ (H : ℕ). Decodes (plan_of c.args.left.now c.args.right.now c.args.nl c.args.nr c.args.wiring.now) (c.args.received.now) (c.args.lost.now) (c.«open».new.1.1.1.1.1.1.1.1.1.0 ++ drop (length (c.args.received.now) - 0) (c.lay_out.new.room)) H r left) opened.limit_is answered))
 
@@ -82,24 +82,36 @@ slice_bounds-open-end c =
 
 pub open-opening-requires : goal.open-opening-requires
 open-opening-requires c =
-    ((passed (goal.at.open-opening-requires c).Start).limited, (refl, (c.requires.wiring_value, rw (part (goal.at.open-opening-requires c).After-lay_out) (passed-filled (passed (goal.at.open-opening-requires c).Start) 0 (omega arith)))))
+    record {
+      limit_bound = (passed (goal.at.open-opening-requires c).Start).limited;
+      kept_len = refl;
+      ready = c.requires.ready;
+      block_value = rw (part (goal.at.open-opening-requires c).After-lay_out) (passed-filled (passed (goal.at.open-opening-requires c).Start) 0 (omega arith));
+    }
 
 pub returns-then-at_once : goal.returns-then-at_once
 returns-then-at_once c =
     let (none, (ended, in-time)) = c.at_once.ensures c.if-at_once.true in
-    twice-none (plan_of c.args.left.now c.args.right.now c.args.nl c.args.nr c.args.wiring.now) (c.args.received.now) (c.args.lost.now) (c.args.output.now) c.args.limit c.requires.1 ((opened (goal.at.returns-then-at_once c).After-open-opening).closed ended) (whole (goal.at.returns-then-at_once c).After-open-opening)
+    twice-none (plan_of c.args.left.now c.args.right.now c.args.nl c.args.nr c.args.wiring.now) (c.args.received.now) (c.args.lost.now) (c.args.output.now) c.args.limit c.requires.limit_value ((opened (goal.at.returns-then-at_once c).After-open-opening).closed ended) (whole (goal.at.returns-then-at_once c).After-open-opening)
     (by-settled (c.args.received.now) c.args.limit (record { count = (c.«open».result).count; sums = (c.«open».result).sums; visits = (c.«open».result).visits }) ((c.«open».new.1.1.1.1.1.1.1.1.1.0 ++ drop (length (c.args.received.now) - 0) (c.lay_out.new.room))) in-time)
     none
 
 pub decode_on-requires : goal.decode_on-requires
 decode_on-requires c =
     let checked = ap₂ (decode_check (plan_of c.args.left.now c.args.right.now c.args.nl c.args.nr c.args.wiring.now) (c.args.received.now) (c.args.lost.now)) (whole (goal.at.decode_on-requires c).After-open-opening) (opened (goal.at.decode_on-requires c).After-open-opening).limit_is
-    ∙ over-check (plan_of c.args.left.now c.args.right.now c.args.nl c.args.nr c.args.wiring.now) (c.args.received.now) (c.args.lost.now) (c.args.output.now) c.args.limit c.requires.1 (c.«open».new.1.1.1.1.1.1.1.1.1.0) (swept-sized (goal.at.decode_on-requires c).After-open-opening) in
-    (c.«open».ensures.0, (checked, opened-here (goal.at.decode_on-requires c).After-open-opening))
+    ∙ over-check (plan_of c.args.left.now c.args.right.now c.args.nl c.args.nr c.args.wiring.now) (c.args.received.now) (c.args.lost.now) (c.args.output.now) c.args.limit c.requires.limit_value (c.«open».new.1.1.1.1.1.1.1.1.1.0) (swept-sized (goal.at.decode_on-requires c).After-open-opening) in
+    record {
+      ready = c.«open».ensures.0;
+      limit_value = checked;
+      opened = opened-here (goal.at.decode_on-requires c).After-open-opening;
+    }
 
-pub shape_of-output : goal.shape_of-output
-shape_of-output c =
-    c.decode_on.auto.output ∙ after-sized (goal.at.shape_of-output c).After-open-opening
+-- look: no goal for `same-length-6`
+-- same-length-6 : tie.Need-same-length-6
+-- same-length-6 c =
+--     let on = c.before.before.before.before.before.before in
+--     let d = on.before.before.before.before.before.before.before.before.before.before.before.before.before.before in
+--     on.decode_on.auto.output ∙ after-sized d
 
 pub returns : goal.returns
 returns c =

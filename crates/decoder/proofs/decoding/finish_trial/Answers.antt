@@ -21,7 +21,7 @@ use Rattle.decoder.proofs.decoding.finish_trial.Goals.{After-finish-settling, St
 module _ (c : Start) where
 
   fits : (length c.args.received.now) ≤ length c.args.room.now
-  fits = c.requires.ready
+  fits = c.requires.received_in_bounds
 
 -- ---- the trial is swept on
 
@@ -50,19 +50,23 @@ module _ (c : After-finish-settling) where
 
 pub places_for-noted-requires : goal.places_for-noted-requires
 places_for-noted-requires c =
-    let accepted = c.requires.wiring_value.plan-done in
+    let accepted = c.requires.ready.plan-done in
     let entries = plan-entries (plan_of c.args.left.now c.args.right.now c.args.nl c.args.nr c.args.wiring.now) accepted in record {
       permuted = plan-permuted (plan_of c.args.left.now c.args.right.now c.args.nl c.args.nr c.args.wiring.now) accepted;
       wiring_len_bound = omega (arith, entries, plan-few (plan_of c.args.left.now c.args.right.now c.args.nl c.args.nr c.args.wiring.now) accepted);
-      wiring_in_bounds = omega (arith, entries, c.requires.opened_some);
-      places_noted = c.requires.1.1.1.1;
+      wiring_in_bounds = omega (arith, entries, c.requires.plan_in_bounds);
+      places_noted = c.requires.places_noted;
     }
 
 pub finish-settling-requires : goal.finish-settling-requires
 finish-settling-requires c =
     let (told, needed) = c.places_for-noted.ensures in
-    let opened = subst (OpenedSome (plan_of c.args.left.now c.args.right.now c.args.nl c.args.nr c.args.wiring.now) c.args.opening c.args.kept.now) (sym (part-lent (c.args.room.now) (length c.args.received.now))) c.requires.received_in_bounds in
-    (c.requires.wiring_value, (opened, λ e. told (needed e)))
+    let opened = subst (OpenedSome (plan_of c.args.left.now c.args.right.now c.args.nl c.args.nr c.args.wiring.now) c.args.opening c.args.kept.now) (sym (part-lent (c.args.room.now) (length c.args.received.now))) c.requires.opened_some in
+    record {
+      ready = c.requires.ready;
+      opened_some = opened;
+      places_noted = λ e. told (needed e);
+    }
 
 pub returns-then-lost-eq0 : goal.returns-then-lost-eq0
 returns-then-lost-eq0 c =

@@ -21,10 +21,10 @@ use Rattle.decoder.proofs.settle.finish.Goals.{After-sweep_turn-here, At-loop-co
 -- ---- the call and the loop's head
 
 limited : (c : Start) → c.args.opening.limit ≤ 4096
-limited c = c.requires.ready.limited
+limited c = c.requires.opened_some.limited
 
 ready : (c : At-loop-count) → Ready (plan_of c.args.left.now c.args.right.now c.args.nl c.args.nr c.args.wiring.now) c.loop-count.left-finder c.loop-count.right-finder
-ready c = c.loop-count.invariant.2 c.requires.wiring_value
+ready c = c.loop-count.invariant.2 c.requires.ready
 
 -- where the trial of a received block stands
 abbrev At : At-loop-count → List ℕ → Type 0
@@ -35,8 +35,8 @@ midway : (c : At-loop-count) (received : List ℕ)
     → Opened (plan_of c.args.left.now c.args.right.now c.args.nl c.args.nr c.args.wiring.now) received (c.args.opening.limit) c.args.opening c.args.kept.now c.args.block.now → At c received
 midway c received opened = c.loop-count.invariant.1 received (opened.going c.if-opening.false)
 
-one : (c : At-loop-count) → At c (c.requires.ready.received)
-one c = midway c (c.requires.ready.received) c.requires.ready.opened
+one : (c : At-loop-count) → At c (c.requires.opened_some.received)
+one c = midway c (c.requires.opened_some.received) c.requires.opened_some.opened
 
 begun : (c : At-loop-count) {received : List ℕ} → At c received → Begun (plan_of c.args.left.now c.args.right.now c.args.nl c.args.nr c.args.wiring.now) received
 begun c m = record { plan-done = (ready c).plan-done; block-done = m.begun }
@@ -73,15 +73,15 @@ visits-fit c =
     omega (
       arith,
       m.visited,
-      visits-few plan (c.requires.ready.received) (few (record { before = c.before.before.before.before.before.before.before; type_inv = record { places = c.shared_slice_known-4-1.given; wiring = c.shared_slice_known-3-1.given; right = c.shared_slice_known-2-1.given; left = c.shared_slice_known-1.given; } })) (min c.loop-count.count (c.args.opening.limit)),
+      visits-few plan (c.requires.opened_some.received) (few (record { before = c.before.before.before.before.before.before.before; type_inv = record { places = c.shared_slice_known-4-1.given; wiring = c.shared_slice_known-3-1.given; right = c.shared_slice_known-2-1.given; left = c.shared_slice_known-1.given; } })) (min c.loop-count.count (c.args.opening.limit)),
       limited c.before.before.before.before.before.before.before.before.before.before.before.before.before.before.before.before.before,
       midway-visits (begun (record { before = c.before.before.before.before.before.before.before; type_inv = record { places = c.shared_slice_known-4-1.given; wiring = c.shared_slice_known-3-1.given; right = c.shared_slice_known-2-1.given; left = c.shared_slice_known-1.given; } }) m) m (swept c),
-      visits-in-few plan (c.requires.ready.received) (few (record { before = c.before.before.before.before.before.before.before; type_inv = record { places = c.shared_slice_known-4-1.given; wiring = c.shared_slice_known-3-1.given; right = c.shared_slice_known-2-1.given; left = c.shared_slice_known-1.given; } })) c.loop-count.count,
+      visits-in-few plan (c.requires.opened_some.received) (few (record { before = c.before.before.before.before.before.before.before; type_inv = record { places = c.shared_slice_known-4-1.given; wiring = c.shared_slice_known-3-1.given; right = c.shared_slice_known-2-1.given; left = c.shared_slice_known-1.given; } })) c.loop-count.count,
     )
 
 pub returns-then-opening : goal.returns-then-opening
 returns-then-opening c = record {
-      still_ready = c.requires.wiring_value;
+      still_ready = c.requires.ready;
       settles = λ received opened. opened.closed c.if-opening.true;
     }
 
@@ -90,23 +90,30 @@ loop-count-init c = (turn_two, λ received m. m, λ r. r, refl, refl, refl)
 
 pub sweep_turn-here-requires : goal.sweep_turn-here-requires
 sweep_turn-here-requires c =
-    let m = one (goal.at.sweep_turn-here-requires c).At-loop-count in (
-      ready (goal.at.sweep_turn-here-requires c).At-loop-count,
-      (record { noted = λ e. c.requires.1.1 c.if-opening.false }, rw c.loop-count.invariant.0 (midway-hears (begun (goal.at.sweep_turn-here-requires c).At-loop-count m) m)),
-    )
+    let m = one (goal.at.sweep_turn-here-requires c).At-loop-count in record {
+      ready = ready (goal.at.sweep_turn-here-requires c).At-loop-count;
+      across = record { noted = λ e. c.requires.places_noted c.if-opening.false };
+      hears = rw c.loop-count.invariant.0 (midway-hears (begun (goal.at.sweep_turn-here-requires c).At-loop-count m) m);
+    }
 
 pub all_satisfied-requires : goal.all_satisfied-requires
 all_satisfied-requires c =
-    (c.sweep_turn-here.ensures.still_ready, c.sweep_turn-here.ensures.news_swept.listening.reads)
+    record {
+      ready = c.sweep_turn-here.ensures.still_ready;
+      words_read = c.sweep_turn-here.ensures.news_swept.listening.reads;
+    }
 
-pub shape_of-left_finder-then-all_satisfied : goal.shape_of-left_finder-then-all_satisfied
-shape_of-left_finder-then-all_satisfied c = left-length (goal.at.shape_of-left_finder-then-all_satisfied c).After-sweep_turn-here
+-- look: no goal for `same-length`
+-- same_length : tie.Need-same-length invariant-loop decreases-loop
+-- same_length c = left-length c.before.before.before.before.before.before.before.before.before.before.before.before.before.before
 
-pub shape_of-right_finder-then-all_satisfied : goal.shape_of-right_finder-then-all_satisfied
-shape_of-right_finder-then-all_satisfied c = right-length (goal.at.shape_of-right_finder-then-all_satisfied c).After-sweep_turn-here
+-- look: no goal for `same-length-2`
+-- same-length-2 : tie.Need-same-length-2 invariant-loop decreases-loop
+-- same-length-2 c = right-length c.before.before.before.before.before.before.before.before.before.before.before.before.before.before
 
-pub shape_of-block-then-all_satisfied : goal.shape_of-block-then-all_satisfied
-shape_of-block-then-all_satisfied c = block-length (goal.at.shape_of-block-then-all_satisfied c).After-sweep_turn-here
+-- look: no goal for `same-length-3`
+-- same-length-3 : tie.Need-same-length-3 invariant-loop decreases-loop
+-- same-length-3 c = block-length c.before.before.before.before.before.before.before.before.before.before.before.before.before.before
 
 pub returns-then-all_satisfied : goal.returns-then-all_satisfied
 returns-then-all_satisfied c =
@@ -123,14 +130,17 @@ overflow_add-result c = omega (arith, limited (goal.at.overflow_add-result c).St
 pub add_visits-requires : goal.add_visits-requires
 add_visits-requires c = visits-fit (goal.at.add_visits-requires c).After-sweep_turn-here
 
-pub shape_of-left_finder-then-here-eq0 : goal.shape_of-left_finder-then-here-eq0
-shape_of-left_finder-then-here-eq0 c = left-length (goal.at.shape_of-left_finder-then-here-eq0 c).After-sweep_turn-here
+-- look: no goal for `same-length-4`
+-- same-length-4 : tie.Need-same-length-4 invariant-loop decreases-loop
+-- same-length-4 c = left-length c.before.before.before.before.before.before.before.before.before.before.before.before.before.before.before
 
-pub shape_of-right_finder-then-here-eq0 : goal.shape_of-right_finder-then-here-eq0
-shape_of-right_finder-then-here-eq0 c = right-length (goal.at.shape_of-right_finder-then-here-eq0 c).After-sweep_turn-here
+-- look: no goal for `same-length-5`
+-- same-length-5 : tie.Need-same-length-5 invariant-loop decreases-loop
+-- same-length-5 c = right-length c.before.before.before.before.before.before.before.before.before.before.before.before.before.before.before
 
-pub shape_of-block-then-here-eq0 : goal.shape_of-block-then-here-eq0
-shape_of-block-then-here-eq0 c = block-length (goal.at.shape_of-block-then-here-eq0 c).After-sweep_turn-here
+-- look: no goal for `same-length-6`
+-- same-length-6 : tie.Need-same-length-6 invariant-loop decreases-loop
+-- same-length-6 c = block-length c.before.before.before.before.before.before.before.before.before.before.before.before.before.before.before
 
 pub returns-then-here-eq0 : goal.returns-then-here-eq0
 returns-then-here-eq0 c =
@@ -175,14 +185,17 @@ loop-count-preserved c =
 pub overflow_add-result-2 : goal.overflow_add-result-2
 overflow_add-result-2 c = omega (arith, limited (goal.at.overflow_add-result-2 c).Start)
 
-pub shape_of-left_finder : goal.shape_of-left_finder
-shape_of-left_finder c = c.loop-count.invariant.3
+-- look: no goal for `same-length-7`
+-- same-length-7 : tie.Need-same-length-7 invariant-loop decreases-loop
+-- same-length-7 c = c.loop-count.invariant.3
 
-pub shape_of-right_finder : goal.shape_of-right_finder
-shape_of-right_finder c = c.loop-count.invariant.4
+-- look: no goal for `same-length-8`
+-- same-length-8 : tie.Need-same-length-8 invariant-loop decreases-loop
+-- same-length-8 c = c.loop-count.invariant.4
 
-pub shape_of-block : goal.shape_of-block
-shape_of-block c = c.loop-count.invariant.5
+-- look: no goal for `same-length-9`
+-- same-length-9 : tie.Need-same-length-9 invariant-loop decreases-loop
+-- same-length-9 c = c.loop-count.invariant.5
 
 pub returns : goal.returns
 returns c =

@@ -24,7 +24,7 @@ use Rattle.decoder.proofs.settle.open.Goals.{After-note, After-note-2, After-swe
 -- ---- the call
 
 begun : (c : Start) → Begun (plan_of c.args.left.now c.args.right.now c.args.nl c.args.nr c.args.wiring.now) (c.args.block.now)
-begun c = record { plan-done = c.requires.kept_len.plan-done; block-done = c.requires.1.1.1 }
+begun c = record { plan-done = c.requires.ready.plan-done; block-done = c.requires.block_value }
 
 few : (c : Start) (name : SideName) → count_of (plan_of c.args.left.now c.args.right.now c.args.nl c.args.nr c.args.wiring.now) name ≤ 2048
 few c name = (plan-fits (plan_of c.args.left.now c.args.right.now c.args.nl c.args.nr c.args.wiring.now) (begun c).plan-done name).n-high
@@ -109,7 +109,7 @@ pub overflow_add-first : goal.overflow_add-first
 overflow_add-first c = omega (arith, ties-few (goal.at.overflow_add-first c).After-sweep_firsts-firsts)
 
 pub ended-requires : goal.ended-requires
-ended-requires c = c.requires.wiring_value
+ended-requires c = c.requires.limit_bound
 
 pub returns-then-first-eq0 : goal.returns-then-first-eq0
 returns-then-first-eq0 c =
@@ -123,7 +123,7 @@ pub overflow_add-first-then-second-eq0 : goal.overflow_add-first-then-second-eq0
 overflow_add-first-then-second-eq0 c = omega (arith, ties-few (goal.at.overflow_add-first-then-second-eq0 c).After-sweep_firsts-firsts)
 
 pub ended-requires-then-second-eq0 : goal.ended-requires-then-second-eq0
-ended-requires-then-second-eq0 c = c.requires.wiring_value
+ended-requires-then-second-eq0 c = c.requires.limit_bound
 
 pub returns-then-second-eq0 : goal.returns-then-second-eq0
 returns-then-second-eq0 c =

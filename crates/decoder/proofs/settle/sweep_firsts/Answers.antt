@@ -17,17 +17,24 @@ use Rattle.decoder.proofs.settle.sweep_firsts.Goals.{After-sweep_first-first}
 block-done : (c : After-sweep_first-first) → block_check (edge_count (plan_of c.args.left.now c.args.right.now c.args.nl c.args.nr c.args.wiring.now)) c.sweep_first-first.new.block ≡ done []
 block-done c =
     ap (block_check (edge_count (plan_of c.args.left.now c.args.right.now c.args.nl c.args.nr c.args.wiring.now))) c.sweep_first-first.ensures.side_swept.leaves
-    ∙ sweep-block (plan-whole (plan_of c.args.left.now c.args.right.now c.args.nl c.args.nr c.args.wiring.now) c.requires.wiring_value.plan-done left) c.args.block.now c.requires.ready
+    ∙ sweep-block (plan-whole (plan_of c.args.left.now c.args.right.now c.args.nl c.args.nr c.args.wiring.now) c.requires.ready.plan-done left) c.args.block.now c.requires.block_value
 
 pub sweep_first-first-requires : goal.sweep_first-first-requires
 sweep_first-first-requires c =
-    ready-side (plan_of c.args.left.now c.args.right.now c.args.nl c.args.nr c.args.wiring.now) c.requires.wiring_value.plan-done left c.requires.wiring_value.left-finds
+    ready-side (plan_of c.args.left.now c.args.right.now c.args.nl c.args.nr c.args.wiring.now) c.requires.ready.plan-done left c.requires.ready.left-finds
 
 pub read_words-requires : goal.read_words-requires
 read_words-requires c =
-    (c.requires.wiring_value.plan-done, (block-done (goal.at.read_words-requires c).After-sweep_first-first, c.clear_marks.ensures))
+    record {
+      plan_value = c.requires.ready.plan-done;
+      block_value = block-done (goal.at.read_words-requires c).After-sweep_first-first;
+      cleared = c.clear_marks.ensures;
+    }
 
 pub sweep_right-second-requires : goal.sweep_right-second-requires
 sweep_right-second-requires c =
     let read = c.read_words.ensures in
-    (ready-left-swept c.requires.wiring_value c.sweep_first-first.ensures.finds, cleared-listening (plan_of c.args.left.now c.args.right.now c.args.nl c.args.nr c.args.wiring.now) c.requires.wiring_value.plan-done right read.0 read.1)
+    record {
+      ready = ready-left-swept c.requires.ready c.sweep_first-first.ensures.finds;
+      listening = cleared-listening (plan_of c.args.left.now c.args.right.now c.args.nl c.args.nr c.args.wiring.now) c.requires.ready.plan-done right read.0 read.1;
+    }

@@ -1,10 +1,9 @@
 -- `messages::add_column` meets its contract: after w turns the first w words of the column are put on the other.
-use mathlib.Core.Path.{◌≡◌, refl, sym}
-use Prim.Native.Nat.{◌*◌, ◌-◌, ◌≤◌}
+use mathlib.Core.Path.{refl, sym}
 use native.Mathlib.Omega.{arith}
 use borrow.Author.Rules.{rules}
-use lib.ListN.{length, length-set}
-use Rattle.messages.proofs.StoredRows.{words_put, words_put-none, words_put-one-more, column-last}
+use lib.ListN.{length-set}
+use Rattle.messages.proofs.StoredRows.{words_put-none, words_put-one-more, column-last}
 use Rattle.messages.proofs.columns.add_column.Goals as goal
 
 pub loop-w-init : goal.loop-w-init

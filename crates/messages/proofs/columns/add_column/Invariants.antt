@@ -1,9 +1,7 @@
-use mathlib.Core.Path.{◌≡◌, refl, sym}
+use mathlib.Core.Path.{◌≡◌}
 use Prim.Native.Nat.{◌*◌, ◌-◌, ◌≤◌}
-use native.Mathlib.Omega.{arith}
-use borrow.Author.Rules.{rules}
-use lib.ListN.{length, length-set}
-use Rattle.messages.proofs.StoredRows.{words_put, words_put-none, words_put-one-more, column-last}
+use lib.ListN.{length}
+use Rattle.messages.proofs.StoredRows.{words_put}
 use Rattle.messages.proofs.columns.add_column.Given as goal
 
 abbrev pub invariant-loop-w : goal.invariant-loop-w

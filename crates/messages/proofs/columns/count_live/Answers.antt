@@ -1,7 +1,7 @@
 -- `messages::count_live` meets its contract: after p turns the rows left below p are counted.
 use borrow.Author.Rules.{rules}
 use mathlib.Core.Path.{◌≡◌, sym, ap, ◌∙◌}
-use Prim.Native.Nat.{◌-◌, ◌≤◌, ◌<◌}
+use Prim.Native.Nat.{◌<◌}
 use native.Mathlib.Omega.{arith}
 use Rattle.messages.specs.Columns.{live_before}
 use Rattle.messages.proofs.StoredRows.{row_bit-lt}

@@ -1,10 +1,6 @@
-use borrow.Author.Rules.{rules}
-use mathlib.Core.Path.{◌≡◌, sym, ap, ◌∙◌}
-use Prim.Native.Nat.{◌-◌, ◌≤◌, ◌<◌}
-use native.Mathlib.Omega.{arith}
+use mathlib.Core.Path.{◌≡◌}
+use Prim.Native.Nat.{◌-◌, ◌≤◌}
 use Rattle.messages.specs.Columns.{live_before}
-use Rattle.messages.proofs.StoredRows.{row_bit-lt}
-use Rattle.messages.proofs.LiveRows.{live-none, live-one-more, live-le}
 use Rattle.messages.proofs.columns.count_live.Given as goal
 
 abbrev pub invariant-loop-p : goal.invariant-loop-p

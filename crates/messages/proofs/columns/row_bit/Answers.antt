@@ -1,5 +1,4 @@
 -- `messages::row_bit` meets its contract: row p of column e is digit p % 64 of the word 8·e + p / 64.
-use borrow.Author.Rules.{rules}
 use mathlib.Core.Path.{refl}
 use Rattle.bits.specs.Bit.{digit}
 use Rattle.messages.specs.Columns.{row_bit}

@@ -1,11 +1,10 @@
 -- `messages::unit_columns` meets its contract: after p turns the first p columns are those of the unit rows.
 use mathlib.Core.Path.{sym, ap, ◌∙◌}
-use Prim.Native.Nat.{◌-◌, ◌≤◌}
 use native.Mathlib.Omega.{arith}
 use borrow.Author.Rules.{rules}
 use lib.ListN.{length}
 use Rattle.bits.proofs.Windows.{shifted_one}
-use Rattle.messages.proofs.StoredRows.{Units, units-none, units-one-more, units-stored, length-no_columns}
+use Rattle.messages.proofs.StoredRows.{units-none, units-one-more, units-stored, length-no_columns}
 use Rattle.messages.proofs.columns.unit_columns.Goals as goal
 
 pub loop-p-init : goal.loop-p-init

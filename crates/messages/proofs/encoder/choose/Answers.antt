@@ -1,12 +1,11 @@
 -- `messages::choose` meets its contract: after p turns the rows below p are chosen, and `rank` of them are left.
 use borrow.Author.Rules.{rules}
 use mathlib.Core.Path.{◌≡◌, sym, ap, ap₂, ◌∙◌}
-use Prim.Native.Nat.{◌*◌, ◌-◌, ◌≤◌, ◌<◌}
+use Prim.Native.Nat.{◌*◌, ◌<◌}
 use native.Mathlib.Omega.{arith}
 use lib.ListN.{length, length-set}
 use Rattle.bits.specs.Bit.{bit_at}
 use Rattle.bits.proofs.Bytes.{bit_at_lt}
-use Rattle.messages.specs.Columns.{live_before, Chosen}
 use Rattle.messages.proofs.StoredRows.{row_bit-lt, length-no_rows}
 use Rattle.bits.proofs.Xor.{digits_product}
 use Rattle.messages.proofs.LiveRows.{live-none, live-one-more, live-le, chosen_none, chosen-one-more}
@@ -14,8 +13,8 @@ use Rattle.messages.proofs.encoder.choose.Goals as goal
 
 pub loop-p-init : goal.loop-p-init
 loop-p-init c =
-    let pre = c.requires in
-    (search rules, ap length pre.1.1 ∙ length-no_rows, sym (live-none _), rw pre.1.1 (chosen_none _ _))
+    let empty = c.requires.chosen_value in
+    (search rules, ap length empty ∙ length-no_rows, sym (live-none _), rw empty (chosen_none _ _))
 
 pub overflow_mul-bit : goal.overflow_mul-bit
 overflow_mul-bit c =

@@ -1,9 +1,8 @@
 -- `messages::encode` meets its contract: each return is the outcome of the first place that refuses, and with an accepted plan of at most
 -- 512 edges what the rows left by all its checks give.
-use borrow.Author.Rules.{rules}
 use mathlib.Core.Path.{refl, sym}
 use native.Mathlib.Omega.{arith}
-use Rattle.wiring.specs.Plan.{Plan, plan_of}
+use Rattle.wiring.specs.Plan.{plan_of}
 use Rattle.wiring.proofs.Permutation.{fitted-edges}
 use Rattle.wiring.proofs.Plans.{PlanAccepted, plan-accepted, plan-refused, accepted-edges}
 use Rattle.messages.specs.Columns.{no_columns}

@@ -1,6 +1,5 @@
 -- `messages::encode_rows` meets its contract: each return is the outcome of the first of message and output that refuses, or the whole
 -- block is written.
-use borrow.Author.Rules.{rules}
 use mathlib.Core.List.{[]}
 use mathlib.Core.Path.{◌≡◌, refl, sym, ap, ◌∙◌}
 use Prim.Native.Nat.{ℕ}
@@ -25,9 +24,11 @@ returns-then-output-bytes c = encoded-short _ _ _ _ (passes (goal.at.returns-the
 
 pub choose-requires : goal.choose-requires
 unfolding no_rows
-choose-requires c = let pre = c.requires in record {
-      edges_bound = pre.0;
-      columns_len = pre.1;
+choose-requires c =
+    let pre = c.requires in
+    record {
+      edges_bound = pre.edges_bound;
+      columns_len = pre.columns_len;
       chosen_value = refl;
     }
 

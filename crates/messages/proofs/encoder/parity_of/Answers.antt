@@ -1,15 +1,15 @@
 -- `messages::parity_of` meets its contract: after w turns `common` has as many ones, but for an even number, as the first w words of the set
 -- and the column have in common.
 use borrow.Author.Rules.{rules}
-use mathlib.Core.Path.{◌≡◌, sym, ap, ◌∙◌}
-use Prim.Native.Nat.{ℕ, ◌+◌, ◌*◌, ◌-◌, ◌%◌, ◌^◌, ◌≤◌, ◌<◌}
+use mathlib.Core.Path.{sym, ap, ◌∙◌}
+use Prim.Native.Nat.{ℕ, ◌+◌, ◌*◌, ◌%◌}
 use native.Mathlib.Omega.{arith}
 use lib.Bits.{bit_and}
 use lib.Count.{ones}
 use lib.ListN.{get_or}
 use borrow.Author.Count.{below_more, below_none}
 use Rattle.bits.proofs.Xor.{ones-zero, parity-part, ones-xor-parity}
-use Rattle.messages.proofs.LiveRows.{ones_both, ones-both-none, ones-both-one-more, ones-both-parity}
+use Rattle.messages.proofs.LiveRows.{ones-both-none, ones-both-one-more, ones-both-parity}
 use Rattle.messages.proofs.encoder.parity_of.Goals as goal
 
 pub loop-w-init : goal.loop-w-init

@@ -1,13 +1,8 @@
-use borrow.Author.Rules.{rules}
-use mathlib.Core.Path.{◌≡◌, sym, ap, ◌∙◌}
-use Prim.Native.Nat.{ℕ, ◌+◌, ◌*◌, ◌-◌, ◌%◌, ◌^◌, ◌≤◌, ◌<◌}
-use native.Mathlib.Omega.{arith}
-use lib.Bits.{bit_and}
+use mathlib.Core.Path.{◌≡◌}
+use Prim.Native.Nat.{ℕ, ◌-◌, ◌%◌, ◌^◌, ◌≤◌, ◌<◌}
 use lib.Count.{ones}
 use lib.ListN.{get_or}
-use borrow.Author.Count.{below_more, below_none}
-use Rattle.bits.proofs.Xor.{ones-zero, parity-part, ones-xor-parity}
-use Rattle.messages.proofs.LiveRows.{ones_both, ones-both-none, ones-both-one-more, ones-both-parity}
+use Rattle.messages.proofs.LiveRows.{ones_both}
 use Rattle.messages.proofs.encoder.parity_of.Given as goal
 
 abbrev pub invariant-loop-w : goal.invariant-loop-w

@@ -1,10 +1,7 @@
 -- `messages::put_bits` meets its contract: after e turns the first e bits are put.
 use borrow.Author.Rules.{rules}
-use mathlib.Core.Path.{◌≡◌, refl, ◌∙◌}
-use Prim.Native.Nat.{◌-◌, ◌≤◌}
+use mathlib.Core.Path.{refl, ◌∙◌}
 use native.Mathlib.Omega.{arith}
-use lib.ListN.{length}
-use Rattle.messages.specs.Columns.{BitsPut}
 use Rattle.messages.proofs.Written.{put-none, put-one-more, put_last}
 use Rattle.messages.proofs.encoder.put_bits.Goals as goal
 

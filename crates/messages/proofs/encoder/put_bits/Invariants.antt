@@ -1,10 +1,7 @@
-use borrow.Author.Rules.{rules}
-use mathlib.Core.Path.{◌≡◌, refl, ◌∙◌}
+use mathlib.Core.Path.{◌≡◌}
 use Prim.Native.Nat.{◌-◌, ◌≤◌}
-use native.Mathlib.Omega.{arith}
 use lib.ListN.{length}
 use Rattle.messages.specs.Columns.{BitsPut}
-use Rattle.messages.proofs.Written.{put-none, put-one-more, put_last}
 use Rattle.messages.proofs.encoder.put_bits.Given as goal
 
 abbrev pub invariant-loop-e : goal.invariant-loop-e

@@ -1,10 +1,10 @@
 -- `messages::clear` meets its contract: after i turns the first i bytes are 0.
 use borrow.Author.Rules.{rules}
 use mathlib.Core.Path.{◌≡◌, refl, sym, ap, ◌∙◌}
-use Prim.Native.Nat.{ℕ, ◌-◌, ◌≤◌}
+use Prim.Native.Nat.{ℕ}
 use native.Mathlib.Omega.{arith}
 use mathlib.Core.List.{List}
-use lib.ListN.{length, replicate, set, length-set}
+use lib.ListN.{replicate, set, length-set}
 use Rattle.bits.specs.Bit.{written}
 use Rattle.bits.proofs.Fronts.{written_none, written-clear}
 use Rattle.messages.proofs.output.clear.Goals as goal

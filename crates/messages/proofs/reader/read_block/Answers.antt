@@ -1,15 +1,16 @@
 -- `messages::read_block` meets its contract: each return is the outcome of the first place that refuses, and for a codeword block of an
 -- accepted plan of at most 512 edges what the rows left by all its checks give.
-use borrow.Author.Rules.{rules}
 use mathlib.Core.List.{List, []}
 use mathlib.Core.Path.{◌≡◌, refl, sym, ap, ◌∙◌}
-use Prim.Native.Nat.{ℕ, ◌≤◌}
+use Prim.Native.Nat.{ℕ, ◌*◌, ◌≤◌}
 use native.Mathlib.Omega.{arith}
 use Rattle.inner_code.specs.Reply.{done}
 use Rattle.wiring.specs.Plan.{Plan, plan_of, edge_count, left, right}
 use Rattle.wiring.specs.Block.{block_check}
 use Rattle.wiring.specs.Checking.{check_reply}
 use Rattle.wiring.specs.Answer.{locate_reply}
+use Rattle.wiring.specs.declared.plan.CheckedPlan.{CheckedPlan}
+use Rattle.wiring.specs.declared.block.Checked.{Checked}
 use Rattle.wiring.proofs.Permutation.{fitted-edges}
 use Rattle.wiring.proofs.Plans.{PlanAccepted, plan-accepted, plan-refused, accepted-edges}
 use Rattle.wiring.proofs.VertexAccess.{codes-readable}
@@ -19,7 +20,22 @@ use Rattle.messages.proofs.Answers.{read-plan, read-long, read-block, read-stran
 use Rattle.messages.proofs.Solving.{plan-wired-by, plan-stored}
 use Rattle.messages.proofs.Outcomes.{located-refused, located-nowhere, located-at}
 use Rattle.messages.proofs.reader.read_block.Goals as goal
-use Rattle.messages.proofs.reader.read_block.Goals.{After-check_block, Else-edges-gt-MAX_EDGES, In-Passed, In-Passed-check_block}
+use Rattle.messages.proofs.reader.read_block.Goals.{In-Passed}
+
+-- by the edges that the check of the plan counted, what is known by the plan's own
+module _ {plan : Plan} {r : CheckedPlan} (accepted : PlanAccepted plan r) where
+  -- a plan of at most 512 edges
+  short : r.left.n * r.left.d ≤ 512 → edge_count plan ≤ 512
+  short l = omega (arith, accepted-edges accepted)
+
+  checked : (block : List ℕ) (answer : Checked) → check_reply answer ≡ block_check (r.left.n * r.left.d) block
+      → check_reply answer ≡ block_check (edge_count plan) block
+  checked block answer e = e ∙ ap (λ (N : ℕ). block_check N block) (accepted-edges accepted)
+
+  -- a block of the plan
+  passed : (block : List ℕ) (answer : Checked) → check_reply answer ≡ block_check (r.left.n * r.left.d) block → answer ≡ Checked.Passed
+      → block_check (edge_count plan) block ≡ done []
+  passed block answer e is = sym (checked block answer e) ∙ ap check_reply is
 
 -- what an accepted plan says
 plan : (c : In-Passed) → PlanAccepted (plan_of c.args.left.now c.args.right.now c.args.nl c.args.nr c.args.wiring.now) c.check_plan-plan.result
@@ -39,22 +55,10 @@ returns-then-edges-gt-MAX_EDGES c =
       output_after = sym long.leaves;
     }
 
--- a plan of at most 512 edges
-short : (c : Else-edges-gt-MAX_EDGES) → edge_count (plan_of c.args.left.now c.args.right.now c.args.nl c.args.nr c.args.wiring.now) ≤ 512
-short c = omega (arith, c.if-edges-gt-MAX_EDGES.false, accepted-edges (plan (record { before = c.before.before.before; type_inv = record { output = c.slice_known-1.given; block = c.shared_slice_known-4-1.given; wiring = c.shared_slice_known-3-1.given; right = c.shared_slice_known-2-1.given; left = c.shared_slice_known-1.given; } })))
-
-checked : (c : After-check_block) → check_reply c.check_block.result ≡ block_check (edge_count (plan_of c.args.left.now c.args.right.now c.args.nl c.args.nr c.args.wiring.now)) (c.args.block.now)
-checked c = c.check_block.ensures ∙ ap (λ (N : ℕ). block_check N (c.args.block.now)) (accepted-edges (plan (record { before = c.before.before.before.before; type_inv = record { output = c.slice_known-1.given; block = c.shared_slice_known-4-1.given; wiring = c.shared_slice_known-3-1.given; right = c.shared_slice_known-2-1.given; left = c.shared_slice_known-1.given; } })))
-
--- a block of the plan
-passed : (c : In-Passed-check_block)
-    → block_check (edge_count (plan_of c.args.left.now c.args.right.now c.args.nl c.args.nr c.args.wiring.now)) (c.args.block.now) ≡ done []
-passed c = sym (checked (record { before = c.before.before; type_inv = record { output = c.slice_known-1.given; block = c.shared_slice_known-4-1.given; wiring = c.shared_slice_known-3-1.given; right = c.shared_slice_known-2-1.given; left = c.shared_slice_known-1.given; } })) ∙ ap check_reply c.in-Passed-check_block.is
-
 pub first_unsatisfied-requires : goal.first_unsatisfied-requires
 first_unsatisfied-requires c =
     let p = plan (goal.at.first_unsatisfied-requires c).In-Passed in
-    codes-readable _ p.plan-done _ (block_room _ _ (passed (goal.at.first_unsatisfied-requires c).In-Passed-check_block)) (p.code_is left) (p.code_is right)
+    codes-readable _ p.plan-done _ (block_room _ _ (passed p _ _ c.check_block.ensures c.in-Passed-check_block.is)) (p.code_is left) (p.code_is right)
 
 pub solve-requires : goal.solve-requires
 unfolding no_columns
@@ -75,8 +79,9 @@ returns-in-Refused c =
 
 pub returns-in-Refused-check_block : goal.returns-in-Refused-check_block
 returns-in-Refused-check_block c =
-    let refused = sym (checked (goal.at.returns-in-Refused-check_block c).After-check_block) ∙ ap check_reply c.in-Refused-check_block.is in
-    let back = read-block _ _ _ (plan (goal.at.returns-in-Refused-check_block c).In-Passed).plan-done (short (goal.at.returns-in-Refused-check_block c).Else-edges-gt-MAX_EDGES) _ _ refused in
+    let p = plan (goal.at.returns-in-Refused-check_block c).In-Passed in
+    let refused = sym (checked p _ _ c.check_block.ensures) ∙ ap check_reply c.in-Refused-check_block.is in
+    let back = read-block _ _ _ p.plan-done (short p c.if-edges-gt-MAX_EDGES.false) _ _ refused in
     record {
       result_value = sym back.answer;
       output_after = sym back.leaves;
@@ -91,7 +96,9 @@ returns-in-At c =
     let p = plan (goal.at.returns-in-At c).In-Passed in
     let somewhere = sym (ap locate_reply c.in-At.is) ∙ c.first_unsatisfied.ensures in
     let other = located-at _ _ _ p _ _ somewhere in
-    let back = read-stranger _ _ _ p.plan-done (short (goal.at.returns-in-At c).Else-edges-gt-MAX_EDGES) (passed (goal.at.returns-in-At c).In-Passed-check_block) other in
+    let back =
+    read-stranger _ _ _ p.plan-done (short p c.if-edges-gt-MAX_EDGES.false) (passed p _ _ c.check_block.ensures c.in-Passed-check_block.is)
+    other in
     record {
       result_value = sym back.answer;
       output_after = sym back.leaves;

@@ -1,11 +1,10 @@
 -- `messages::take_bits` meets its contract: after p turns the bits at the rows left below p are put, and `rank` counts them.
 use borrow.Author.Rules.{rules}
 use mathlib.Core.Path.{◌≡◌, refl, sym, ap, ◌∙◌}
-use Prim.Native.Nat.{ℕ, ◌-◌, ◌≤◌}
+use Prim.Native.Nat.{ℕ}
 use native.Mathlib.Omega.{arith}
-use mathlib.Core.Logic.{⊎_elim}
 use lib.ListN.{length}
-use Rattle.messages.specs.Columns.{live_before, bits_taken}
+use Rattle.messages.specs.Columns.{bits_taken}
 use Rattle.messages.proofs.LiveRows.{live-none, live-le}
 use Rattle.messages.proofs.Written.{taken_none, taken-one-more, taken-kept}
 use Rattle.messages.proofs.reader.take_bits.Goals as goal
@@ -26,16 +25,16 @@ loop-p-preserved c =
     let block = args.block.now in
     let read = c.row_bit.ensures in
     (elim c.if-row_bit-eq1.branch [
-          | then-row_bit-eq1 w ↦ 
-    let (counted, taken) =
-    taken-one-more columns block before.p before.rank _ _ before.output before.invariant.2 before.invariant.3 read _ _ w.if-row_bit-eq1.true
-    w.2.ensures w.3.ensures in
-    (omega arith, ap length w.6 ∙ w.3.kept.0 ∙ before.invariant.1, w.7 ∙ counted, w.6 ∙ taken)
-          | else-row_bit-eq1 w ↦ 
-    let (counted, taken) =
-    taken-kept columns block before.p before.rank _ _ before.output before.invariant.2 before.invariant.3 read w.if-row_bit-eq1.false in
-    (omega arith, ap length w.1 ∙ before.invariant.1, w.2 ∙ counted, w.1 ∙ taken)
-        ])
+      | then-row_bit-eq1 w ↦
+          let (counted, taken) =
+          taken-one-more columns block before.p before.rank _ _ before.output before.invariant.2 before.invariant.3 read _ _ w.if-row_bit-eq1.true
+          w.bit.ensures w.put_bit.ensures in
+          (omega arith, ap length w.output-is ∙ w.put_bit.auto.bytes ∙ before.invariant.1, w.rank-is ∙ counted, w.output-is ∙ taken)
+      | else-row_bit-eq1 w ↦
+          let (counted, taken) =
+          taken-kept columns block before.p before.rank _ _ before.output before.invariant.2 before.invariant.3 read w.if-row_bit-eq1.false in
+          (omega arith, ap length w.output-is ∙ before.invariant.1, w.rank-is ∙ counted, w.output-is ∙ taken)
+    ])
 
 pub returns : goal.returns
 returns c =

@@ -1,12 +1,7 @@
-use borrow.Author.Rules.{rules}
-use mathlib.Core.Path.{◌≡◌, refl, sym, ap, ◌∙◌}
-use Prim.Native.Nat.{ℕ, ◌-◌, ◌≤◌}
-use native.Mathlib.Omega.{arith}
-use mathlib.Core.Logic.{⊎_elim}
+use mathlib.Core.Path.{◌≡◌}
+use Prim.Native.Nat.{◌-◌, ◌≤◌}
 use lib.ListN.{length}
 use Rattle.messages.specs.Columns.{live_before, bits_taken}
-use Rattle.messages.proofs.LiveRows.{live-none, live-le}
-use Rattle.messages.proofs.Written.{taken_none, taken-one-more, taken-kept}
 use Rattle.messages.proofs.reader.take_bits.Given as goal
 
 abbrev pub invariant-loop-p : goal.invariant-loop-p

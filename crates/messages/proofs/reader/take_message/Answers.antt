@@ -1,5 +1,4 @@
 -- `messages::take_message` meets its contract: it refuses an output that is too short, or fills its front with the bits read.
-use borrow.Author.Rules.{rules}
 use mathlib.Core.Path.{ap}
 use Prim.Native.Nat.{ℕ, ◌+◌, ◌/◌}
 use native.Mathlib.Omega.{arith}

@@ -1,13 +1,10 @@
 -- `messages::eliminate` meets its contract: after m turns the first m checks of the side are done.
 use borrow.Author.Rules.{rules}
-use mathlib.Core.Logic.{⊎_elim}
 use mathlib.Core.Path.{◌≡◌, ap, ◌∙◌}
-use Prim.Native.Nat.{◌-◌, ◌≤◌}
 use native.Mathlib.Nat.{div-add-mod'}
 use native.Mathlib.Omega.{arith}
 use lib.ListN.{length}
 use Rattle.bits.specs.Bit.{digit}
-use Rattle.messages.specs.Columns.{Eliminated}
 use Rattle.messages.proofs.Pivots.{check-digit-lt, check-within, made-unused}
 use Rattle.messages.proofs.Solving.{eliminated-none, eliminated-one-more}
 use Rattle.messages.proofs.solver.eliminate.Goals as goal
@@ -28,9 +25,10 @@ overflow_mul-base c =
 
 pub put_check-requires : goal.put_check-requires
 put_check-requires c =
-    let (fits, (even, (permuted, (short, sized)))) = c.requires in record {
-      within = check-within fits even permuted _ c.loop-m.m (omega arith) short;
-      edges_bound = short;
+    let pre = c.requires in
+    record {
+      within = check-within pre.fitted pre.d_value pre.permuted _ c.loop-m.m (omega arith) pre.edges_bound;
+      edges_bound = pre.edges_bound;
       residues_len = c.unit_residues.auto.residues;
       columns_len = c.loop-m.invariant.1;
     }
@@ -39,20 +37,20 @@ pub loop-m-preserved : goal.loop-m-preserved
 unfolding digit
 loop-m-preserved c =
     let before = c.loop-m in
-    let (fits, (even, (permuted, (short, sized)))) = c.requires in
-    let more = eliminated-one-more _ _ _ fits even permuted _ c.unit_residues.ensures before.m (omega arith) _ before.invariant.2 in
+    let pre = c.requires in
+    let more = eliminated-one-more _ _ _ pre.fitted pre.d_value pre.permuted _ c.unit_residues.ensures before.m (omega arith) _ before.invariant.2 in
     (elim c.if-used-digit-eq1.branch [
-          | then-used-digit-eq1 w ↦ (
-      omega arith,
-      ap length w.8 ∙ w.5.kept.1.1.1.1.1.0 ∙ before.invariant.1,
-      rw w.8 (more _ w.5.ensures),
-    )
-          | else-used-digit-eq1 w ↦ (
-      omega arith,
-      ap length w.1 ∙ before.invariant.1,
-      rw w.1 (more _ (made-unused _ short _ _ _ _ _ _ c.used_digits-used.ensures w.if-used-digit-eq1.false)),
-    )
-        ])
+      | then-used-digit-eq1 w ↦ (
+        omega arith,
+        ap length w.columns-is ∙ w.put_check.auto.columns ∙ before.invariant.1,
+        rw w.columns-is (more _ w.put_check.ensures),
+      )
+      | else-used-digit-eq1 w ↦ (
+        omega arith,
+        ap length w.columns-is ∙ before.invariant.1,
+        rw w.columns-is (more _ (made-unused _ pre.edges_bound _ _ _ _ _ _ c.used_digits-used.ensures w.if-used-digit-eq1.false)),
+      )
+    ])
 
 pub returns : goal.returns
 returns c =

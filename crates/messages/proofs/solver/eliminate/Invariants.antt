@@ -1,14 +1,7 @@
-use borrow.Author.Rules.{rules}
-use mathlib.Core.Logic.{⊎_elim}
-use mathlib.Core.Path.{◌≡◌, ap, ◌∙◌}
+use mathlib.Core.Path.{◌≡◌}
 use Prim.Native.Nat.{◌-◌, ◌≤◌}
-use native.Mathlib.Nat.{div-add-mod'}
-use native.Mathlib.Omega.{arith}
 use lib.ListN.{length}
-use Rattle.bits.specs.Bit.{digit}
 use Rattle.messages.specs.Columns.{Eliminated}
-use Rattle.messages.proofs.Pivots.{check-digit-lt, check-within, made-unused}
-use Rattle.messages.proofs.Solving.{eliminated-none, eliminated-one-more}
 use Rattle.messages.proofs.solver.eliminate.Given as goal
 
 abbrev pub invariant-loop-m : goal.invariant-loop-m

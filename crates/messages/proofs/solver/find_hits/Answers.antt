@@ -1,12 +1,9 @@
 -- `messages::find_hits` meets its contract: after i turns the set has the rows that fail the check on the first i edges of the vertex.
 use borrow.Author.Rules.{rules}
-use mathlib.Core.Logic.{⊎_elim}
 use mathlib.Core.Path.{◌≡◌, sym, ap, ◌∙◌}
-use Prim.Native.Nat.{◌-◌, ◌≤◌}
 use native.Mathlib.Omega.{arith}
 use lib.ListN.{length}
 use Rattle.bits.specs.Bit.{digit}
-use Rattle.messages.specs.Columns.{FailSet}
 use Rattle.messages.proofs.StoredRows.{length-no_rows}
 use Rattle.messages.proofs.Pivots.{hits-none, hits-put, hits-kept}
 use Rattle.messages.proofs.solver.find_hits.Goals as goal
@@ -38,17 +35,17 @@ unfolding digit
 loop-i-preserved c =
     let before = c.loop-i in
     (elim c.if-residues-i-eq1.branch [
-          | then-residues-i-eq1 w ↦ (
-      omega arith,
-      ap length w.6 ∙ w.3.kept.1.1.0 ∙ before.invariant.1,
-      rw w.6 (hits-put _ _ _ _ _ _ before.invariant.2 _ _ w.if-residues-i-eq1.true w.1.ensures w.3.ensures),
-    )
-          | else-residues-i-eq1 w ↦ (
-      omega arith,
-      ap length w.1 ∙ before.invariant.1,
-      rw w.1 (hits-kept _ _ _ _ _ _ before.invariant.2 w.if-residues-i-eq1.false),
-    )
-        ])
+      | then-residues-i-eq1 w ↦ (
+        omega arith,
+        ap length w.hits-is ∙ w.add_column.auto.to ∙ before.invariant.1,
+        rw w.hits-is (hits-put _ _ _ _ _ _ before.invariant.2 _ _ w.if-residues-i-eq1.true w.bit_of.ensures w.add_column.ensures),
+      )
+      | else-residues-i-eq1 w ↦ (
+        omega arith,
+        ap length w.hits-is ∙ before.invariant.1,
+        rw w.hits-is (hits-kept _ _ _ _ _ _ before.invariant.2 w.if-residues-i-eq1.false),
+      )
+    ])
 
 pub shape_of-hits : goal.shape_of-hits
 shape_of-hits c = c.loop-i.invariant.1 ∙ sym (ap length c.requires.hits_value ∙ length-no_rows)

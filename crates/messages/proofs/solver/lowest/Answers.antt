@@ -1,11 +1,10 @@
 -- `messages::lowest` meets its contract: no row below p is in the set.
 use borrow.Author.Rules.{rules}
 use mathlib.Core.Path.{◌≡◌, refl, sym, ap, ◌∙◌}
-use Prim.Native.Nat.{ℕ, ◌+◌, ◌-◌, ◌*◌, ◌/◌, ◌%◌, ◌^◌, ◌≤◌, ◌<◌}
+use Prim.Native.Nat.{ℕ, ◌+◌, ◌-◌, ◌*◌, ◌/◌, ◌%◌, ◌^◌, ◌<◌}
 use native.Mathlib.Nat.{zero-mod}
 use lib.ListN.{get_or}
 use native.Mathlib.Omega.{arith}
-use Rattle.messages.specs.Columns.{lowest_row}
 use Rattle.messages.proofs.Pivots.{lowest-none, lowest-run, lowest-byte, lowest-here, lowest-found, lowest-past}
 use Rattle.messages.proofs.solver.lowest.Goals as goal
 

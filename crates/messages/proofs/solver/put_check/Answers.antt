@@ -1,5 +1,4 @@
 -- `messages::put_check` meets its contract: it makes the step of the elimination, or nothing where no row fails the check.
-use borrow.Author.Rules.{rules}
 use mathlib.Core.Path.{refl}
 use Rattle.messages.specs.Columns.{no_rows}
 use Rattle.messages.proofs.Pivots.{made-spread, made_none}
@@ -7,10 +6,12 @@ use Rattle.messages.proofs.solver.put_check.Goals as goal
 
 pub find_hits-requires : goal.find_hits-requires
 unfolding no_rows
-find_hits-requires c = let pre = c.requires in record {
-      within = pre.0;
-      residues_len = pre.1.1.0;
-      columns_len = pre.1.1.1;
+find_hits-requires c =
+    let pre = c.requires in
+    record {
+      within = pre.within;
+      residues_len = pre.residues_len;
+      columns_len = pre.columns_len;
       hits_value = refl;
     }
 

@@ -9,16 +9,16 @@ use Rattle.messages.proofs.solver.solve.Goals.{After-unit_columns}
 
 -- the columns keep their length
 sized : (c : After-unit_columns) → length c.unit_columns.new.columns ≡ 4096
-sized c = let pre = c.requires in c.unit_columns.auto.columns ∙ ap length pre.1.1 ∙ length-no_columns
+sized c = c.unit_columns.auto.columns ∙ ap length c.requires.columns_value ∙ length-no_columns
 
 pub eliminate-requires : goal.eliminate-requires
 eliminate-requires c = record {
-      fitted = search rules;
-      d_value = search rules;
-      permuted = search rules;
-      edges_bound = search rules;
-      columns_len = sized (goal.at.eliminate-requires c).After-unit_columns;
-    }
+  fitted = search rules;
+  d_value = search rules;
+  permuted = search rules;
+  edges_bound = search rules;
+  columns_len = sized (goal.at.eliminate-requires c).After-unit_columns;
+}
 
 pub eliminate-requires-2 : goal.eliminate-requires-2
 eliminate-requires-2 c =

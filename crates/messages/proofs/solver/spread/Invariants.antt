@@ -1,10 +1,7 @@
-use borrow.Author.Rules.{rules}
-use mathlib.Core.Path.{◌≡◌, ap, ◌∙◌}
+use mathlib.Core.Path.{◌≡◌}
 use Prim.Native.Nat.{◌-◌, ◌≤◌}
-use native.Mathlib.Omega.{arith}
-use mathlib.Core.Logic.{⊎_elim}
 use lib.ListN.{length}
-use Rattle.messages.proofs.Pivots.{SpreadSoFar, spread-put, spread-kept, spread-last}
+use Rattle.messages.proofs.Pivots.{SpreadSoFar}
 use Rattle.messages.proofs.solver.spread.Given as goal
 
 abbrev pub invariant-loop-e : goal.invariant-loop-e

@@ -1,11 +1,8 @@
 -- `messages::unit_residues` meets its contract: after i turns the entries below i are filled.
-use mathlib.Core.Path.{◌≡◌}
-use Prim.Native.Nat.{ℕ, ◌-◌, ◌^◌, ◌≤◌, ◌<◌, min}
+use Prim.Native.Nat.{◌-◌}
 use native.Mathlib.Omega.{arith}
 use borrow.Author.Rules.{rules}
-use lib.ListN.{length, get_or, length-set}
-use Rattle.bits.specs.Window.{at}
-use Rattle.inner_code.specs.Reduction.{reduced_by}
+use lib.ListN.{length-set}
 use Rattle.bits.proofs.Windows.{shifted_one}
 use Rattle.messages.proofs.Solving.{residues-one-more, residues-last}
 use Rattle.messages.proofs.solver.unit_residues.Goals as goal

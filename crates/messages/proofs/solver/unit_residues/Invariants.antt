@@ -1,12 +1,8 @@
 use mathlib.Core.Path.{◌≡◌}
 use Prim.Native.Nat.{ℕ, ◌-◌, ◌^◌, ◌≤◌, ◌<◌, min}
-use native.Mathlib.Omega.{arith}
-use borrow.Author.Rules.{rules}
-use lib.ListN.{length, get_or, length-set}
+use lib.ListN.{length, get_or}
 use Rattle.bits.specs.Window.{at}
 use Rattle.inner_code.specs.Reduction.{reduced_by}
-use Rattle.bits.proofs.Windows.{shifted_one}
-use Rattle.messages.proofs.Solving.{residues-one-more, residues-last}
 use Rattle.messages.proofs.solver.unit_residues.Given as goal
 
 abbrev pub invariant-loop-i : goal.invariant-loop-i

@@ -1,9 +1,7 @@
 -- `messages::used_digits` meets its contract: after i turns `used` has the digits of the first i residues.
 use borrow.Author.Rules.{rules}
 use mathlib.Core.Path.{◌≡◌}
-use Prim.Native.Nat.{◌-◌, ◌≤◌}
 use native.Mathlib.Omega.{arith}
-use Rattle.messages.specs.Columns.{Uses}
 use Rattle.messages.proofs.Solving.{uses-zero, uses-one-more}
 use Rattle.messages.proofs.solver.used_digits.Goals as goal
 

@@ -1,9 +1,5 @@
-use borrow.Author.Rules.{rules}
-use mathlib.Core.Path.{◌≡◌}
 use Prim.Native.Nat.{◌-◌, ◌≤◌}
-use native.Mathlib.Omega.{arith}
 use Rattle.messages.specs.Columns.{Uses}
-use Rattle.messages.proofs.Solving.{uses-zero, uses-one-more}
 use Rattle.messages.proofs.solver.used_digits.Given as goal
 
 abbrev pub invariant-loop-i : goal.invariant-loop-i

@@ -23,11 +23,11 @@ module _ (c : In-Told) where
 
 pub returns-then-state-lt-HEAD : goal.returns-then-state-lt-HEAD
 returns-then-state-lt-HEAD c =
-    load-no-room (plan_of c.args.left.now c.args.right.now c.args.nl c.args.nr c.args.wiring.now) (c.args.block.now) (c.args.state.now) c.count_unsatisfied.ensures (told (goal.at.returns-then-state-lt-HEAD c).In-Told) (omega arith) c.short.ensures
+    let both = (load-no-room (plan_of c.args.left.now c.args.right.now c.args.nl c.args.nr c.args.wiring.now) (c.args.block.now) (c.args.state.now) c.count_unsatisfied.ensures (told (goal.at.returns-then-state-lt-HEAD c).In-Told) (omega arith) c.short.ensures) in record { result_value = both.0; state_after = both.1 }
 
 pub returns-then-state-block : goal.returns-then-state-block
 returns-then-state-block c =
-    load-no-room (plan_of c.args.left.now c.args.right.now c.args.nl c.args.nr c.args.wiring.now) (c.args.block.now) (c.args.state.now) c.count_unsatisfied.ensures (told (goal.at.returns-then-state-block c).In-Told) (omega arith) c.short-then-state-block.ensures
+    let both = (load-no-room (plan_of c.args.left.now c.args.right.now c.args.nl c.args.nr c.args.wiring.now) (c.args.block.now) (c.args.state.now) c.count_unsatisfied.ensures (told (goal.at.returns-then-state-block c).In-Told) (omega arith) c.short-then-state-block.ensures) in record { result_value = both.0; state_after = both.1 }
 
 pub put_head-requires : goal.put_head-requires
 put_head-requires c =
@@ -39,9 +39,9 @@ put_head-requires c =
 
 pub returns-in-Refused : goal.returns-in-Refused
 returns-in-Refused c =
-    load-block-refused (plan_of c.args.left.now c.args.right.now c.args.nl c.args.nr c.args.wiring.now) (c.args.block.now) (c.args.state.now) c.count_unsatisfied.ensures (ap counted_reply c.in-Refused.is)
+    let both = (load-block-refused (plan_of c.args.left.now c.args.right.now c.args.nl c.args.nr c.args.wiring.now) (c.args.block.now) (c.args.state.now) c.count_unsatisfied.ensures (ap counted_reply c.in-Refused.is)) in record { result_value = both.0; state_after = both.1 }
 
 pub returns-else-state-block : goal.returns-else-state-block
 returns-else-state-block c =
-    load-put (plan_of c.args.left.now c.args.right.now c.args.nl c.args.nr c.args.wiring.now) (c.args.block.now) (c.args.state.now) c.count_unsatisfied.ensures (told (goal.at.returns-else-state-block c).In-Told) (omega arith) c.put_head.ensures
-    c.copy_front.ensures
+    let both = (load-put (plan_of c.args.left.now c.args.right.now c.args.nl c.args.nr c.args.wiring.now) (c.args.block.now) (c.args.state.now) c.count_unsatisfied.ensures (told (goal.at.returns-else-state-block c).In-Told) (omega arith) c.put_head.ensures
+    c.copy_front.ensures) in record { result_value = both.0; state_after = both.1 }

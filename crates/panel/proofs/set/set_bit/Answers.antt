@@ -16,7 +16,7 @@ module _ (c : Start) where
 
 pub returns-then-state-lt-HEAD : goal.returns-then-state-lt-HEAD
 returns-then-state-lt-HEAD c =
-    set-too-short (plan_of c.args.left.now c.args.right.now c.args.nl c.args.nr c.args.wiring.now) _ _ (c.args.state.now) c.if-state-lt-HEAD.true c.refuse_short.ensures
+    let both = (set-too-short (plan_of c.args.left.now c.args.right.now c.args.nl c.args.nr c.args.wiring.now) _ _ (c.args.state.now) c.if-state-lt-HEAD.true c.refuse_short.ensures) in record { result_value = both.0; state_after = both.1 }
 
 -- ---- the block is lent on
 
@@ -36,8 +36,9 @@ pub overflow_add-moved : goal.overflow_add-moved
 overflow_add-moved c = omega (arith, set-low _ _ _ _ (lent (goal.at.overflow_add-moved c).After-set_bit) (told c))
 
 pub returns-in-Refused : goal.returns-in-Refused
-returns-in-Refused c = set-block-refused _ _ _ _ (lent (goal.at.returns-in-Refused c).After-set_bit) (ap counted_reply c.in-Refused.is)
+returns-in-Refused c =
+    let both = (set-block-refused _ _ _ _ (lent (goal.at.returns-in-Refused c).After-set_bit) (ap counted_reply c.in-Refused.is)) in record { result_value = both.0; state_after = both.1 }
 
 pub returns-in-Told : goal.returns-in-Told
 returns-in-Told c =
-    set-put _ _ _ _ (lent (goal.at.returns-in-Told c).After-set_bit) (told (goal.at.returns-in-Told c).In-Told) c.if-state-lt-HEAD.false _ c.read_head-head.ensures.count_value.0 c.put_head.ensures
+    let both = (set-put _ _ _ _ (lent (goal.at.returns-in-Told c).After-set_bit) (told (goal.at.returns-in-Told c).In-Told) c.if-state-lt-HEAD.false _ c.read_head-head.ensures.count_value.0 c.put_head.ensures) in record { result_value = both.0; state_after = both.1 }

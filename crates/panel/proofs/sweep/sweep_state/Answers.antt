@@ -18,7 +18,7 @@ module _ (c : Start) where
 
 pub returns-then-state-lt-HEAD : goal.returns-then-state-lt-HEAD
 returns-then-state-lt-HEAD c =
-    sweep-too-short (plan_of c.args.left.now c.args.right.now c.args.nl c.args.nr c.args.wiring.now) (c.args.state.now) c.if-state-lt-HEAD.true c.refuse_short.ensures
+    let both = (sweep-too-short (plan_of c.args.left.now c.args.right.now c.args.nl c.args.nr c.args.wiring.now) (c.args.state.now) c.if-state-lt-HEAD.true c.refuse_short.ensures) in record { result_value = both.0; state_after = both.1 }
 
 -- ---- a state whose count and sweep number are read
 
@@ -26,21 +26,21 @@ module _ (c : After-read_head-head) where
 
 pub returns-in-Refused : goal.returns-in-Refused
 returns-in-Refused c =
-    sweep-state-refused (plan_of c.args.left.now c.args.right.now c.args.nl c.args.nr c.args.wiring.now) (c.args.state.now) c.check_state.ensures (ap check_reply c.in-Refused.is)
+    let both = (sweep-state-refused (plan_of c.args.left.now c.args.right.now c.args.nl c.args.nr c.args.wiring.now) (c.args.state.now) c.check_state.ensures (ap check_reply c.in-Refused.is)) in record { result_value = both.0; state_after = both.1 }
 
 pub returns-in-Passed : goal.returns-in-Passed
 returns-in-Passed c =
-    sweep-settled (plan_of c.args.left.now c.args.right.now c.args.nl c.args.nr c.args.wiring.now) (c.args.state.now) c.read_head-head.ensures.count_value.0 c.read_head-head.ensures.sweeps_value.0
-    c.check_state.ensures (ap check_reply c.in-Passed.is) c.if-count-eq0.true
+    let both = (sweep-settled (plan_of c.args.left.now c.args.right.now c.args.nl c.args.nr c.args.wiring.now) (c.args.state.now) c.read_head-head.ensures.count_value.0 c.read_head-head.ensures.sweeps_value.0
+    c.check_state.ensures (ap check_reply c.in-Passed.is) c.if-count-eq0.true) in record { result_value = both.0; state_after = both.1 }
 
 pub returns-in-Refused-check_state : goal.returns-in-Refused-check_state
 returns-in-Refused-check_state c =
-    sweep-state-refused (plan_of c.args.left.now c.args.right.now c.args.nl c.args.nr c.args.wiring.now) (c.args.state.now) c.check_state-then-sweeps-ge-MAX_SWEEPS.ensures (ap check_reply c.in-Refused-check_state.is)
+    let both = (sweep-state-refused (plan_of c.args.left.now c.args.right.now c.args.nl c.args.nr c.args.wiring.now) (c.args.state.now) c.check_state-then-sweeps-ge-MAX_SWEEPS.ensures (ap check_reply c.in-Refused-check_state.is)) in record { result_value = both.0; state_after = both.1 }
 
 pub returns-in-Passed-check_state : goal.returns-in-Passed-check_state
 returns-in-Passed-check_state c =
-    sweep-over (plan_of c.args.left.now c.args.right.now c.args.nl c.args.nr c.args.wiring.now) (c.args.state.now) c.read_head-head.ensures.count_value.0 c.read_head-head.ensures.sweeps_value.0
-    c.check_state-then-sweeps-ge-MAX_SWEEPS.ensures (ap check_reply c.in-Passed-check_state.is) c.if-count-eq0.false c.if-sweeps-ge-MAX_SWEEPS.true
+    let both = (sweep-over (plan_of c.args.left.now c.args.right.now c.args.nl c.args.nr c.args.wiring.now) (c.args.state.now) c.read_head-head.ensures.count_value.0 c.read_head-head.ensures.sweeps_value.0
+    c.check_state-then-sweeps-ge-MAX_SWEEPS.ensures (ap check_reply c.in-Passed-check_state.is) c.if-count-eq0.false c.if-sweeps-ge-MAX_SWEEPS.true) in record { result_value = both.0; state_after = both.1 }
 
 -- ---- the block is lent on
 
@@ -60,9 +60,10 @@ pub overflow_add-moved : goal.overflow_add-moved
 overflow_add-moved c = omega (arith, sweep-low _ _ (lent (goal.at.overflow_add-moved c).After-sweep_once) (told c))
 
 pub returns-in-Refused-sweep_once : goal.returns-in-Refused-sweep_once
-returns-in-Refused-sweep_once c = sweep-block-refused _ _ (lent (goal.at.returns-in-Refused-sweep_once c).After-sweep_once) (ap counted_reply c.in-Refused-sweep_once.is)
+returns-in-Refused-sweep_once c =
+    let both = (sweep-block-refused _ _ (lent (goal.at.returns-in-Refused-sweep_once c).After-sweep_once) (ap counted_reply c.in-Refused-sweep_once.is)) in record { result_value = both.0; state_after = both.1 }
 
 pub returns-in-Told : goal.returns-in-Told
 returns-in-Told c =
-    sweep-put _ _ (lent (goal.at.returns-in-Told c).After-sweep_once) (told (goal.at.returns-in-Told c).In-Told) c.read_head-head.ensures.count_value.0 c.read_head-head.ensures.sweeps_value.0 c.if-state-lt-HEAD.false c.if-count-eq0.false
-    c.if-sweeps-ge-MAX_SWEEPS.false c.put_head.ensures
+    let both = (sweep-put _ _ (lent (goal.at.returns-in-Told c).After-sweep_once) (told (goal.at.returns-in-Told c).In-Told) c.read_head-head.ensures.count_value.0 c.read_head-head.ensures.sweeps_value.0 c.if-state-lt-HEAD.false c.if-count-eq0.false
+    c.if-sweeps-ge-MAX_SWEEPS.false c.put_head.ensures) in record { result_value = both.0; state_after = both.1 }

@@ -33,7 +33,10 @@ within : (c : Else-edges-flips) → c.args.flips ≤ edge_count (plan_in (record
 within c = rw (← accepted-edges (plan (record { before = c.before.before; type_inv = record { wiring = c.shared_slice_known-3-1.given; right = c.shared_slice_known-2-1.given; left = c.shared_slice_known-1.given; } }))) c.if-edges-flips.false
 
 pub measured_sweeps-sweeps-requires : goal.measured_sweeps-sweeps-requires
-measured_sweeps-sweeps-requires c = ((plan (goal.at.measured_sweeps-sweeps-requires c).After-struct_known-1).plan-done, within c)
+measured_sweeps-sweeps-requires c = record {
+      plan_value = (plan (goal.at.measured_sweeps-sweeps-requires c).After-struct_known-1).plan-done;
+      flips_bound = within c;
+    }
 
 pub returns-then-sweeps-eq0 : goal.returns-then-sweeps-eq0
 returns-then-sweeps-eq0 c =

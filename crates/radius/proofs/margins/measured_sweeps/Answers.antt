@@ -18,10 +18,11 @@ use Rattle.radius.proofs.margins.measured_sweeps.Goals as goal
 use Rattle.radius.proofs.margins.measured_sweeps.Goals.{After-measured_distance-distance}
 
 pub bounds-left-1 : goal.bounds-left-1
-bounds-left-1 c = omega (arith, ((plan-sound _ c.requires.wiring_value).0 left).sized)
+bounds-left-1 c = omega (arith, ((plan-sound _ c.requires.plan_value).0 left).sized)
 
-pub overflow_cast-left : goal.overflow_cast-left
-overflow_cast-left c = omega (arith, c.type_inv.left 1)
+-- look: no goal for `overflow-cast-measured-distance`
+-- cast-measured-distance : tie.Need-overflow-cast-measured-distance
+-- cast-measured-distance c = omega (arith, c.type_inv.left 1)
 
 -- ---- past the left distance
 
@@ -29,21 +30,21 @@ distance : (c : After-measured_distance-distance) → c.measured_distance-distan
 unfolding row_count
 distance c =
     let plan = (plan_of c.args.left.now c.args.right.now c.args.nl c.args.nr c.args.wiring.now) in
-    distance_is plan left ((plan-sound plan c.requires.wiring_value).0 left) _ c.measured_distance-distance.ensures
+    distance_is plan left ((plan-sound plan c.requires.plan_value).0 left) _ c.measured_distance-distance.ensures
 
 pub first_bound-requires : goal.first_bound-requires
 first_bound-requires c =
-    let wired = (plan-sound (plan_of c.args.left.now c.args.right.now c.args.nl c.args.nr c.args.wiring.now) c.requires.wiring_value).1 in
-    (rw (distance c) (distance-pos _ _), omega (arith, c.requires.1, fitted-edges wired.left-fits))
+    let wired = (plan-sound (plan_of c.args.left.now c.args.right.now c.args.nl c.args.nr c.args.wiring.now) c.requires.plan_value).1 in
+    (rw (distance c) (distance-pos _ _), omega (arith, c.requires.flips_bound, fitted-edges wired.left-fits))
 
 pub returns-then-first_bound-eq0 : goal.returns-then-first_bound-eq0
 returns-then-first_bound-eq0 c =
     let first = c.first_bound.ensures in
-    sym (named-one (measures_of (plan_of c.args.left.now c.args.right.now c.args.nl c.args.nr c.args.wiring.now)) _ c.requires.1 (rw (← distance (goal.at.returns-then-first_bound-eq0 c).After-measured_distance-distance) (sym first ∙ c.if-first_bound-eq0.true)))
+    sym (named-one (measures_of (plan_of c.args.left.now c.args.right.now c.args.nl c.args.nr c.args.wiring.now)) _ c.requires.flips_bound (rw (← distance (goal.at.returns-then-first_bound-eq0 c).After-measured_distance-distance) (sym first ∙ c.if-first_bound-eq0.true)))
 
 pub sweeps_named-requires : goal.sweeps_named-requires
 sweeps_named-requires c =
-    rw c.measured_numbers.ensures (plan-within (plan_of c.args.left.now c.args.right.now c.args.nl c.args.nr c.args.wiring.now) c.requires.wiring_value)
+    rw c.measured_numbers.ensures (plan-within (plan_of c.args.left.now c.args.right.now c.args.nl c.args.nr c.args.wiring.now) c.requires.plan_value)
 
 pub returns : goal.returns
 returns c =

@@ -31,29 +31,37 @@ passed c =
 pub sweep_left-requires : goal.sweep_left-requires
 sweep_left-requires c =
     let p = plan (goal.at.sweep_left-requires c).In-Passed in
-    (passed (goal.at.sweep_left-requires c).In-Passed-check_block, (p.code_is left, p.code_is right))
+    record {
+      block_value = passed (goal.at.sweep_left-requires c).In-Passed-check_block;
+      left_code_value = p.code_is left;
+      right_code_value = p.code_is right;
+    }
 
 pub sweep_right-requires : goal.sweep_right-requires
 sweep_right-requires c =
     let p = plan (goal.at.sweep_right-requires c).In-Passed in
-    (passed (goal.at.sweep_right-requires c).In-Passed-check_block, (p.code_is left, p.code_is right))
+    record {
+      block_value = passed (goal.at.sweep_right-requires c).In-Passed-check_block;
+      left_code_value = p.code_is left;
+      right_code_value = p.code_is right;
+    }
 
 pub returns-in-Refused : goal.returns-in-Refused
 returns-in-Refused c =
-    once-refused _ _ _ (check-plan _ _ (plan-refused _ _ c.check_plan-plan.ensures _ c.in-Refused.is))
+    let both = (once-refused _ _ _ (check-plan _ _ (plan-refused _ _ c.check_plan-plan.ensures _ c.in-Refused.is))) in record { result_value = both.0; block_after = both.1 }
 
 pub returns-in-Refused-check_block : goal.returns-in-Refused-check_block
 returns-in-Refused-check_block c =
-    let p = plan (goal.at.returns-in-Refused-check_block c).In-Passed in
+    let both = (let p = plan (goal.at.returns-in-Refused-check_block c).In-Passed in
     once-refused _ _ _
-    (check-block _ _ p.plan-done (rw (accepted-edges p) at (sym c.check_block.ensures ∙ ap check_reply c.in-Refused-check_block.is)))
+    (check-block _ _ p.plan-done (rw (accepted-edges p) at (sym c.check_block.ensures ∙ ap check_reply c.in-Refused-check_block.is)))) in record { result_value = both.0; block_after = both.1 }
 
 pub returns-in-Left : goal.returns-in-Left
 returns-in-Left c =
-    rw c.in-Left.is
-    (once-swept _ _ left (passed (goal.at.returns-in-Left c).In-Passed-check_block) c.sweep_left.ensures.value c.sweep_left.ensures.block_after)
+    let both = (rw c.in-Left.is
+    (once-swept _ _ left (passed (goal.at.returns-in-Left c).In-Passed-check_block) c.sweep_left.ensures.value c.sweep_left.ensures.block_after)) in record { result_value = both.0; block_after = both.1 }
 
 pub returns-in-Right : goal.returns-in-Right
 returns-in-Right c =
-    rw c.in-Right.is
-    (once-swept _ _ right (passed (goal.at.returns-in-Right c).In-Passed-check_block) c.sweep_right.ensures.value c.sweep_right.ensures.block_after)
+    let both = (rw c.in-Right.is
+    (once-swept _ _ right (passed (goal.at.returns-in-Right c).In-Passed-check_block) c.sweep_right.ensures.value c.sweep_right.ensures.block_after)) in record { result_value = both.0; block_after = both.1 }

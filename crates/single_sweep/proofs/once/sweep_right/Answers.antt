@@ -12,24 +12,18 @@ use Rattle.single_sweep.proofs.once.sweep_right.Goals as goal
 use Rattle.single_sweep.proofs.once.sweep_right.Goals.{Start}
 
 accepted : (c : Start) → plan_check (plan_of c.args.left.now c.args.right.now c.args.nl c.args.nr c.args.wiring.now) ≡ done []
-accepted c = check-accepted (plan_of c.args.left.now c.args.right.now c.args.nl c.args.nr c.args.wiring.now) _ c.requires.wiring_value
+accepted c = check-accepted (plan_of c.args.left.now c.args.right.now c.args.nl c.args.nr c.args.wiring.now) _ c.requires.block_value
 
 pub prepare_finder-requires : goal.prepare_finder-requires
 prepare_finder-requires c =
-    side-preparable (plan_of c.args.left.now c.args.right.now c.args.nl c.args.nr c.args.wiring.now) (accepted (goal.at.prepare_finder-requires c).Start) right c.requires.1.1 refl
+    side-preparable (plan_of c.args.left.now c.args.right.now c.args.nl c.args.nr c.args.wiring.now) (accepted (goal.at.prepare_finder-requires c).Start) right c.requires.right_code_value refl
 
 pub sweep_told-requires : goal.sweep_told-requires
 sweep_told-requires c =
-    (
-      c.requires.wiring_value,
-      (
-        c.requires.block_value,
-        (
-          c.requires.1.1,
-          (
-            c.prepare_finder.ensures,
-            across-right (plan_of c.args.left.now c.args.right.now c.args.nl c.args.nr c.args.wiring.now) (accepted (goal.at.sweep_told-requires c).Start),
-          ),
-        ),
-      ),
-    )
+    record {
+      block_value = c.requires.block_value;
+      left_code_value = c.requires.left_code_value;
+      right_code_value = c.requires.right_code_value;
+      finds = c.prepare_finder.ensures;
+      across = across-right (plan_of c.args.left.now c.args.right.now c.args.nl c.args.nr c.args.wiring.now) (accepted (goal.at.sweep_told-requires c).Start);
+    }

@@ -31,15 +31,15 @@ use Rattle.single_sweep.proofs.sweep.sweep_told.Goals as goal
 use Rattle.single_sweep.proofs.sweep.sweep_told.Goals.{After-code_of-code, After-nearest_on-step, After-put_told-told, After-read_word-word, At-loop-v, Start}
 
 accepted : (c : Start) → plan_check (plan_of c.args.left.now c.args.right.now c.args.nl c.args.nr c.args.wiring.now) ≡ done []
-accepted c = check-accepted (plan_of c.args.left.now c.args.right.now c.args.nl c.args.nr c.args.wiring.now) _ c.requires.wiring_value
+accepted c = check-accepted (plan_of c.args.left.now c.args.right.now c.args.nl c.args.nr c.args.wiring.now) _ c.requires.block_value
 
 -- the side as its check has told it
 held : (c : After-code_of-code) → c.code_of-code.result ≡ code_of (plan_of c.args.left.now c.args.right.now c.args.nl c.args.nr c.args.wiring.now) c.args.side
 held c =
-    c.code_of-code.ensures ∙ code-named (plan_of c.args.left.now c.args.right.now c.args.nl c.args.nr c.args.wiring.now) c.requires.block_value c.requires.left_code_value c.args.side
+    c.code_of-code.ensures ∙ code-named (plan_of c.args.left.now c.args.right.now c.args.nl c.args.nr c.args.wiring.now) c.requires.left_code_value c.requires.right_code_value c.args.side
 
 pub loop-v-init : goal.loop-v-init
-loop-v-init c = (search rules, visited-none (plan_of c.args.left.now c.args.right.now c.args.nl c.args.nr c.args.wiring.now) (accepted (goal.at.loop-v-init c).Start) c.args.side _, c.requires.right_code_value)
+loop-v-init c = (search rules, visited-none (plan_of c.args.left.now c.args.right.now c.args.nl c.args.nr c.args.wiring.now) (accepted (goal.at.loop-v-init c).Start) c.args.side _, c.requires.finds)
 
 -- ---- the loop's head, and the word that is read there
 
@@ -67,7 +67,7 @@ room c =
     omega (
       arith,
       visited-length (plan_of c.args.left.now c.args.right.now c.args.nl c.args.nr c.args.wiring.now) (accepted c.before.before.before.before.before.before.before.before.before) c.args.side c.loop-v.invariant.1,
-      check-room (plan_of c.args.left.now c.args.right.now c.args.nl c.args.nr c.args.wiring.now) _ c.requires.wiring_value,
+      check-room (plan_of c.args.left.now c.args.right.now c.args.nl c.args.nr c.args.wiring.now) _ c.requires.block_value,
     )
 
 pub read_word-word-requires : goal.read_word-word-requires
@@ -92,7 +92,7 @@ loop-v-preserved-then-is_codeword c =
 
 pub nearest_on-step-requires : goal.nearest_on-step-requires
 nearest_on-step-requires c =
-    nearest-asked (plan_of c.args.left.now c.args.right.now c.args.nl c.args.nr c.args.wiring.now) c.args.side c.loop-v.invariant.2 c.loop-v.block c.loop-v.v (read_is (goal.at.nearest_on-step-requires c).After-read_word-word)
+    let both = (nearest-asked (plan_of c.args.left.now c.args.right.now c.args.nl c.args.nr c.args.wiring.now) c.args.side c.loop-v.invariant.2 c.loop-v.block c.loop-v.v (read_is (goal.at.nearest_on-step-requires c).After-read_word-word)) in record { finds = both.0; word_bound = both.1 }
 
 -- ---- a word that is no codeword
 
@@ -111,22 +111,15 @@ missed c =
 
 pub put_told-told-requires : goal.put_told-told-requires
 put_told-told-requires c =
-    (
-      accepted (goal.at.put_told-told-requires c).Start,
-      (
-        c.requires.block_value,
-        (
-          c.requires.left_code_value,
-          (
-            below (goal.at.put_told-told-requires c).After-read_word-word,
-            (
-              pattern_lt (ready (goal.at.put_told-told-requires c).After-read_word-word) c.args.side c.loop-v.block (below (goal.at.put_told-told-requires c).After-read_word-word) (read_is (goal.at.put_told-told-requires c).After-read_word-word) (found (goal.at.put_told-told-requires c).After-nearest_on-step),
-              (c.requires.1.1.1.1, room (goal.at.put_told-told-requires c).At-loop-v),
-            ),
-          ),
-        ),
-      ),
-    )
+    record {
+      plan_value = accepted (goal.at.put_told-told-requires c).Start;
+      left_code_value = c.requires.left_code_value;
+      right_code_value = c.requires.right_code_value;
+      v_bound = below (goal.at.put_told-told-requires c).After-read_word-word;
+      pattern_bound = pattern_lt (ready (goal.at.put_told-told-requires c).After-read_word-word) c.args.side c.loop-v.block (below (goal.at.put_told-told-requires c).After-read_word-word) (read_is (goal.at.put_told-told-requires c).After-read_word-word) (found (goal.at.put_told-told-requires c).After-nearest_on-step);
+      across = c.requires.across;
+      plan_in_bounds = room (goal.at.put_told-told-requires c).At-loop-v;
+    }
 
 -- ---- the vertex mended
 
@@ -170,14 +163,17 @@ pub loop-v-preserved : goal.loop-v-preserved
 loop-v-preserved c =
     (omega (arith, more (goal.at.loop-v-preserved c).After-read_word-word), (mends (goal.at.loop-v-preserved c).After-put_told-told _ c.mended.ensures).1, (found (goal.at.loop-v-preserved c).After-nearest_on-step).finds)
 
-pub shape_of-finder : goal.shape_of-finder
-shape_of-finder c = c.loop-v.invariant.2.sized ∙ sym c.requires.right_code_value.sized
+-- look: no goal for `same-length`
+-- same_length : tie.Need-same-length invariant-loop decreases-loop
+-- same_length c = c.loop-v.invariant.2.sized ∙ sym (start c.before.before).requires.finds.sized
 
-pub shape_of-block : goal.shape_of-block
-shape_of-block c =
-    visited-length (plan_of c.args.left.now c.args.right.now c.args.nl c.args.nr c.args.wiring.now) (accepted (goal.at.shape_of-block c).Start) c.args.side c.loop-v.invariant.1
+-- look: no goal for `same-length-2`
+-- same-length-2 : tie.Need-same-length-2 invariant-loop decreases-loop
+-- same-length-2 c =
+--     let first = start c.before.before in
+--     visited-length (plan_in first) (accepted first) first.args.side c.loop-v.invariant.1
 
 pub returns : goal.returns
 returns c =
-    visited-all (plan_of c.args.left.now c.args.right.now c.args.nl c.args.nr c.args.wiring.now) (accepted (goal.at.returns c).Start) c.args.side c.loop-v.invariant.1
-    (omega (arith, c.loop-v.invariant.0, ap (λ (x : SideCode). x.n) (held (goal.at.returns c).After-code_of-code)))
+    let both = (visited-all (plan_of c.args.left.now c.args.right.now c.args.nl c.args.nr c.args.wiring.now) (accepted (goal.at.returns c).Start) c.args.side c.loop-v.invariant.1
+    (omega (arith, c.loop-v.invariant.0, ap (λ (x : SideCode). x.n) (held (goal.at.returns c).After-code_of-code)))) in record { value = both.0; block_after = both.1 }

@@ -9,8 +9,8 @@ use Rattle.single_sweep.proofs.telling.place_across.Goals as goal
 pub bounds-places-i : goal.bounds-places-i
 bounds-places-i c = c.requires.i_in_bounds c.in-Left.is
 
-pub overflow_cast-result : goal.overflow_cast-result
-overflow_cast-result c = omega (arith, c.type_inv.places c.args.i)
+pub overflow_cast-result-in-Right : goal.overflow_cast-result-in-Right
+overflow_cast-result-in-Right c = omega (arith, c.type_inv.places c.args.i)
 
 pub returns-in-Left : goal.returns-in-Left
 unfolding across_from at

@@ -24,17 +24,17 @@ use Rattle.single_sweep.proofs.telling.put_told.Goals as goal
 use Rattle.single_sweep.proofs.telling.put_told.Goals.{After-code_of-here, After-highest-high, After-place_across-place, After-turn_told-one, Start}
 
 accepted : (c : Start) → plan_check (plan_of c.args.left.now c.args.right.now c.args.nl c.args.nr c.args.wiring.now) ≡ done []
-accepted c = c.requires.wiring_value
+accepted c = c.requires.plan_value
 
 -- the degree of the side, as its check has told it
 degree-is : (c : After-code_of-here) → c.code_of-here.result.d ≡ degree (sheet_of (plan_of c.args.left.now c.args.right.now c.args.nl c.args.nr c.args.wiring.now) c.args.side)
 degree-is c =
-    ap (λ (x : SideCode). x.d) (c.code_of-here.ensures ∙ code-named (plan_of c.args.left.now c.args.right.now c.args.nl c.args.nr c.args.wiring.now) c.requires.plan_value c.requires.left_code_value c.args.side)
+    ap (λ (x : SideCode). x.d) (c.code_of-here.ensures ∙ code-named (plan_of c.args.left.now c.args.right.now c.args.nl c.args.nr c.args.wiring.now) c.requires.left_code_value c.requires.right_code_value c.args.side)
 
 -- an entry of vertex v
 entry_lt : (c : Start) (j : ℕ) → j < degree (sheet_of (plan_of c.args.left.now c.args.right.now c.args.nl c.args.nr c.args.wiring.now) c.args.side)
     → c.args.v * degree (sheet_of (plan_of c.args.left.now c.args.right.now c.args.nl c.args.nr c.args.wiring.now) c.args.side) + j < edge_count (plan_of c.args.left.now c.args.right.now c.args.nl c.args.nr c.args.wiring.now)
-entry_lt c j l = rw (plan-whole (plan_of c.args.left.now c.args.right.now c.args.nl c.args.nr c.args.wiring.now) (accepted c) c.args.side).entries at (digits_lt c.requires.right_code_value l)
+entry_lt c j l = rw (plan-whole (plan_of c.args.left.now c.args.right.now c.args.nl c.args.nr c.args.wiring.now) (accepted c) c.args.side).entries at (digits_lt c.requires.v_bound l)
 
 pub overflow_mul-base : goal.overflow_mul-base
 overflow_mul-base c =
@@ -42,7 +42,7 @@ overflow_mul-base c =
     rw (degree-is c) (omega (arith, entry_lt (goal.at.overflow_mul-base c).Start 0 (omega (arith, fits.d-low)), plan-few (plan_of c.args.left.now c.args.right.now c.args.nl c.args.nr c.args.wiring.now) (accepted (goal.at.overflow_mul-base c).Start)))
 
 pub loop-rest-init : goal.loop-rest-init
-loop-rest-init c = (record { low = c.requires.v_bound; putting = refl }, refl)
+loop-rest-init c = (record { low = c.requires.pattern_bound; putting = refl }, refl)
 
 -- the highest one is within the word
 within : (c : After-highest-high) → c.highest-high.result < (degree (sheet_of (plan_of c.args.left.now c.args.right.now c.args.nl c.args.nr c.args.wiring.now) c.args.side))
@@ -64,8 +64,8 @@ overflow_add-base c = rw (degree-is (goal.at.overflow_add-base c).After-code_of-
 
 pub place_across-place-requires : goal.place_across-place-requires
 place_across-place-requires c =
-    rw (degree-is (goal.at.place_across-place-requires c).After-code_of-here)
-    ((entry-few c).1, λ is-left. omega (arith, (entry-few c).0, plan-entries (plan_of c.args.left.now c.args.right.now c.args.nl c.args.nr c.args.wiring.now) (accepted (goal.at.place_across-place-requires c).Start), (c.requires.pattern_bound.noted is-left).sized))
+    let both = (rw (degree-is (goal.at.place_across-place-requires c).After-code_of-here)
+    ((entry-few c).1, λ is-left. omega (arith, (entry-few c).0, plan-entries (plan_of c.args.left.now c.args.right.now c.args.nl c.args.nr c.args.wiring.now) (accepted (goal.at.place_across-place-requires c).Start), (c.requires.across.noted is-left).sized))) in record { i_bound = both.0; i_in_bounds = both.1 }
 
 -- the entry of the other side that has the bit
 placed : (c : After-place_across-place)
@@ -75,7 +75,7 @@ placed : (c : After-place_across-place)
 placed c =
     let is : c.place_across-place.result ≡ across_from c.args.side c.args.wiring.now c.args.places.now ((c.args.v * (degree (sheet_of (plan_of c.args.left.now c.args.right.now c.args.nl c.args.nr c.args.wiring.now) c.args.side)) + ((degree (sheet_of (plan_of c.args.left.now c.args.right.now c.args.nl c.args.nr c.args.wiring.now) c.args.side)) - 1 - c.highest-high.result))) =
     rw (degree-is (record { before = c.before.before.before.before.before; type_inv = record { block = c.slice_known-1.given; places = c.shared_slice_known-4-1.given; wiring = c.shared_slice_known-3-1.given; right = c.shared_slice_known-2-1.given; left = c.shared_slice_known-1.given; } })) at c.place_across-place.ensures in
-    rw is (across-meets (plan_of c.args.left.now c.args.right.now c.args.nl c.args.nr c.args.wiring.now) (accepted c.before.before.before.before.before.before.before.before.before.before.before) c.args.side c.requires.pattern_bound ((c.args.v * (degree (sheet_of (plan_of c.args.left.now c.args.right.now c.args.nl c.args.nr c.args.wiring.now) c.args.side)) + ((degree (sheet_of (plan_of c.args.left.now c.args.right.now c.args.nl c.args.nr c.args.wiring.now) c.args.side)) - 1 - c.highest-high.result))) (entry-few (record { before = c.before.before; type_inv = record { places = c.shared_slice_known-4-1.given; wiring = c.shared_slice_known-3-1.given; right = c.shared_slice_known-2-1.given; left = c.shared_slice_known-1.given; } })).0)
+    rw is (across-meets (plan_of c.args.left.now c.args.right.now c.args.nl c.args.nr c.args.wiring.now) (accepted c.before.before.before.before.before.before.before.before.before.before.before) c.args.side c.requires.across ((c.args.v * (degree (sheet_of (plan_of c.args.left.now c.args.right.now c.args.nl c.args.nr c.args.wiring.now) c.args.side)) + ((degree (sheet_of (plan_of c.args.left.now c.args.right.now c.args.nl c.args.nr c.args.wiring.now) c.args.side)) - 1 - c.highest-high.result))) (entry-few (record { before = c.before.before; type_inv = record { places = c.shared_slice_known-4-1.given; wiring = c.shared_slice_known-3-1.given; right = c.shared_slice_known-2-1.given; left = c.shared_slice_known-1.given; } })).0)
 
 -- the block has room for all bits
 room : (c : After-highest-high) → edge_count (plan_of c.args.left.now c.args.right.now c.args.nl c.args.nr c.args.wiring.now) ≤ length c.loop-rest.block * 8
@@ -85,12 +85,18 @@ room c =
       rest-sized c.loop-rest.invariant.0,
       length-pattern (side_bit c.args.side c.args.wiring.now) ((degree (sheet_of (plan_of c.args.left.now c.args.right.now c.args.nl c.args.nr c.args.wiring.now) c.args.side))) (c.args.v * (degree (sheet_of (plan_of c.args.left.now c.args.right.now c.args.nl c.args.nr c.args.wiring.now) c.args.side))) c.args.pattern
           ((degree (sheet_of (plan_of c.args.left.now c.args.right.now c.args.nl c.args.nr c.args.wiring.now) c.args.side))) c.args.block.now,
-      c.requires.1.1.1.1.1.1,
+      c.requires.plan_in_bounds,
     )
 
 pub turn_told-one-requires : goal.turn_told-one-requires
 turn_told-one-requires c =
-    (accepted (goal.at.turn_told-one-requires c).Start, (c.requires.plan_value, (c.requires.left_code_value, ((placed (goal.at.turn_told-one-requires c).After-place_across-place).0, room (goal.at.turn_told-one-requires c).After-highest-high))))
+    record {
+      plan_value = accepted (goal.at.turn_told-one-requires c).Start;
+      left_code_value = c.requires.left_code_value;
+      right_code_value = c.requires.right_code_value;
+      place_bound = (placed (goal.at.turn_told-one-requires c).After-place_across-place).0;
+      plan_in_bounds = room (goal.at.turn_told-one-requires c).After-highest-high;
+    }
 
 -- how many vertices of the other side are unsatisfied
 abbrev missing : After-highest-high → List ℕ → ℕ
@@ -141,8 +147,9 @@ loop-rest-preserved c =
       omega (arith, c.loop-rest.invariant.1, (told-one (goal.at.loop-rest-preserved c).After-turn_told-one).0, few (goal.at.loop-rest-preserved c).After-highest-high c.args.block.now),
     )
 
-pub shape_of-block : goal.shape_of-block
-shape_of-block c = rest-sized c.loop-rest.invariant.0 ∙ length-pattern _ _ _ _ _ _
+-- look: no goal for `same-length`
+-- same_length : tie.Need-same-length invariant-loop decreases-loop
+-- same_length c = rest-sized c.loop-rest.invariant.0 ∙ length-pattern _ _ _ _ _ _
 
 pub returns : goal.returns
 returns c =

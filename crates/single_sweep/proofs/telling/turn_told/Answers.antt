@@ -20,11 +20,11 @@ use Rattle.single_sweep.proofs.telling.turn_told.Goals as goal
 use Rattle.single_sweep.proofs.telling.turn_told.Goals.{After-code_of-code, Start}
 
 accepted : (c : Start) → plan_check (plan_of c.args.left.now c.args.right.now c.args.nl c.args.nr c.args.wiring.now) ≡ done []
-accepted c = c.requires.wiring_value
+accepted c = c.requires.plan_value
 
 -- the side as the check has told it
 held : (c : After-code_of-code) → c.code_of-code.result ≡ code_of (plan_of c.args.left.now c.args.right.now c.args.nl c.args.nr c.args.wiring.now) c.args.side
-held c = c.code_of-code.ensures ∙ code-named (plan_of c.args.left.now c.args.right.now c.args.nl c.args.nr c.args.wiring.now) c.requires.plan_value c.requires.left_code_value c.args.side
+held c = c.code_of-code.ensures ∙ code-named (plan_of c.args.left.now c.args.right.now c.args.nl c.args.nr c.args.wiring.now) c.requires.left_code_value c.requires.right_code_value c.args.side
 
 degree-range : (c : After-code_of-code) → (1 ≤ c.code_of-code.result.d) × (c.code_of-code.result.d ≤ 16)
 degree-range c =
@@ -55,7 +55,7 @@ power-requires c = omega (arith, degree-range (goal.at.power-requires c).After-c
 
 pub bit_of-requires : goal.bit_of-requires
 bit_of-requires c =
-    omega (arith, c.requires.right_code_value, (plan-fits (plan_of c.args.left.now c.args.right.now c.args.nl c.args.nr c.args.wiring.now) (accepted (goal.at.bit_of-requires c).Start) left).sized)
+    omega (arith, c.requires.place_bound, (plan-fits (plan_of c.args.left.now c.args.right.now c.args.nl c.args.nr c.args.wiring.now) (accepted (goal.at.bit_of-requires c).Start) left).sized)
 
 pub returns : goal.returns
 returns c =

@@ -19,8 +19,8 @@ lefts c = c.all_codewords.ensures.when_true (not-false _ c.if-not-all_codewords.
 pub all_codewords-requires : goal.all_codewords-requires
 all_codewords-requires c =
     record {
-      n_bound = (plan-fits (plan_of c.args.left.now c.args.right.now c.args.nl c.args.nr c.args.wiring.now) c.requires.wiring_value.plan-done left).n-high;
-      finds = c.requires.wiring_value.left-finds;
+      n_bound = (plan-fits (plan_of c.args.left.now c.args.right.now c.args.nl c.args.nr c.args.wiring.now) c.requires.ready.plan-done left).n-high;
+      finds = c.requires.ready.left-finds;
     }
 
 pub returns-then-not-all_codewords : goal.returns-then-not-all_codewords
@@ -31,27 +31,27 @@ returns-then-not-all_codewords c =
 pub kept_codewords-requires : goal.kept_codewords-requires
 kept_codewords-requires c =
     record {
-      n_bound = (plan-fits (plan_of c.args.left.now c.args.right.now c.args.nl c.args.nr c.args.wiring.now) c.requires.wiring_value.plan-done right).n-high;
-      kept_len = c.requires.1.sized;
-      finder_len = (ready-shared c.requires.wiring_value c.if-right_finder-eq0.true).sized;
+      n_bound = (plan-fits (plan_of c.args.left.now c.args.right.now c.args.nl c.args.nr c.args.wiring.now) c.requires.ready.plan-done right).n-high;
+      kept_len = c.requires.words_read.sized;
+      finder_len = (ready-shared c.requires.ready c.if-right_finder-eq0.true).sized;
     }
 
 pub returns-then-right_finder-eq0 : goal.returns-then-right_finder-eq0
 returns-then-right_finder-eq0 c =
     let none = c.if-right_finder-eq0.true in
-    satisfied-both (plan_of c.args.left.now c.args.right.now c.args.nl c.args.nr c.args.wiring.now) c.requires.wiring_value.plan-done c.args.block.now (lefts (goal.at.returns-then-right_finder-eq0 c).Else-not-all_codewords)
-    c.requires.1 (ready-shared c.requires.wiring_value none) _ c.kept_codewords.ensures.when_true c.kept_codewords.ensures.when_false
+    satisfied-both (plan_of c.args.left.now c.args.right.now c.args.nl c.args.nr c.args.wiring.now) c.requires.ready.plan-done c.args.block.now (lefts (goal.at.returns-then-right_finder-eq0 c).Else-not-all_codewords)
+    c.requires.words_read (ready-shared c.requires.ready none) _ c.kept_codewords.ensures.when_true c.kept_codewords.ensures.when_false
 
 pub kept_codewords-requires-2 : goal.kept_codewords-requires-2
 kept_codewords-requires-2 c =
     record {
-      n_bound = (plan-fits (plan_of c.args.left.now c.args.right.now c.args.nl c.args.nr c.args.wiring.now) c.requires.wiring_value.plan-done right).n-high;
-      kept_len = c.requires.1.sized;
-      finder_len = (c.requires.wiring_value.right-finds c.if-right_finder-eq0.false).sized;
+      n_bound = (plan-fits (plan_of c.args.left.now c.args.right.now c.args.nl c.args.nr c.args.wiring.now) c.requires.ready.plan-done right).n-high;
+      kept_len = c.requires.words_read.sized;
+      finder_len = (c.requires.ready.right-finds c.if-right_finder-eq0.false).sized;
     }
 
 pub returns : goal.returns
 returns c =
     let some = c.if-right_finder-eq0.false in
-    satisfied-both (plan_of c.args.left.now c.args.right.now c.args.nl c.args.nr c.args.wiring.now) c.requires.wiring_value.plan-done c.args.block.now (lefts (goal.at.returns c).Else-not-all_codewords)
-    c.requires.1 (c.requires.wiring_value.right-finds some) _ c.kept_codewords-2.ensures.when_true c.kept_codewords-2.ensures.when_false
+    satisfied-both (plan_of c.args.left.now c.args.right.now c.args.nl c.args.nr c.args.wiring.now) c.requires.ready.plan-done c.args.block.now (lefts (goal.at.returns c).Else-not-all_codewords)
+    c.requires.words_read (c.requires.ready.right-finds some) _ c.kept_codewords-2.ensures.when_true c.kept_codewords-2.ensures.when_false

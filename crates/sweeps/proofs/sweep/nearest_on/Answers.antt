@@ -5,11 +5,13 @@ use Rattle.sweeps.proofs.sweep.nearest_on.Goals as goal
 
 pub find_nearest-requires : goal.find_nearest-requires
 unfolding sheet_for
-find_nearest-requires c = rw c.in-Left.is at c.requires
+find_nearest-requires c =
+    let both = (rw c.in-Left.is at c.requires) in record { finds = both.0; word_bound = both.1 }
 
 pub find_nearest-requires-in-Right : goal.find_nearest-requires-in-Right
 unfolding sheet_for
-find_nearest-requires-in-Right c = rw c.in-Right.is at c.requires
+find_nearest-requires-in-Right c =
+    let both = (rw c.in-Right.is at c.requires) in record { finds = both.0; word_bound = both.1 }
 
 pub returns-in-Left : goal.returns-in-Left
 unfolding sheet_for

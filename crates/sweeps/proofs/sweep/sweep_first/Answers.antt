@@ -37,8 +37,9 @@ read_is c = c.left_word-word.ensures
 pub bounds-sheet-0 : goal.bounds-sheet-0
 bounds-sheet-0 c = ready-sheet c.requires
 
-pub overflow_cast-d : goal.overflow_cast-d
-overflow_cast-d c = omega (arith, c.type_inv.sheet 0)
+-- look: no goal for `overflow-cast-d`
+-- cast-d : tie.Need-overflow-cast-d invariant-loop decreases-loop
+-- cast-d c = omega (arith, c.type_inv.sheet 0)
 
 pub loop-v-init : goal.loop-v-init
 loop-v-init c = (search rules, visits-none, c.requires)
@@ -139,12 +140,14 @@ loop-v-preserved c =
       record { fits = ready.fits; permuted = ready.permuted; finds = (found (goal.at.loop-v-preserved c).After-find_nearest-step).finds },
     )
 
--- a finder that finds has one length
-pub shape_of-finder : goal.shape_of-finder
-shape_of-finder c = c.loop-v.invariant.2.finds.sized ∙ sym c.requires.finds.sized
+-- look: no goal for `same-length`
+-- -- a finder that finds has one length
+-- same_length : tie.Need-same-length invariant-loop decreases-loop
+-- same_length c = c.loop-v.invariant.2.finds.sized ∙ sym (start c.before).requires.finds.sized
 
-pub shape_of-block : goal.shape_of-block
-shape_of-block c = visits-length c.loop-v.invariant.1
+-- look: no goal for `same-length-2`
+-- same-length-2 : tie.Need-same-length-2 invariant-loop decreases-loop
+-- same-length-2 c = visits-length c.loop-v.invariant.1
 
 pub returns : goal.returns
 returns c =

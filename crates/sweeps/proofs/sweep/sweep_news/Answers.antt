@@ -27,7 +27,7 @@ use Rattle.sweeps.proofs.sweep.sweep_news.Goals.{After-news_of-from, After-rest-
 -- ---- the call and the loops' heads
 
 hears : (c : Start) → Hears (plan_of c.args.left.now c.args.right.now c.args.nl c.args.nr c.args.wiring.now) c.args.side c.args.block.now c.args.kept.now
-hears c = c.requires.1.1.1
+hears c = c.requires.hears
 
 -- a number of the side's marks
 marks-few : (c : After-news_of-from) → c.news_of-from.result + 128 ≤ 2304
@@ -45,7 +45,7 @@ unfolding at
 scanned c =
     let turn = c.loop-i in
     let place = c.news_of-from.ensures in
-    news-scan-start c.requires.wiring_value (hears c.before.before.before.before.before.before.before.before.before.before.before.before.before.before) (few c) turn.invariant.1
+    news-scan-start c.requires.plan_value (hears c.before.before.before.before.before.before.before.before.before.before.before.before.before.before) (few c) turn.invariant.1
     (ap (λ (from : ℕ). set turn.kept (from + turn.i) 0) place)
     (ap (λ (from : ℕ). get_or turn.kept (from + turn.i) 0) place ∙ turn.invariant.3 turn.i (le_refl _) (few c))
 
@@ -60,11 +60,11 @@ finds c = c.loop-rest.invariant.1 c.loop-i.invariant.2
 
 pub numbers_of-numbers-requires : goal.numbers_of-numbers-requires
 numbers_of-numbers-requires c =
-    le_trans (le_of_eq (c.count_of.ensures ∙ count-for (plan_of c.args.left.now c.args.right.now c.args.nl c.args.nr c.args.wiring.now) c.args.side)) (plan-fits (plan_of c.args.left.now c.args.right.now c.args.nl c.args.nr c.args.wiring.now) c.requires.wiring_value c.args.side).n-high
+    le_trans (le_of_eq (c.count_of.ensures ∙ count-for (plan_of c.args.left.now c.args.right.now c.args.nl c.args.nr c.args.wiring.now) c.args.side)) (plan-fits (plan_of c.args.left.now c.args.right.now c.args.nl c.args.nr c.args.wiring.now) c.requires.plan_value c.args.side).n-high
 
 pub loop-i-init : goal.loop-i-init
 loop-i-init c =
-    (search rules, news-round-start c.requires.wiring_value (hears (goal.at.loop-i-init c).Start), c.requires.plan_value, λ j l h. refl, λ j l. absurd (omega arith))
+    (search rules, news-round-start c.requires.plan_value (hears (goal.at.loop-i-init c).Start), c.requires.finds, λ j l h. refl, λ j l. absurd (omega arith))
 
 pub overflow_add-rest : goal.overflow_add-rest
 overflow_add-rest c = omega (arith, marks-few (goal.at.overflow_add-rest c).After-news_of-from)
@@ -98,22 +98,22 @@ overflow_add-v c = omega (arith, few (goal.at.overflow_add-v c).After-rest-1)
 
 pub visit-bits-requires : goal.visit-bits-requires
 visit-bits-requires c =
-    let so_far = state (goal.at.visit-bits-requires c).At-loop-rest in (
-      c.requires.wiring_value,
-      (
-        news-scan-vertex c.requires.wiring_value (hears (goal.at.visit-bits-requires c).Start) (few (goal.at.visit-bits-requires c).After-rest-1) so_far _ c.highest-high.ensures.power_low c.highest-high.ensures.power_high
-            c.highest-high.ensures.fits_word,
-        (finds (goal.at.visit-bits-requires c).At-loop-rest, (c.requires.finds, so_far.round.so_far.reads)),
-      ),
-    )
+    let so_far = state (goal.at.visit-bits-requires c).At-loop-rest in record {
+      plan_value = c.requires.plan_value;
+      v_bound = news-scan-vertex c.requires.plan_value (hears (goal.at.visit-bits-requires c).Start) (few (goal.at.visit-bits-requires c).After-rest-1) so_far _ c.highest-high.ensures.power_low c.highest-high.ensures.power_high
+            c.highest-high.ensures.fits_word;
+      finds = finds (goal.at.visit-bits-requires c).At-loop-rest;
+      across = c.requires.across;
+      words_read = so_far.round.so_far.reads;
+    }
 
 pub overflow_add-changed : goal.overflow_add-changed
 overflow_add-changed c =
-    omega (arith, news-round-changed c.requires.wiring_value (hears (goal.at.overflow_add-changed c).Start) (finds (goal.at.overflow_add-changed c).At-loop-rest) (state (goal.at.overflow_add-changed c).At-loop-rest).round)
+    omega (arith, news-round-changed c.requires.plan_value (hears (goal.at.overflow_add-changed c).Start) (finds (goal.at.overflow_add-changed c).At-loop-rest) (state (goal.at.overflow_add-changed c).At-loop-rest).round)
 
 pub overflow_add-visits : goal.overflow_add-visits
 overflow_add-visits c =
-    omega (arith, news-round-few c.requires.wiring_value (hears (goal.at.overflow_add-visits c).Start) (state (goal.at.overflow_add-visits c).At-loop-rest).round)
+    omega (arith, news-round-few c.requires.plan_value (hears (goal.at.overflow_add-visits c).Start) (state (goal.at.overflow_add-visits c).At-loop-rest).round)
 
 pub power-rest-requires : goal.power-rest-requires
 power-rest-requires c = c.highest-high.ensures.fits_word
@@ -131,7 +131,7 @@ loop-rest-preserved c =
     let turn = c.loop-rest in
     let visit = c.visit-bits.ensures in (
       λ before marks h so_far.
-          news-scan-more c.requires.wiring_value h (few (goal.at.loop-rest-preserved c).After-rest-1) (turn.invariant.0 before marks h so_far) _ c.highest-high.ensures.power_low
+          news-scan-more c.requires.plan_value h (few (goal.at.loop-rest-preserved c).After-rest-1) (turn.invariant.0 before marks h so_far) _ c.highest-high.ensures.power_low
           c.highest-high.ensures.power_high c.highest-high.ensures.fits_word visit.0 c.power-rest.ensures,
       λ f. visit.1,
       λ j l. visit.0.keeps.own j l ∙ turn.invariant.2 j l,
@@ -164,7 +164,7 @@ loop-i-preserved c =
     → at c.loop-rest.kept (news_of c.args.side + j) ≡ at (set turn.kept (news_of c.args.side + turn.i) 0) (news_of c.args.side + j) =
     λ j l. c.loop-rest.invariant.2 j l ∙ ap (λ (from : ℕ). at (set turn.kept (from + turn.i) 0) (news_of c.args.side + j)) place in (
       omega (arith, few (goal.at.loop-i-preserved c).After-rest-1),
-      news-scan-end c.requires.wiring_value (hears (goal.at.loop-i-preserved c).Start) (few (goal.at.loop-i-preserved c).After-rest-1) (state (goal.at.loop-i-preserved c).At-loop-rest) c.loop-rest-test.false,
+      news-scan-end c.requires.plan_value (hears (goal.at.loop-i-preserved c).Start) (few (goal.at.loop-i-preserved c).After-rest-1) (state (goal.at.loop-i-preserved c).At-loop-rest) c.loop-rest-test.false,
       finds (goal.at.loop-i-preserved c).At-loop-rest,
       λ j l h. kept j h ∙ at_set_other turn.kept _ _ 0 (marks-after (news_of c.args.side) turn.i l) ∙ turn.invariant.3 j (below_next turn.i l) h,
       λ j l. elim (ℕ_discrete j turn.i) [
@@ -178,11 +178,13 @@ loop-i-preserved c =
       ],
     )
 
-pub shape_of-finder : goal.shape_of-finder
-shape_of-finder c = c.loop-i.invariant.2.sized ∙ sym c.requires.plan_value.sized
+-- look: no goal for `same-length`
+-- same_length : tie.Need-same-length invariant-loop2 decreases-loop2 invariant-loop decreases-loop
+-- same_length c = c.loop-i.invariant.2.sized ∙ sym (start c.before.before).requires.finds.sized
 
-pub shape_of-block : goal.shape_of-block
-shape_of-block c = visits-length c.loop-i.invariant.1.so_far.visits
+-- look: no goal for `same-length-2`
+-- same-length-2 : tie.Need-same-length-2 invariant-loop2 decreases-loop2 invariant-loop decreases-loop
+-- same-length-2 c = visits-length c.loop-i.invariant.1.so_far.visits
 
 pub returns : goal.returns
 returns c =
@@ -190,6 +192,6 @@ returns c =
     let enough : count_of (plan_of c.args.left.now c.args.right.now c.args.nl c.args.nr c.args.wiring.now) c.args.side ≤ 16 * c.Numbers-of.result =
     le_trans (le_of_eq (sym (c.count_of.ensures ∙ count-for (plan_of c.args.left.now c.args.right.now c.args.nl c.args.nr c.args.wiring.now) c.args.side))) c.Numbers-of.ensures.0 in
     let all : count_of (plan_of c.args.left.now c.args.right.now c.args.nl c.args.nr c.args.wiring.now) c.args.side ≤ 16 * turn.i = omega (arith, turn.invariant.0, enough) in record {
-      news_swept = news-round-end c.requires.wiring_value (hears (goal.at.returns c).Start) all turn.invariant.1 (news-round-clear c.requires.wiring_value (hears (goal.at.returns c).Start) turn.auto turn.i all turn.invariant.4 turn.invariant.3);
+      news_swept = news-round-end c.requires.plan_value (hears (goal.at.returns c).Start) all turn.invariant.1 (news-round-clear c.requires.plan_value (hears (goal.at.returns c).Start) turn.kept turn.i all turn.invariant.4 turn.invariant.3);
       still_finds = turn.invariant.2;
     }

@@ -7,24 +7,32 @@ use Rattle.sweeps.proofs.sweep.sweep_right.Goals as goal
 
 pub sweep_second-requires : goal.sweep_second-requires
 sweep_second-requires c =
-    (c.requires.wiring_value.plan-done, (ready-shared c.requires.wiring_value c.if-right_finder-eq0.true, c.requires.1))
+    record {
+      plan_value = c.requires.ready.plan-done;
+      finds = ready-shared c.requires.ready c.if-right_finder-eq0.true;
+      listening = c.requires.listening;
+    }
 
 pub returns-then-right_finder-eq0 : goal.returns-then-right_finder-eq0
 returns-then-right_finder-eq0 c =
     record {
       side_swept = c.sweep_second.ensures.side_swept;
-      still_ready = ready-shared-swept c.requires.wiring_value c.if-right_finder-eq0.true c.sweep_second.ensures.still_finds;
+      still_ready = ready-shared-swept c.requires.ready c.if-right_finder-eq0.true c.sweep_second.ensures.still_finds;
       listening_left = c.sweep_second.ensures.listening_left;
     }
 
 pub sweep_second-requires-2 : goal.sweep_second-requires-2
 sweep_second-requires-2 c =
-    (c.requires.wiring_value.plan-done, (c.requires.wiring_value.right-finds c.if-right_finder-eq0.false, c.requires.1))
+    record {
+      plan_value = c.requires.ready.plan-done;
+      finds = c.requires.ready.right-finds c.if-right_finder-eq0.false;
+      listening = c.requires.listening;
+    }
 
 pub returns : goal.returns
 returns c =
     record {
       side_swept = c.sweep_second-2.ensures.side_swept;
-      still_ready = ready-right-swept c.requires.wiring_value c.sweep_second-2.auto.finder c.if-right_finder-eq0.false c.sweep_second-2.ensures.still_finds;
+      still_ready = ready-right-swept c.requires.ready c.sweep_second-2.auto.finder c.if-right_finder-eq0.false c.sweep_second-2.ensures.still_finds;
       listening_left = c.sweep_second-2.ensures.listening_left;
     }

@@ -28,7 +28,7 @@ use Rattle.sweeps.proofs.sweep.sweep_second.Goals.{After-is_codeword, At-loop-v,
 -- ---- the call and the loop's head
 
 accepted : (c : Start) → plan_check (plan_of c.args.left.now c.args.right.now c.args.nl c.args.nr c.args.wiring.now) ≡ done []
-accepted c = c.requires.wiring_value
+accepted c = c.requires.plan_value
 
 below : (c : After-is_codeword) → c.loop-v.v < c.args.nr
 below c = omega arith
@@ -47,7 +47,7 @@ member : (c : After-is_codeword)
 member c = member-means _ _ c.is_codeword.ensures
 
 pub loop-v-init : goal.loop-v-init
-loop-v-init c = (search rules, round-start c.requires.1.1, c.requires.plan_value, λ i l. refl)
+loop-v-init c = (search rules, round-start c.requires.listening, c.requires.finds, λ i l. refl)
 
 pub offset_bounds-kept-v : goal.offset_bounds-kept-v
 offset_bounds-kept-v c = omega (arith, few (goal.at.offset_bounds-kept-v c).At-loop-v)
@@ -73,7 +73,13 @@ loop-v-preserved-then-is_codeword c =
 pub visit-bits-requires : goal.visit-bits-requires
 visit-bits-requires c =
     let turn = c.loop-v in
-    (accepted (goal.at.visit-bits-requires c).Start, (below (goal.at.visit-bits-requires c).After-is_codeword, (turn.invariant.2, (record { noted = λ e. absurd (right-left e) }, turn.invariant.1.reads))))
+    record {
+      plan_value = accepted (goal.at.visit-bits-requires c).Start;
+      v_bound = below (goal.at.visit-bits-requires c).After-is_codeword;
+      finds = turn.invariant.2;
+      across = record { noted = λ e. absurd (right-left e) };
+      words_read = turn.invariant.1.reads;
+    }
 
 pub overflow_add-changed : goal.overflow_add-changed
 overflow_add-changed c =
@@ -106,17 +112,19 @@ loop-v-preserved c =
       λ i l. visit.0.keeps.own i l ∙ turn.invariant.3 i l,
     )
 
-pub shape_of-finder : goal.shape_of-finder
-shape_of-finder c = c.loop-v.invariant.2.sized ∙ sym c.requires.plan_value.sized
+-- look: no goal for `same-length`
+-- same_length : tie.Need-same-length invariant-loop decreases-loop
+-- same_length c = c.loop-v.invariant.2.sized ∙ sym (start c.before.before).requires.finds.sized
 
-pub shape_of-block : goal.shape_of-block
-shape_of-block c = visits-length c.loop-v.invariant.1.visits
+-- look: no goal for `same-length-2`
+-- same-length-2 : tie.Need-same-length-2 invariant-loop decreases-loop
+-- same-length-2 c = visits-length c.loop-v.invariant.1.visits
 
 pub returns : goal.returns
 unfolding other
 returns c =
     let turn = c.loop-v in
-    let clear = news-ext c.requires.1.1.news turn.invariant.3 (few (goal.at.returns c).At-loop-v) in record {
+    let clear = news-ext c.requires.listening.news turn.invariant.3 (few (goal.at.returns c).At-loop-v) in record {
       side_swept = visits-sweep turn.invariant.1.visits (omega (arith, turn.invariant.0));
       still_finds = turn.invariant.2;
       listening_left = round-listening (accepted (goal.at.returns c).Start) turn.invariant.1 (silent-clear clear);

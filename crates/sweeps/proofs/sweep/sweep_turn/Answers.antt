@@ -6,12 +6,22 @@ use Rattle.sweeps.proofs.sweep.sweep_turn.Goals as goal
 pub sweep_news-requires : goal.sweep_news-requires
 sweep_news-requires c =
     let is = c.in-Left.is in
-    (c.requires.wiring_value.plan-done, (rw is c.requires.wiring_value.left-finds, (c.requires.ready, c.requires.1.1)))
+    record {
+      plan_value = c.requires.ready.plan-done;
+      finds = rw is c.requires.ready.left-finds;
+      across = c.requires.across;
+      hears = c.requires.hears;
+    }
 
 pub sweep_news-requires-then-right_finder-eq0 : goal.sweep_news-requires-then-right_finder-eq0
 sweep_news-requires-then-right_finder-eq0 c =
     let is = c.in-Right.is in
-    (c.requires.wiring_value.plan-done, (rw is (ready-shared c.requires.wiring_value c.if-right_finder-eq0.true), (c.requires.ready, c.requires.1.1)))
+    record {
+      plan_value = c.requires.ready.plan-done;
+      finds = rw is (ready-shared c.requires.ready c.if-right_finder-eq0.true);
+      across = c.requires.across;
+      hears = c.requires.hears;
+    }
 
 pub returns-then-right_finder-eq0 : goal.returns-then-right_finder-eq0
 returns-then-right_finder-eq0 c =
@@ -19,13 +29,18 @@ returns-then-right_finder-eq0 c =
     let swept = c.sweep_news-then-right_finder-eq0.ensures in
     record {
       news_swept = swept.0;
-      still_ready = ready-shared-swept c.requires.wiring_value c.if-right_finder-eq0.true (rw is at swept.1);
+      still_ready = ready-shared-swept c.requires.ready c.if-right_finder-eq0.true (rw is at swept.1);
     }
 
 pub sweep_news-requires-in-Right : goal.sweep_news-requires-in-Right
 sweep_news-requires-in-Right c =
     let is = c.in-Right.is in
-    (c.requires.wiring_value.plan-done, (rw is (c.requires.wiring_value.right-finds c.if-right_finder-eq0.false), (c.requires.ready, c.requires.1.1)))
+    record {
+      plan_value = c.requires.ready.plan-done;
+      finds = rw is (c.requires.ready.right-finds c.if-right_finder-eq0.false);
+      across = c.requires.across;
+      hears = c.requires.hears;
+    }
 
 pub returns-in-Left : goal.returns-in-Left
 returns-in-Left c =
@@ -33,7 +48,7 @@ returns-in-Left c =
     let swept = c.sweep_news.ensures in
     record {
       news_swept = swept.0;
-      still_ready = ready-left-swept c.requires.wiring_value (rw is at swept.1);
+      still_ready = ready-left-swept c.requires.ready (rw is at swept.1);
     }
 
 pub returns-else-right_finder-eq0 : goal.returns-else-right_finder-eq0
@@ -41,5 +56,5 @@ returns-else-right_finder-eq0 c =
     let is = c.in-Right.is in
     let swept = c.sweep_news-in-Right in record {
       news_swept = swept.ensures.0;
-      still_ready = ready-right-swept c.requires.wiring_value swept.auto.1.1.1.1.1.1.0 c.if-right_finder-eq0.false (rw is at swept.ensures.1);
+      still_ready = ready-right-swept c.requires.ready swept.auto.1.1.1.1.1.1.0 c.if-right_finder-eq0.false (rw is at swept.ensures.1);
     }

@@ -16,38 +16,35 @@ found c =
     rw (sheet-for (plan_of c.args.left.now c.args.right.now c.args.nl c.args.nr c.args.wiring.now) c.args.vertex.side) at c.nearest_on-step.ensures
 
 pub is_codeword-requires : goal.is_codeword-requires
-is_codeword-requires c = c.requires.v_bound.sized
+is_codeword-requires c = c.requires.finds.sized
 
 pub returns-then-is_codeword : goal.returns-then-is_codeword
 returns-then-is_codeword c =
     record {
-      visited_at = visit-codeword (plan_of c.args.left.now c.args.right.now c.args.nl c.args.nr c.args.wiring.now) c.requires.wiring_value c.args.vertex.side c.requires.v_bound _ _ c.requires.plan_value c.word_of-word.ensures
-          (member-means _ _ c.is_codeword.ensures) c.if-is_codeword.true c.requires.1.1.1.1;
-      still_finds = c.requires.v_bound;
+      visited_at = visit-codeword (plan_of c.args.left.now c.args.right.now c.args.nl c.args.nr c.args.wiring.now) c.requires.plan_value c.args.vertex.side c.requires.finds _ _ c.requires.v_bound c.word_of-word.ensures
+          (member-means _ _ c.is_codeword.ensures) c.if-is_codeword.true c.requires.words_read;
+      still_finds = c.requires.finds;
     }
 
 pub nearest_on-step-requires : goal.nearest_on-step-requires
 nearest_on-step-requires c =
-    nearest-asked (plan_of c.args.left.now c.args.right.now c.args.nl c.args.nr c.args.wiring.now) c.args.vertex.side c.requires.v_bound _ _ c.word_of-word.ensures
+    let both = (nearest-asked (plan_of c.args.left.now c.args.right.now c.args.nl c.args.nr c.args.wiring.now) c.args.vertex.side c.requires.finds _ _ c.word_of-word.ensures) in record { finds = both.0; word_bound = both.1 }
 
 pub put_told-requires : goal.put_told-requires
 put_told-requires c =
-    (
-      c.requires.wiring_value,
-      (
-        c.requires.plan_value,
-        (
-          visit-low (plan_of c.args.left.now c.args.right.now c.args.nl c.args.nr c.args.wiring.now) c.requires.wiring_value c.args.vertex.side c.requires.v_bound _ c.args.kept.now c.requires.plan_value c.word_of-word.ensures
-              (found (goal.at.put_told-requires c).After-nearest_on-step),
-          (c.requires.finds, c.requires.1.1.1.1),
-        ),
-      ),
-    )
+    record {
+      plan_value = c.requires.plan_value;
+      v_bound = c.requires.v_bound;
+      pattern_bound = visit-low (plan_of c.args.left.now c.args.right.now c.args.nl c.args.nr c.args.wiring.now) c.requires.plan_value c.args.vertex.side c.requires.finds _ c.args.kept.now c.requires.v_bound c.word_of-word.ensures
+              (found (goal.at.put_told-requires c).After-nearest_on-step);
+      across = c.requires.across;
+      words_read = c.requires.words_read;
+    }
 
 pub returns : goal.returns
 returns c =
     record {
-      visited_at = visit-put (plan_of c.args.left.now c.args.right.now c.args.nl c.args.nr c.args.wiring.now) c.requires.wiring_value c.args.vertex.side c.requires.v_bound _ _ c.requires.plan_value c.word_of-word.ensures
+      visited_at = visit-put (plan_of c.args.left.now c.args.right.now c.args.nl c.args.nr c.args.wiring.now) c.requires.plan_value c.args.vertex.side c.requires.finds _ _ c.requires.v_bound c.word_of-word.ensures
           (found (goal.at.returns c).After-nearest_on-step) c.put_told.ensures;
       still_finds = (found (goal.at.returns c).After-nearest_on-step).finds;
     }

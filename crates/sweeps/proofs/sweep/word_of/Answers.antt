@@ -12,20 +12,21 @@ use Rattle.sweeps.proofs.sweep.word_of.Goals as goal
 use Rattle.sweeps.proofs.sweep.word_of.Goals.{Start}
 
 vertex-few : (c : Start) → c.args.vertex.v < 2048
-vertex-few c = omega (arith, c.requires.plan_value, (plan-fits (plan_of c.args.left.now c.args.right.now c.args.nl c.args.nr c.args.wiring.now) c.requires.wiring_value c.args.vertex.side).n-high)
+vertex-few c = omega (arith, c.requires.v_bound, (plan-fits (plan_of c.args.left.now c.args.right.now c.args.nl c.args.nr c.args.wiring.now) c.requires.plan_value c.args.vertex.side).n-high)
 
 pub bounds-left-0 : goal.bounds-left-0
 bounds-left-0 c =
-    fitted-sheet _ (plan-fits (plan_of c.args.left.now c.args.right.now c.args.nl c.args.nr c.args.wiring.now) c.requires.wiring_value left)
+    fitted-sheet _ (plan-fits (plan_of c.args.left.now c.args.right.now c.args.nl c.args.nr c.args.wiring.now) c.requires.plan_value left)
 
-pub overflow_cast-left : goal.overflow_cast-left
-overflow_cast-left c = omega (arith, c.type_inv.left 0)
+-- look: no goal for `overflow-cast-left-word`
+-- cast-left-word : tie.Need-overflow-cast-left-word
+-- cast-left-word c = omega (arith, c.type_inv.left 0)
 
 pub left_word-requires : goal.left_word-requires
 unfolding degree
 left_word-requires c =
-    let fits = plan-fits (plan_of c.args.left.now c.args.right.now c.args.nl c.args.nr c.args.wiring.now) c.requires.wiring_value left in
-    let below : c.args.vertex.v < c.args.nl = rw c.in-Left.is at c.requires.plan_value in
+    let fits = plan-fits (plan_of c.args.left.now c.args.right.now c.args.nl c.args.nr c.args.wiring.now) c.requires.plan_value left in
+    let below : c.args.vertex.v < c.args.nl = rw c.in-Left.is at c.requires.v_bound in
     record {
       v_bound = omega (arith, below, fits.n-high);
       d_bound = fits.d-high;
@@ -46,5 +47,5 @@ pub returns-in-Right : goal.returns-in-Right
 unfolding at
 returns-in-Right c =
     let is = c.in-Right.is in
-    let below : c.args.vertex.v < c.args.nr = rw is at c.requires.plan_value in
-    rw is (c.requires.1.1.each _ below)
+    let below : c.args.vertex.v < c.args.nr = rw is at c.requires.v_bound in
+    rw is (c.requires.words_read.each _ below)

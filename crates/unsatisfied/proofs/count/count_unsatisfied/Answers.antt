@@ -44,7 +44,7 @@ few : (c : In-Passed) (name : SideName) → (code_in c.check_plan-plan.result na
 few c name = rw ((plan c).code_is name) (side-fits _ (plan c).plan-wired name).n-high
 
 pub overflow_add-result : goal.overflow_add-result
-overflow_add-result c = omega (arith, few (past-plan c) left, few (past-plan c) right)
+overflow_add-result c = omega (arith, few (goal.at.overflow_add-result c).In-Passed left, few (goal.at.overflow_add-result c).In-Passed right)
 
 pub returns-in-Refused : goal.returns-in-Refused
 returns-in-Refused c = count-plan-refused _ _ _ _ (plan-refused _ _ c.check_plan-plan.ensures _ c.in-Refused.is)

@@ -17,10 +17,10 @@ loop-i-preserved c =
     let turn = c.loop-i in (
       search rules,
       search rules,
-      length-set turn.auto turn.i 0 ∙ turn.invariant.2,
+      length-set turn.kept turn.i 0 ∙ turn.invariant.2,
       λ j l h. elim (ℕ_discrete j turn.i) [
-        | yes e ↦ rw e (at_set_same turn.auto turn.i 0 (omega (arith, turn.invariant.2)))
-        | no apart ↦ at_set_other turn.auto turn.i j 0 apart ∙ turn.invariant.3 j l (omega arith)
+        | yes e ↦ rw e (at_set_same turn.kept turn.i 0 (omega (arith, turn.invariant.2)))
+        | no apart ↦ at_set_other turn.kept turn.i j 0 apart ∙ turn.invariant.3 j l (omega arith)
       ],
     )
 

@@ -25,25 +25,27 @@ use Rattle.words.proofs.pattern.put_left.Goals.{After-highest-high, Start}
 -- ---- the call, the loop's head, and the plan
 
 accepted : (c : Start) → plan_check (plan_of c.args.left.now c.args.right.now c.args.nl c.args.nr c.args.wiring.now) ≡ done []
-accepted c = c.requires.wiring_value
+accepted c = c.requires.plan_value
 
 pub bounds-left-0 : goal.bounds-left-0
 bounds-left-0 c =
     fitted-sheet _ (plan-fits (plan_of c.args.left.now c.args.right.now c.args.nl c.args.nr c.args.wiring.now) (accepted (goal.at.bounds-left-0 c).Start) left)
 
-pub overflow_cast-d : goal.overflow_cast-d
-overflow_cast-d c = omega (arith, c.type_inv.left 0)
+-- look: no goal for `overflow-cast-d`
+-- cast-d : tie.Need-overflow-cast-d invariant-loop decreases-loop
+-- cast-d c = omega (arith, c.type_inv.left 0)
 
 pub bounds-right-0 : goal.bounds-right-0
 bounds-right-0 c = fitted-sheet _ (plan-fits (plan_of c.args.left.now c.args.right.now c.args.nl c.args.nr c.args.wiring.now) (accepted (goal.at.bounds-right-0 c).Start) right)
 
-pub overflow_cast-dr : goal.overflow_cast-dr
-overflow_cast-dr c = omega (arith, c.type_inv.right 0)
+-- look: no goal for `overflow-cast-dr`
+-- cast-dr : tie.Need-overflow-cast-dr invariant-loop decreases-loop
+-- cast-dr c = omega (arith, c.type_inv.right 0)
 
 -- an entry of vertex v
 entry-few : (c : Start) (j : ℕ) → j < degree c.args.left.now
     → c.args.v * degree c.args.left.now + j < edge_count (plan_of c.args.left.now c.args.right.now c.args.nl c.args.nr c.args.wiring.now)
-entry-few c j l = digits_lt c.requires.plan_value l
+entry-few c j l = digits_lt c.requires.v_lt_nl l
 
 pub overflow_mul-base : goal.overflow_mul-base
 unfolding degree
@@ -53,7 +55,7 @@ overflow_mul-base c =
 
 pub loop-rest-init : goal.loop-rest-init
 loop-rest-init c =
-    putting-start (plan_of c.args.left.now c.args.right.now c.args.nl c.args.nr c.args.wiring.now) (accepted (goal.at.loop-rest-init c).Start) left c.args.v c.requires.plan_value c.args.pattern _ _ c.requires.v_lt_nl c.requires.1.1.1.1
+    putting-start (plan_of c.args.left.now c.args.right.now c.args.nl c.args.nr c.args.wiring.now) (accepted (goal.at.loop-rest-init c).Start) left c.args.v c.requires.v_lt_nl c.args.pattern _ _ c.requires.pattern_bound c.requires.words_read
 
 -- the highest one is within the word, and the edge is one of the plan's
 within : (c : After-highest-high) → c.highest-high.result < degree c.args.left.now
@@ -84,21 +86,23 @@ offset_bounds-places-edge c = omega (arith, edge_few c)
 pub bounds-places-edge : goal.bounds-places-edge
 unfolding degree
 bounds-places-edge c =
-    omega (arith, edge-lt (goal.at.bounds-places-edge c).After-highest-high, plan-entries (plan_of c.args.left.now c.args.right.now c.args.nl c.args.nr c.args.wiring.now) (accepted (goal.at.bounds-places-edge c).Start), c.requires.pattern_bound.sized)
+    omega (arith, edge-lt (goal.at.bounds-places-edge c).After-highest-high, plan-entries (plan_of c.args.left.now c.args.right.now c.args.nl c.args.nr c.args.wiring.now) (accepted (goal.at.bounds-places-edge c).Start), c.requires.places_noted.sized)
 
-pub overflow_cast-place : goal.overflow_cast-place
-unfolding degree at
-overflow_cast-place c =
-    omega (
-      arith,
-      places-lt (plan_of c.args.left.now c.args.right.now c.args.nl c.args.nr c.args.wiring.now) (accepted (goal.at.overflow_cast-place c).Start) c.requires.pattern_bound ((c.args.v * degree c.args.left.now + (degree c.args.left.now - 1 - c.highest-high.result))) (edge-lt (goal.at.overflow_cast-place c).After-highest-high),
-      plan-few (plan_of c.args.left.now c.args.right.now c.args.nl c.args.nr c.args.wiring.now) (accepted (goal.at.overflow_cast-place c).Start),
-    )
+-- look: no goal for `overflow-cast-place`
+-- cast-place : tie.Need-overflow-cast-place invariant-loop decreases-loop
+-- unfolding degree at
+-- cast-place c =
+--     let top = c.before in
+--     omega (
+--       arith,
+--       places-lt (plan_in (begin top)) (accepted (begin top)) (begin top).requires.places_noted (edge_in top) (edge-lt top),
+--       plan-few (plan_in (begin top)) (accepted (begin top)),
+--     )
 
 -- ---- the place of the edge
 
 place-lt : (c : After-highest-high) → (at c.args.places.now ((c.args.v * degree c.args.left.now + (degree c.args.left.now - 1 - c.highest-high.result)))) < edge_count (plan_of c.args.left.now c.args.right.now c.args.nl c.args.nr c.args.wiring.now)
-place-lt c = places-lt (plan_of c.args.left.now c.args.right.now c.args.nl c.args.nr c.args.wiring.now) (accepted c.before.before.before.before.before.before.before.before.before.before.before) c.requires.pattern_bound ((c.args.v * degree c.args.left.now + (degree c.args.left.now - 1 - c.highest-high.result))) (edge-lt c)
+place-lt c = places-lt (plan_of c.args.left.now c.args.right.now c.args.nl c.args.nr c.args.wiring.now) (accepted c.before.before.before.before.before.before.before.before.before.before.before) c.requires.places_noted ((c.args.v * degree c.args.left.now + (degree c.args.left.now - 1 - c.highest-high.result))) (edge-lt c)
 
 place-vertex : (c : After-highest-high) → (at c.args.places.now ((c.args.v * degree c.args.left.now + (degree c.args.left.now - 1 - c.highest-high.result)))) / degree c.args.right.now < c.args.nr
 place-vertex c =
@@ -131,14 +135,15 @@ loop-rest-smaller c =
 pub loop-rest-preserved : goal.loop-rest-preserved
 unfolding degree at side_bit told_right news_of other
 loop-rest-preserved c =
-    let bit = places-bit (plan_of c.args.left.now c.args.right.now c.args.nl c.args.nr c.args.wiring.now) (accepted (goal.at.loop-rest-preserved c).Start) c.requires.pattern_bound ((c.args.v * degree c.args.left.now + (degree c.args.left.now - 1 - c.highest-high.result))) (edge-lt (goal.at.loop-rest-preserved c).After-highest-high) in
-    putting-more (plan_of c.args.left.now c.args.right.now c.args.nl c.args.nr c.args.wiring.now) (accepted (goal.at.loop-rest-preserved c).Start) left c.args.v c.requires.plan_value c.args.pattern _ _ c.loop-rest.invariant _ c.highest-high.ensures.power_low
+    let bit = places-bit (plan_of c.args.left.now c.args.right.now c.args.nl c.args.nr c.args.wiring.now) (accepted (goal.at.loop-rest-preserved c).Start) c.requires.places_noted ((c.args.v * degree c.args.left.now + (degree c.args.left.now - 1 - c.highest-high.result))) (edge-lt (goal.at.loop-rest-preserved c).After-highest-high) in
+    putting-more (plan_of c.args.left.now c.args.right.now c.args.nl c.args.nr c.args.wiring.now) (accepted (goal.at.loop-rest-preserved c).Start) left c.args.v c.requires.v_lt_nl c.args.pattern _ _ c.loop-rest.invariant _ c.highest-high.ensures.power_low
     c.highest-high.ensures.power_high _ refl c.power-rest.ensures c.turn_bit.ensures
     ((at c.args.places.now ((c.args.v * degree c.args.left.now + (degree c.args.left.now - 1 - c.highest-high.result))))) (place-lt (goal.at.loop-rest-preserved c).After-highest-high) bit refl ((at c.args.places.now ((c.args.v * degree c.args.left.now + (degree c.args.left.now - 1 - c.highest-high.result))))) (place-lt (goal.at.loop-rest-preserved c).After-highest-high) bit c.tell_right.ensures
 
-pub shape_of-block : goal.shape_of-block
-shape_of-block c = rest-sized c.loop-rest.invariant.left_over ∙ length-pattern _ _ _ _ _ _
+-- look: no goal for `same-length`
+-- same_length : tie.Need-same-length invariant-loop decreases-loop
+-- same_length c = rest-sized c.loop-rest.invariant.left_over ∙ length-pattern _ _ _ _ _ _
 
 pub returns : goal.returns
 returns c =
-    putting-done (plan_of c.args.left.now c.args.right.now c.args.nl c.args.nr c.args.wiring.now) (accepted (goal.at.returns c).Start) left c.args.v c.requires.plan_value c.args.pattern _ _ c.loop-rest.invariant (omega arith)
+    putting-done (plan_of c.args.left.now c.args.right.now c.args.nl c.args.nr c.args.wiring.now) (accepted (goal.at.returns c).Start) left c.args.v c.requires.v_lt_nl c.args.pattern _ _ c.loop-rest.invariant (omega arith)

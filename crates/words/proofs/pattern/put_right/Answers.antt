@@ -27,23 +27,25 @@ use Rattle.words.proofs.pattern.put_right.Goals.{After-highest-high, Start}
 -- ---- the call, the loop's head, and the plan
 
 accepted : (c : Start) → plan_check (plan_of c.args.left.now c.args.right.now c.args.nl c.args.nr c.args.wiring.now) ≡ done []
-accepted c = c.requires.wiring_value
+accepted c = c.requires.plan_value
 
 vertex-few : (c : Start) → c.args.v < 2048
-vertex-few c = omega (arith, c.requires.plan_value, (plan-fits (plan_of c.args.left.now c.args.right.now c.args.nl c.args.nr c.args.wiring.now) (accepted c) right).n-high)
+vertex-few c = omega (arith, c.requires.v_lt_nr, (plan-fits (plan_of c.args.left.now c.args.right.now c.args.nl c.args.nr c.args.wiring.now) (accepted c) right).n-high)
 
 pub bounds-right-0 : goal.bounds-right-0
 bounds-right-0 c =
     fitted-sheet _ (plan-fits (plan_of c.args.left.now c.args.right.now c.args.nl c.args.nr c.args.wiring.now) (accepted (goal.at.bounds-right-0 c).Start) right)
 
-pub overflow_cast-d : goal.overflow_cast-d
-overflow_cast-d c = omega (arith, c.type_inv.right 0)
+-- look: no goal for `overflow-cast-d`
+-- cast-d : tie.Need-overflow-cast-d invariant-loop decreases-loop
+-- cast-d c = omega (arith, c.type_inv.right 0)
 
 pub bounds-left-0 : goal.bounds-left-0
 bounds-left-0 c = fitted-sheet _ (plan-fits (plan_of c.args.left.now c.args.right.now c.args.nl c.args.nr c.args.wiring.now) (accepted (goal.at.bounds-left-0 c).Start) left)
 
-pub overflow_cast-dl : goal.overflow_cast-dl
-overflow_cast-dl c = omega (arith, c.type_inv.left 0)
+-- look: no goal for `overflow-cast-dl`
+-- cast-dl : tie.Need-overflow-cast-dl invariant-loop decreases-loop
+-- cast-dl c = omega (arith, c.type_inv.left 0)
 
 pub overflow_mul-base : goal.overflow_mul-base
 unfolding degree
@@ -53,7 +55,7 @@ overflow_mul-base c =
 
 pub loop-rest-init : goal.loop-rest-init
 loop-rest-init c =
-    putting-start (plan_of c.args.left.now c.args.right.now c.args.nl c.args.nr c.args.wiring.now) (accepted (goal.at.loop-rest-init c).Start) right c.args.v c.requires.plan_value c.args.pattern _ _ c.requires.v_lt_nr c.requires.1.1.1
+    putting-start (plan_of c.args.left.now c.args.right.now c.args.nl c.args.nr c.args.wiring.now) (accepted (goal.at.loop-rest-init c).Start) right c.args.v c.requires.v_lt_nr c.args.pattern _ _ c.requires.pattern_bound c.requires.words_read
 
 -- the highest one is within the word, and its entry is one of the plan's
 within : (c : After-highest-high) → c.highest-high.result < degree c.args.right.now
@@ -61,7 +63,7 @@ within c = rest-high c.loop-rest.invariant.left_over _ c.highest-high.ensures.po
 
 entry_lt : (c : After-highest-high) → (c.args.v * degree c.args.right.now + (degree c.args.right.now - 1 - c.highest-high.result)) < edge_count (plan_of c.args.left.now c.args.right.now c.args.nl c.args.nr c.args.wiring.now)
 entry_lt c =
-    putting-entry (plan_of c.args.left.now c.args.right.now c.args.nl c.args.nr c.args.wiring.now) (accepted c.before.before.before.before.before.before.before.before.before.before) right c.args.v c.requires.plan_value c.args.pattern _ _ c.loop-rest.invariant _ c.highest-high.ensures.power_low
+    putting-entry (plan_of c.args.left.now c.args.right.now c.args.nl c.args.nr c.args.wiring.now) (accepted c.before.before.before.before.before.before.before.before.before.before) right c.args.v c.requires.v_lt_nr c.args.pattern _ _ c.loop-rest.invariant _ c.highest-high.ensures.power_low
     c.highest-high.ensures.power_high
 
 entry-few : (c : After-highest-high) → (c.args.v * degree c.args.right.now + (degree c.args.right.now - 1 - c.highest-high.result)) < 32768
@@ -147,7 +149,7 @@ loop-rest-preserved c =
     let weight : c.highest-high.result ≡ d - 1 - (c.args.v * degree c.args.right.now + (degree c.args.right.now - 1 - c.highest-high.result)) % d = omega (arith, within (goal.at.loop-rest-preserved c).After-highest-high, digits_mod c.args.v in-word) in
     let edge = c.edge_at-edge.ensures in
     let power = c.power.ensures in
-    putting-more (plan_of c.args.left.now c.args.right.now c.args.nl c.args.nr c.args.wiring.now) (accepted (goal.at.loop-rest-preserved c).Start) right c.args.v c.requires.plan_value c.args.pattern _ _ c.loop-rest.invariant _ c.highest-high.ensures.power_low
+    putting-more (plan_of c.args.left.now c.args.right.now c.args.nl c.args.nr c.args.wiring.now) (accepted (goal.at.loop-rest-preserved c).Start) right c.args.v c.requires.v_lt_nr c.args.pattern _ _ c.loop-rest.invariant _ c.highest-high.ensures.power_low
     c.highest-high.ensures.power_high _ edge c.power-rest.ensures c.turn_bit.ensures
     ((c.args.v * degree c.args.right.now + (degree c.args.right.now - 1 - c.highest-high.result))) (entry_lt (goal.at.loop-rest-preserved c).After-highest-high) edge
     (ap₂ (λ (i x : ℕ). set kept i (bit_xor (at kept i) x)) vertex (power ∙ ap (λ (i : ℕ). 2 ^ i) weight))
@@ -156,9 +158,10 @@ loop-rest-preserved c =
     ∙ ap₂ (λ (from u : ℕ). marked (set kept c.args.v (bit_xor (at kept c.args.v) c.power.result)) from u)
     c.news_of.ensures c.vertex_at.ensures)
 
-pub shape_of-block : goal.shape_of-block
-shape_of-block c = rest-sized c.loop-rest.invariant.left_over ∙ length-pattern _ _ _ _ _ _
+-- look: no goal for `same-length`
+-- same_length : tie.Need-same-length invariant-loop decreases-loop
+-- same_length c = rest-sized c.loop-rest.invariant.left_over ∙ length-pattern _ _ _ _ _ _
 
 pub returns : goal.returns
 returns c =
-    putting-done (plan_of c.args.left.now c.args.right.now c.args.nl c.args.nr c.args.wiring.now) (accepted (goal.at.returns c).Start) right c.args.v c.requires.plan_value c.args.pattern _ _ c.loop-rest.invariant (omega arith)
+    putting-done (plan_of c.args.left.now c.args.right.now c.args.nl c.args.nr c.args.wiring.now) (accepted (goal.at.returns c).Start) right c.args.v c.requires.v_lt_nr c.args.pattern _ _ c.loop-rest.invariant (omega arith)
