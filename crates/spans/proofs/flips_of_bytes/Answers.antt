@@ -27,11 +27,13 @@ module _ (a b : List ℕ) (a-bytes : (k : ℕ) → get_or a k 0 < 256) (b-bytes 
 
 pub overflow_cast-count : goal.overflow_cast-count
 overflow_cast-count c =
-    omega (arith, few c.args.a.now c.args.b.now (search rules) (search rules) c.args.first c.loop-i.i c.loop-i.count (omega arith) c.loop-i.invariant.2)
+    let turn = c.loop-i in
+    omega (arith, few c.args.a.now c.args.b.now (search rules) (search rules) c.args.first turn.i turn.count (omega arith) turn.invariant.2)
 
 pub overflow_add-count : goal.overflow_add-count
 overflow_add-count c =
-    omega (arith, few c.args.a.now c.args.b.now (search rules) (search rules) c.args.first c.loop-i.i c.loop-i.count (omega arith) c.loop-i.invariant.2)
+    let turn = c.loop-i in
+    omega (arith, few c.args.a.now c.args.b.now (search rules) (search rules) c.args.first turn.i turn.count (omega arith) turn.invariant.2)
 
 pub loop-i-preserved : goal.loop-i-preserved
 loop-i-preserved c = (
