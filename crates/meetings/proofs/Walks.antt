@@ -53,12 +53,12 @@ arrivals-le left from m w = count-le m (λ i. eqb (left (from + i)) w)
 
 walked_none : (left right : ℕ → ℕ) (d base w : ℕ) → walked left right d base 0 w ≡ 0
 unfolding walked
-walked_none left right d base w = refl
+walked_none left _ d base w = refl
 
 walked-one-more : (left right : ℕ → ℕ) (d base m w : ℕ)
     → walked left right d base (m + 1) w ≡ walked left right d base m w + arrivals left (right (base + m) * d) d w
 unfolding walked
-walked-one-more left right d base m w = sum-one-more m _
+walked-one-more left _ d base m w = sum-one-more m _
 
 walked-le : (left right : ℕ → ℕ) (d base m w : ℕ) → walked left right d base m w ≤ m * d
 unfolding walked

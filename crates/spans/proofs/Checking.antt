@@ -106,7 +106,7 @@ unfolding pairs_check
 pairs-each N lost zero e j l = absurd (not-suc-le-zero l)
 pairs-each {values} N lost (suc m) e j l =
     let ((passed, before), last) = and_then-done _ _ values e in
-    ⊎_elim (λ (q : j ≡ m). rw q (span-passed N lost m last)) (λ (k : j < m). pairs-each N lost m before j k)
+    ⊎_elim (λ (q : j ≡ m). rw q (span-passed N lost m last)) (λ (k : j < m). pairs-each {values = passed} N lost m before j k)
     (eq-or-lt_of_le (le_of_suc-le-suc l))
 
 pairs-done : {values : List ℕ} (N : ℕ) (lost : List ℕ) (m : ℕ) → pairs_check N lost m ≡ done values → pairs_check N lost m ≡ done []

@@ -1,5 +1,4 @@
 -- `report::agreeing` meets its contract: equal bytes have equal bits, and otherwise bit i alone decides.
-use borrow.Author.Rules.{rules}
 use native.Mathlib.Omega.{arith}
 use Rattle.report.proofs.Reporting.{agreeing-byte, agreeing-bit, agreeing-none}
 use Rattle.report.proofs.agreeing.Goals as goal

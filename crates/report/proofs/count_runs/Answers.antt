@@ -1,11 +1,10 @@
 -- `report::count_runs` meets its contract: at bit i `start` is where the run that is open there begins, i where none is, and `count` is the
 -- number of runs that have ended. A stretch that agrees ends the open run and begins none.
 use borrow.Author.Rules.{rules}
-use mathlib.Core.Logic.{⊎_elim}
 use mathlib.Core.Path.{◌≡◌, sym, ap, ◌∙◌}
-use Prim.Native.Nat.{◌+◌, ◌-◌, ◌≤◌, ◌<◌}
+use Prim.Native.Nat.{◌+◌, ◌<◌}
 use native.Mathlib.Omega.{arith}
-use Rattle.report.specs.Report.{differs_at, run_start, run_count}
+use Rattle.report.specs.Report.{differs_at, run_count}
 use Rattle.report.proofs.Runs.{start-zero, start-one-more-inside, run_count-zero, run_count-le}
 use Rattle.report.proofs.Reporting.{inside-count, stretch-start, stretch-count-ends, stretch-count-none}
 use Rattle.report.proofs.count_runs.Goals as goal
@@ -41,9 +40,9 @@ loop-i-preserved c =
       same.ensures.within,
       sym (stretch-start test before.i same.result some same.ensures.each),
       (elim c.if-start-i.branch [
-          | then-start-i w ↦ omega (arith, stretch-count-ends test before.i same.result some same.ensures.each (omega arith))
-          | else-start-i w ↦ omega (arith, stretch-count-none test before.i same.result some same.ensures.each (omega arith))
-        ]),
+        | then-start-i w ↦ omega (arith, stretch-count-ends test before.i same.result some same.ensures.each (omega arith))
+        | else-start-i w ↦ omega (arith, stretch-count-none test before.i same.result some same.ensures.each (omega arith))
+      ]),
     )
 
 pub returns : goal.returns

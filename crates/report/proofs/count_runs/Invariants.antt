@@ -1,11 +1,6 @@
-use borrow.Author.Rules.{rules}
-use mathlib.Core.Logic.{⊎_elim}
-use mathlib.Core.Path.{◌≡◌, sym, ap, ◌∙◌}
-use Prim.Native.Nat.{◌+◌, ◌-◌, ◌≤◌, ◌<◌}
-use native.Mathlib.Omega.{arith}
+use mathlib.Core.Path.{◌≡◌}
+use Prim.Native.Nat.{◌+◌, ◌-◌, ◌≤◌}
 use Rattle.report.specs.Report.{differs_at, run_start, run_count}
-use Rattle.report.proofs.Runs.{start-zero, start-one-more-inside, run_count-zero, run_count-le}
-use Rattle.report.proofs.Reporting.{inside-count, stretch-start, stretch-count-ends, stretch-count-none}
 use Rattle.report.proofs.count_runs.Given as goal
 
 abbrev pub invariant-loop-i : goal.invariant-loop-i

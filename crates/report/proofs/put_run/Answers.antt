@@ -1,5 +1,4 @@
 -- `report::put_run` meets its contract: its four stores are those of the run's bytes.
-use borrow.Author.Rules.{rules}
 use native.Mathlib.Omega.{arith}
 use lib.ListN.{length-set}
 use Rattle.report.proofs.Reporting.{stored-pair}

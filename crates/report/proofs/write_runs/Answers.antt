@@ -2,9 +2,8 @@
 -- have ended stand at the front of the list, up to the index `at`.
 use borrow.Author.Rules.{rules}
 use mathlib.Core.List.{List}
-use mathlib.Core.Logic.{⊎_elim}
 use mathlib.Core.Path.{◌≡◌, sym, ap, ◌∙◌}
-use Prim.Native.Nat.{ℕ, ◌+◌, ◌-◌, ◌*◌, ◌≤◌, ◌<◌}
+use Prim.Native.Nat.{ℕ, ◌+◌, ◌<◌}
 use native.Mathlib.Omega.{arith}
 use lib.ListN.{length}
 use Rattle.bits.proofs.Fronts.{written_none}
@@ -12,7 +11,7 @@ use Rattle.bits.specs.Bit.{written}
 use Rattle.report.proofs.Runs.{start-zero, start-one-more-inside, run_count-zero, run_count-le, run_bytes-zero}
 use Rattle.report.proofs.Reporting.{inside-count, inside-bytes, stretch-start, stretch-count-ends, stretch-count-none, stretch-bytes-none}
 use Rattle.report.proofs.Reporting.{written-length, written-room, written-ends}
-use Rattle.report.specs.Report.{differs_at, run_start, run_count, run_bytes}
+use Rattle.report.specs.Report.{differs_at, run_bytes}
 use Rattle.report.proofs.write_runs.Goals as goal
 use Rattle.report.proofs.write_runs.Goals.{At-loop-i, else-offset-i, then-offset-i}
 
@@ -76,17 +75,17 @@ loop-i-preserved c =
       same.ensures.within,
       sym (stretch-start test before.i same.result some same.ensures.each),
       (elim c.if-offset-i.branch [
-          | then-offset-i w ↦ omega (arith, stretch-count-ends test before.i same.result some same.ensures.each (omega arith))
-          | else-offset-i w ↦ omega (arith, stretch-count-none test before.i same.result some same.ensures.each (omega arith))
-        ]),
+        | then-offset-i w ↦ omega (arith, stretch-count-ends test before.i same.result some same.ensures.each (omega arith))
+        | else-offset-i w ↦ omega (arith, stretch-count-none test before.i same.result some same.ensures.each (omega arith))
+      ]),
       (elim c.if-offset-i.branch [
-          | then-offset-i w ↦ w.5 ∙ w.2.ensures
-          ∙ written-ends test args.edges args.list.now room before.i same.result some same.ensures.each same.ensures.within
-          (omega arith) before.offset before.at before.list before.invariant.1 before.invariant.2 before.invariant.3
-          | else-offset-i w ↦ w.1 ∙ before.invariant.3
-          ∙ ap (λ (bytes : List ℕ). written bytes args.list.now)
-          (sym (stretch-bytes-none test before.i same.result some same.ensures.each (omega arith)))
-        ]),
+        | then-offset-i w ↦ w.list-is ∙ w.put_run.ensures
+            ∙ written-ends test args.edges args.list.now room before.i same.result some same.ensures.each same.ensures.within
+            (omega arith) before.offset before.at before.list before.invariant.1 before.invariant.2 before.invariant.3
+        | else-offset-i w ↦ w.list-is ∙ before.invariant.3
+            ∙ ap (λ (bytes : List ℕ). written bytes args.list.now)
+            (sym (stretch-bytes-none test before.i same.result some same.ensures.each (omega arith)))
+      ]),
     )
 
 pub shape_of-list : goal.shape_of-list

@@ -1,15 +1,6 @@
-use borrow.Author.Rules.{rules}
-use mathlib.Core.List.{List}
-use mathlib.Core.Logic.{⊎_elim}
-use mathlib.Core.Path.{◌≡◌, sym, ap, ◌∙◌}
-use Prim.Native.Nat.{ℕ, ◌+◌, ◌-◌, ◌*◌, ◌≤◌, ◌<◌}
-use native.Mathlib.Omega.{arith}
-use lib.ListN.{length}
-use Rattle.bits.proofs.Fronts.{written_none}
+use mathlib.Core.Path.{◌≡◌}
+use Prim.Native.Nat.{◌+◌, ◌-◌, ◌*◌, ◌≤◌}
 use Rattle.bits.specs.Bit.{written}
-use Rattle.report.proofs.Runs.{start-zero, start-one-more-inside, run_count-zero, run_count-le, run_bytes-zero}
-use Rattle.report.proofs.Reporting.{inside-count, inside-bytes, stretch-start, stretch-count-ends, stretch-count-none, stretch-bytes-none}
-use Rattle.report.proofs.Reporting.{written-length, written-room, written-ends}
 use Rattle.report.specs.Report.{differs_at, run_start, run_count, run_bytes}
 use Rattle.report.proofs.write_runs.Given as goal
 

@@ -1,13 +1,12 @@
 -- `spans::check_spans` meets its contract: after j turns the first j pairs have passed, and `before` is the end of the last of them. Each return is
 -- the outcome of the first test that refuses.
 use borrow.Author.Rules.{rules}
-use Prim.Native.Nat.{ℕ, ◌+◌, ◌-◌, ◌/◌, ◌≤◌}
-use mathlib.Core.List.{List, []}
+use Prim.Native.Nat.{ℕ, ◌+◌, ◌/◌}
 use mathlib.Core.Path.{◌≡◌, sym, ap, ◌∙◌}
 use native.Mathlib.Numerals.{add-one}
 use native.Mathlib.Omega.{arith}
 use lib.ListN.{length}
-use Rattle.inner_code.specs.Reply.{done, refused}
+use Rattle.inner_code.specs.Reply.{refused}
 use Rattle.spans.specs.Spans.{end_of, end_before, span_check, pairs_check, spans_check}
 use Rattle.spans.proofs.Filling.{end_is}
 use Rattle.spans.proofs.Checking.{before-zero, before-suc, span-empty, span-beyond, span-early, span-fine, pairs-zero, pairs-one-more}
@@ -25,39 +24,44 @@ loop-j-init c =
 
 -- ---- the call from the loop's head on, and the loop's head from where a pair is read
 
-ends : (c : After-length_of-length) → c.start_of-start.result + c.length_of-length.result ≡ end_of (c.args.lost.now) c.loop-j.j
-ends c = omega (arith, c.start_of-start.ensures.0, c.length_of-length.ensures.0, end_is (c.args.lost.now) c.loop-j.j)
+ends : (c : After-length_of-length) → c.start_of-start.result + c.length_of-length.result ≡ end_of c.args.lost.now c.loop-j.j
+ends c = omega (arith, c.start_of-start.ensures.0, c.length_of-length.ensures.0, end_is c.args.lost.now c.loop-j.j)
 
 -- a pair that is refused is the first
-stops : (c : After-length_of-length) (number : ℕ) → span_check (c.args.bits) (c.args.lost.now) c.loop-j.j ≡ refused number 0
-    → spans_check (c.args.bits) (c.args.lost.now) ≡ refused number 0
+stops : (c : After-length_of-length) (number : ℕ) → span_check c.args.bits c.args.lost.now c.loop-j.j ≡ refused number 0
+    → spans_check c.args.bits c.args.lost.now ≡ refused number 0
 stops c number e =
-    spans-refused (c.args.bits) (c.args.lost.now) c.loop-j.j number 0 c.if-lost-ne0.false c.loop-j.invariant.1 e (omega arith)
+    spans-refused c.args.bits c.args.lost.now c.loop-j.j number 0 c.if-lost-ne0.false c.loop-j.invariant.1 e (omega arith)
 
 pub returns-then-length-eq0 : goal.returns-then-length-eq0
 returns-then-length-eq0 c =
+    let read = (goal.at.returns-then-length-eq0 c).After-length_of-length in
     let empty = sym c.length_of-length.ensures.0 ∙ c.if-length-eq0.true in
-    c.refuse-then-length-eq0.ensures ∙ sym (stops (goal.at.returns-then-length-eq0 c).After-length_of-length 25 (span-empty (c.args.bits) (c.args.lost.now) c.loop-j.j empty))
+    c.refuse-then-length-eq0.ensures ∙ sym (stops read 25 (span-empty c.args.bits c.args.lost.now c.loop-j.j empty))
 
 pub returns-then-bits-end : goal.returns-then-bits-end
 returns-then-bits-end c =
-    c.refuse-then-bits-end.ensures ∙ sym (stops (goal.at.returns-then-bits-end c).After-length_of-length 25 (span-beyond (c.args.bits) (c.args.lost.now) c.loop-j.j (omega (arith, ends (goal.at.returns-then-bits-end c).After-length_of-length))))
+    let read = (goal.at.returns-then-bits-end c).After-length_of-length in
+    c.refuse-then-bits-end.ensures ∙ sym (stops read 25 (span-beyond c.args.bits c.args.lost.now c.loop-j.j (omega (arith, ends read))))
 
 pub returns-then-start-before : goal.returns-then-start-before
 returns-then-start-before c =
+    let read = (goal.at.returns-then-start-before c).After-length_of-length in
     c.refuse-then-start-before.ensures
-    ∙ sym (stops (goal.at.returns-then-start-before c).After-length_of-length 26
-    (span-early (c.args.bits) (c.args.lost.now) c.loop-j.j (λ q. c.if-length-eq0.false (c.length_of-length.ensures.0 ∙ q))
-    (omega (arith, ends (goal.at.returns-then-start-before c).After-length_of-length)) (omega (arith, c.start_of-start.ensures.0, c.loop-j.invariant.2))))
+    ∙ sym (stops read 26
+    (span-early c.args.bits c.args.lost.now c.loop-j.j (λ q. c.if-length-eq0.false (c.length_of-length.ensures.0 ∙ q))
+    (omega (arith, ends read)) (omega (arith, c.start_of-start.ensures.0, c.loop-j.invariant.2))))
 
 pub loop-j-preserved : goal.loop-j-preserved
 loop-j-preserved c =
+    let read = (goal.at.loop-j-preserved c).After-length_of-length in
+    let lost = c.args.lost.now in
     let turn = c.loop-j in
-    let fine = span-fine (c.args.bits) (c.args.lost.now) turn.j (λ q. c.if-length-eq0.false (c.length_of-length.ensures.0 ∙ q))
-    (omega (arith, ends (goal.at.loop-j-preserved c).After-length_of-length)) (omega (arith, c.start_of-start.ensures.0, turn.invariant.2)) in (
+    let fine = span-fine c.args.bits lost turn.j (λ q. c.if-length-eq0.false (c.length_of-length.ensures.0 ∙ q))
+    (omega (arith, ends read)) (omega (arith, c.start_of-start.ensures.0, turn.invariant.2)) in (
       search rules,
-      pairs-one-more (c.args.bits) (c.args.lost.now) turn.j turn.invariant.1 fine,
-      ends (goal.at.loop-j-preserved c).After-length_of-length ∙ sym (ap (end_before (c.args.lost.now)) (add-one turn.j) ∙ before-suc (c.args.lost.now) turn.j),
+      pairs-one-more c.args.bits lost turn.j turn.invariant.1 fine,
+      ends read ∙ sym (ap (end_before lost) (add-one turn.j) ∙ before-suc lost turn.j),
     )
 
 pub returns : goal.returns

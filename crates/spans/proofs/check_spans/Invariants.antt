@@ -1,15 +1,8 @@
-use borrow.Author.Rules.{rules}
-use Prim.Native.Nat.{ℕ, ◌+◌, ◌-◌, ◌/◌, ◌≤◌}
-use mathlib.Core.List.{List, []}
-use mathlib.Core.Path.{◌≡◌, sym, ap, ◌∙◌}
-use native.Mathlib.Numerals.{add-one}
-use native.Mathlib.Omega.{arith}
-use lib.ListN.{length}
-use Rattle.inner_code.specs.Reply.{done, refused}
-use Rattle.spans.specs.Spans.{end_of, end_before, span_check, pairs_check, spans_check}
-use Rattle.spans.proofs.Filling.{end_is}
-use Rattle.spans.proofs.Checking.{before-zero, before-suc, span-empty, span-beyond, span-early, span-fine, pairs-zero, pairs-one-more}
-use Rattle.spans.proofs.Checking.{spans-unsized, spans-refused, spans_all}
+use Prim.Native.Nat.{◌-◌, ◌≤◌}
+use mathlib.Core.List.{[]}
+use mathlib.Core.Path.{◌≡◌}
+use Rattle.inner_code.specs.Reply.{done}
+use Rattle.spans.specs.Spans.{end_before, pairs_check}
 use Rattle.spans.proofs.check_spans.Given as goal
 
 abbrev pub invariant-loop-j : goal.invariant-loop-j

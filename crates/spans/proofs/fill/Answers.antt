@@ -1,6 +1,6 @@
 -- `spans::fill` meets its contract: after j turns the bits of the first j pairs are made, and all pairs hold exactly the lost bits.
 use borrow.Author.Rules.{rules}
-use Prim.Native.Nat.{ℕ, ◌-◌, ◌%◌, ◌≤◌}
+use Prim.Native.Nat.{ℕ, ◌%◌}
 use mathlib.Core.Path.{◌≡◌, sym, ap, ◌∙◌}
 use native.Mathlib.Omega.{arith}
 use lib.ListN.{length}
@@ -40,4 +40,4 @@ returns c =
     let b = args.value % 2 in
     c.loop-j.invariant.1
     ∙ ap (λ (j : ℕ). pairs_made b args.lost.now j args.block.now) (all-pairs c)
-    ∙ pairs_made-filled b args.lost.now args.block.now (omega arith) (λ k. (c.type_inv.block k).fits)
+    ∙ pairs_made-filled b args.lost.now args.block.now (omega arith) (search rules)

@@ -1,11 +1,6 @@
-use borrow.Author.Rules.{rules}
-use Prim.Native.Nat.{ℕ, ◌-◌, ◌%◌, ◌≤◌}
-use mathlib.Core.Path.{◌≡◌, sym, ap, ◌∙◌}
-use native.Mathlib.Omega.{arith}
-use lib.ListN.{length}
-use Rattle.spans.specs.Spans.{pair_count}
+use Prim.Native.Nat.{◌-◌, ◌%◌, ◌≤◌}
+use mathlib.Core.Path.{◌≡◌}
 use Rattle.spans.specs.Walking.{pairs_made}
-use Rattle.spans.proofs.Filling.{pairs_made-zero, pairs_made-next, pairs_made-filled, length-pairs_made}
 use Rattle.spans.proofs.fill.Given as goal
 
 abbrev pub invariant-loop-j : goal.invariant-loop-j

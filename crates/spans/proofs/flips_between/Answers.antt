@@ -1,6 +1,5 @@
 -- `spans::flips_between` meets its contract: the bits before the first whole byte, the whole bytes, and the bits behind the last one are all the
 -- bits.
-use borrow.Author.Rules.{rules}
 use Prim.Native.Nat.{◌+◌, ◌*◌, ◌/◌}
 use native.Mathlib.Omega.{arith}
 use Rattle.spans.proofs.Gaps.{between-append}

@@ -1,10 +1,6 @@
-use borrow.Author.Rules.{rules}
-use Prim.Native.Nat.{◌+◌, ◌-◌, ◌≤◌, max}
-use mathlib.Core.Path.{◌≡◌, sym, ap₂, ◌∙◌}
-use native.Mathlib.Omega.{arith}
-use lib.Bits.{bit_xor}
+use Prim.Native.Nat.{◌-◌, ◌≤◌, max}
+use mathlib.Core.Path.{◌≡◌}
 use Rattle.spans.specs.Walking.{flips_between}
-use Rattle.spans.proofs.Gaps.{between_none, between-end, between_le, between-one-more}
 use Rattle.spans.proofs.flips_of_bits.Given as goal
 
 abbrev pub invariant-loop-i : goal.invariant-loop-i

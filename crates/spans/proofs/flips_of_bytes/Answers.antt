@@ -1,6 +1,7 @@
 -- `spans::flips_of_bytes` meets its contract: after i - first turns the bits of the bytes from `first` to before i are counted.
 use borrow.Author.Rules.{rules}
-use Prim.Native.Nat.{ℕ, ◌+◌, ◌-◌, ◌*◌, ◌≤◌}
+use Prim.Native.Nat.{ℕ, ◌+◌, ◌-◌, ◌*◌, ◌≤◌, ◌<◌}
+use mathlib.Core.List.{List}
 use mathlib.Core.Path.{◌≡◌, sym, ap, ◌∙◌}
 use native.Mathlib.Omega.{arith}
 use lib.Bits.{bit_xor}
@@ -9,42 +10,37 @@ use lib.ListN.{get_or}
 use Rattle.spans.specs.Walking.{flips_between}
 use Rattle.spans.proofs.Gaps.{between_none, between_le, between-byte-more}
 use Rattle.spans.proofs.flips_of_bytes.Goals as goal
-use Rattle.spans.proofs.flips_of_bytes.Goals.{After-shared_slice_known-in-loop-i-1}
 
 pub loop-i-init : goal.loop-i-init
 loop-i-init c =
     (search rules, search rules, sym (between_none c.args.a.now c.args.b.now (8 * c.args.first) (8 * c.args.first) (omega arith)))
 
--- the count with one more byte
-counted : (c : After-shared_slice_known-in-loop-i-1)
-    → let args = c.args in
-    let i = c.loop-i.i in
-    c.loop-i.count + ones (bit_xor (get_or args.a.now i 0) (get_or args.b.now i 0))
-    ≡ flips_between args.a.now args.b.now (8 * args.first) (8 * (i + 1))
-counted c =
-    let args = c.args in
-    let i = c.loop-i.i in
-    ap (λ (n : ℕ). n + ones (bit_xor (get_or args.a.now i 0) (get_or args.b.now i 0))) c.loop-i.invariant.2
-    ∙ sym (between-byte-more args.a.now args.b.now (λ k. (c.type_inv.a k).fits)
-    (λ k. (c.type_inv.b k).fits) args.first i c.loop-i.invariant.0)
+-- the count with one more byte, at most the number of bits
+module _ (a b : List ℕ) (a-bytes : (k : ℕ) → get_or a k 0 < 256) (b-bytes : (k : ℕ) → get_or b k 0 < 256) (first i count : ℕ)
+    (behind : first ≤ i) (so-far : count ≡ flips_between a b (8 * first) (8 * i)) where
+  counted : count + ones (bit_xor (get_or a i 0) (get_or b i 0)) ≡ flips_between a b (8 * first) (8 * (i + 1))
+  counted =
+      ap (λ (n : ℕ). n + ones (bit_xor (get_or a i 0) (get_or b i 0))) so-far ∙ sym (between-byte-more a b a-bytes b-bytes first i behind)
 
--- it is at most the number of bits
-few : (c : After-shared_slice_known-in-loop-i-1)
-    → let args = c.args in
-    let i = c.loop-i.i in
-    c.loop-i.count + ones (bit_xor (get_or args.a.now i 0) (get_or args.b.now i 0)) ≤ 8 * (i + 1) - 8 * args.first
-few c =
-    let args = c.args in
-    omega (arith, counted c, between_le args.a.now args.b.now (8 * args.first) (8 * (c.loop-i.i + 1)))
+  few : count + ones (bit_xor (get_or a i 0) (get_or b i 0)) ≤ 8 * (i + 1) - 8 * first
+  few = omega (arith, counted, between_le a b (8 * first) (8 * (i + 1)))
 
 pub overflow_cast-count : goal.overflow_cast-count
-overflow_cast-count c = omega (arith, few c)
+overflow_cast-count c =
+    let turn = c.loop-i in
+    omega (arith, few c.args.a.now c.args.b.now (search rules) (search rules) c.args.first turn.i turn.count (omega arith) turn.invariant.2)
 
 pub overflow_add-count : goal.overflow_add-count
-overflow_add-count c = omega (arith, few c)
+overflow_add-count c =
+    let turn = c.loop-i in
+    omega (arith, few c.args.a.now c.args.b.now (search rules) (search rules) c.args.first turn.i turn.count (omega arith) turn.invariant.2)
 
 pub loop-i-preserved : goal.loop-i-preserved
-loop-i-preserved c = (search rules, search rules, counted c)
+loop-i-preserved c = (
+  search rules,
+  search rules,
+  counted c.args.a.now c.args.b.now (search rules) (search rules) c.args.first c.loop-i.i c.loop-i.count (omega arith) c.loop-i.invariant.2,
+)
 
 pub returns : goal.returns
 returns c =

@@ -1,12 +1,6 @@
-use borrow.Author.Rules.{rules}
-use Prim.Native.Nat.{ℕ, ◌+◌, ◌-◌, ◌*◌, ◌≤◌}
-use mathlib.Core.Path.{◌≡◌, sym, ap, ◌∙◌}
-use native.Mathlib.Omega.{arith}
-use lib.Bits.{bit_xor}
-use lib.Count.{ones}
-use lib.ListN.{get_or}
+use Prim.Native.Nat.{◌-◌, ◌*◌, ◌≤◌}
+use mathlib.Core.Path.{◌≡◌}
 use Rattle.spans.specs.Walking.{flips_between}
-use Rattle.spans.proofs.Gaps.{between_none, between_le, between-byte-more}
 use Rattle.spans.proofs.flips_of_bytes.Given as goal
 
 abbrev pub invariant-loop-i : goal.invariant-loop-i

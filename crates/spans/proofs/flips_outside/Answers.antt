@@ -1,13 +1,12 @@
 -- `spans::flips_outside` meets its contract: after j turns the gaps before the first j pairs are counted, and `reach` is the farthest end of
 -- these pairs. The count is at most that end, so no sum wraps.
 use borrow.Author.Rules.{rules}
-use Prim.Native.Nat.{ℕ, ◌+◌, ◌-◌, ◌/◌, ◌≤◌, ◌<◌}
-use mathlib.Core.Logic.{⊎_elim}
+use Prim.Native.Nat.{ℕ, ◌+◌, ◌/◌}
 use mathlib.Core.Path.{◌≡◌, sym, ap, ap₂, ◌∙◌}
 use native.Mathlib.Omega.{arith}
 use lib.ListN.{length}
 use Rattle.spans.specs.Spans.{end_of}
-use Rattle.spans.specs.Walking.{flips_between, reach, flips_in_gaps}
+use Rattle.spans.specs.Walking.{flips_between, flips_in_gaps}
 use Rattle.spans.proofs.Filling.{end_is}
 use Rattle.spans.proofs.Gaps.{between_le, reach-zero, reach-farther, reach-stays, gaps-zero, gaps-one-more, gaps-le, around-is}
 use Rattle.spans.proofs.flips_outside.Goals as goal
@@ -51,13 +50,13 @@ loop-j-preserved c =
     omega (arith, begins.0, size.0, end_is lost turn.j) in (
       search rules,
       (elim c.if-reach-end.branch [
-          | then-reach-end t ↦ t.1 ∙ reach-farther lost turn.j turn.reach _ turn.invariant.1 end t.if-reach-end.true
-          | else-reach-end t ↦ t.1 ∙ reach-stays lost turn.j turn.reach _ turn.invariant.1 end t.if-reach-end.false
-        ]),
+        | then-reach-end t ↦ t.reach-is ∙ reach-farther lost turn.j turn.reach _ turn.invariant.1 end t.if-reach-end.true
+        | else-reach-end t ↦ t.reach-is ∙ reach-stays lost turn.j turn.reach _ turn.invariant.1 end t.if-reach-end.false
+      ]),
       (elim c.if-reach-end.branch [
-          | then-reach-end t ↦ omega (arith, t.1, begins.1, size.1)
-          | else-reach-end t ↦ omega (arith, t.1, turn.invariant.2)
-        ]),
+        | then-reach-end t ↦ omega (arith, t.reach-is, begins.1, size.1)
+        | else-reach-end t ↦ omega (arith, t.reach-is, turn.invariant.2)
+      ]),
       counted (goal.at.loop-j-preserved c).After-flips_between-count,
     )
 

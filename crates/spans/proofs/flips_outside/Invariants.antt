@@ -1,13 +1,6 @@
-use borrow.Author.Rules.{rules}
-use Prim.Native.Nat.{ℕ, ◌+◌, ◌-◌, ◌/◌, ◌≤◌, ◌<◌}
-use mathlib.Core.Logic.{⊎_elim}
-use mathlib.Core.Path.{◌≡◌, sym, ap, ap₂, ◌∙◌}
-use native.Mathlib.Omega.{arith}
-use lib.ListN.{length}
-use Rattle.spans.specs.Spans.{end_of}
-use Rattle.spans.specs.Walking.{flips_between, reach, flips_in_gaps}
-use Rattle.spans.proofs.Filling.{end_is}
-use Rattle.spans.proofs.Gaps.{between_le, reach-zero, reach-farther, reach-stays, gaps-zero, gaps-one-more, gaps-le, around-is}
+use Prim.Native.Nat.{◌-◌, ◌≤◌, ◌<◌}
+use mathlib.Core.Path.{◌≡◌}
+use Rattle.spans.specs.Walking.{reach, flips_in_gaps}
 use Rattle.spans.proofs.flips_outside.Given as goal
 
 abbrev pub invariant-loop-j : goal.invariant-loop-j

@@ -1,13 +1,9 @@
 -- `spans::make` meets its contract: the bits before the first whole byte, the whole bytes, and the bits behind the last one are all the bits, in
 -- their order.
-use borrow.Author.Rules.{rules}
 use Prim.Native.Nat.{◌+◌, ◌/◌, ◌%◌}
 use native.Mathlib.Omega.{arith}
 use Rattle.spans.proofs.Filling.{made-parts}
 use Rattle.spans.proofs.make.Goals as goal
-
-pub make_bytes-requires : goal.make_bytes-requires
-make_bytes-requires c = (search rules, search rules, λ k. (c.type_inv.block k).fits)
 
 pub returns : goal.returns
 returns c =

@@ -1,12 +1,6 @@
-use borrow.Author.Rules.{rules}
-use Prim.Native.Nat.{ℕ, ◌+◌, ◌-◌, ◌%◌, ◌≤◌}
-use mathlib.Core.List.{List}
-use mathlib.Core.Path.{◌≡◌, sym, ap, ◌∙◌}
-use native.Mathlib.Omega.{arith}
-use lib.ListN.{length}
-use Rattle.bits.specs.Bit.{with_bit}
+use Prim.Native.Nat.{◌-◌, ◌%◌, ◌≤◌}
+use mathlib.Core.Path.{◌≡◌}
 use Rattle.spans.specs.Walking.{made}
-use Rattle.spans.proofs.Filling.{made_none, made-one-more, length-made}
 use Rattle.spans.proofs.make_bits.Given as goal
 
 abbrev pub invariant-loop-i : goal.invariant-loop-i

@@ -1,8 +1,7 @@
 -- `spans::make_bytes` meets its contract: after i - first turns the bits of the bytes from `first` to before i are made. A store is eight bits;
 -- past the end nothing is stored, and no bit is made.
 use borrow.Author.Rules.{rules}
-use Prim.Native.Nat.{ℕ, ◌-◌, ◌*◌, ◌%◌, ◌≤◌}
-use mathlib.Core.Logic.{⊎_elim}
+use Prim.Native.Nat.{ℕ, ◌-◌, ◌*◌, ◌%◌}
 use mathlib.Core.Path.{◌≡◌, sym, ap, ◌∙◌}
 use native.Mathlib.Omega.{arith}
 use lib.ListN.{length}
@@ -24,10 +23,10 @@ loop-i-preserved c =
       search rules,
       search rules,
       (elim c.if-i-block.branch [
-          | then-i-block t ↦ t.1 ∙ bytes-stored b args.first turn.i args.block.now turn.block turn.invariant.0 turn.invariant.2 (omega arith)
-          t.if-i-block.true c.requires.2
-          | else-i-block t ↦ t.1 ∙ bytes_past b args.first turn.i args.block.now turn.block turn.invariant.0 turn.invariant.2 t.if-i-block.false
-        ]),
+        | then-i-block t ↦ t.block-is ∙ bytes-stored b args.first turn.i args.block.now turn.block turn.invariant.0 turn.invariant.2 (omega arith)
+            t.if-i-block.true c.requires.2
+        | else-i-block t ↦ t.block-is ∙ bytes_past b args.first turn.i args.block.now turn.block turn.invariant.0 turn.invariant.2 t.if-i-block.false
+      ]),
     )
 
 pub shape_of-block : goal.shape_of-block

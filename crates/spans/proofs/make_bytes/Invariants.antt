@@ -1,11 +1,6 @@
-use borrow.Author.Rules.{rules}
-use Prim.Native.Nat.{ℕ, ◌-◌, ◌*◌, ◌%◌, ◌≤◌}
-use mathlib.Core.Logic.{⊎_elim}
-use mathlib.Core.Path.{◌≡◌, sym, ap, ◌∙◌}
-use native.Mathlib.Omega.{arith}
-use lib.ListN.{length}
+use Prim.Native.Nat.{◌-◌, ◌*◌, ◌%◌, ◌≤◌}
+use mathlib.Core.Path.{◌≡◌}
 use Rattle.spans.specs.Walking.{made}
-use Rattle.spans.proofs.Filling.{made_none, length-made, bytes-stored, bytes_past}
 use Rattle.spans.proofs.make_bytes.Given as goal
 
 abbrev pub invariant-loop-i : goal.invariant-loop-i

@@ -1,10 +1,8 @@
 -- `meetings::clear` meets its contract: after w turns the first w counts are 0, and the slice has kept its length.
 use mathlib.Core.Path.{◌≡◌}
-use Prim.Native.Nat.{◌-◌, ◌≤◌}
 use borrow.Author.Rules.{rules}
 use native.Mathlib.Omega.{arith}
-use lib.ListN.{length, length-set}
-use Rattle.meetings.specs.Walk.{Fresh}
+use lib.ListN.{length-set}
 use Rattle.meetings.proofs.Walks.{fresh-none, fresh-one-more}
 use Rattle.meetings.proofs.spread.clear.Goals as goal
 

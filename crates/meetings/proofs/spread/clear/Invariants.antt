@@ -1,10 +1,7 @@
 use mathlib.Core.Path.{◌≡◌}
 use Prim.Native.Nat.{◌-◌, ◌≤◌}
-use borrow.Author.Rules.{rules}
-use native.Mathlib.Omega.{arith}
-use lib.ListN.{length, length-set}
+use lib.ListN.{length}
 use Rattle.meetings.specs.Walk.{Fresh}
-use Rattle.meetings.proofs.Walks.{fresh-none, fresh-one-more}
 use Rattle.meetings.proofs.spread.clear.Given as goal
 
 abbrev pub invariant-loop-w : goal.invariant-loop-w

@@ -1,15 +1,13 @@
 -- `meetings::count_edges` meets its contract: after i turns each count has risen by the number of the first i entries with that left
 -- vertex. No count can wrap, since d entries put at most 16 on it.
 use mathlib.Core.Path.{◌≡◌, refl}
-use Prim.Native.Nat.{◌+◌, ◌-◌, ◌≤◌, ◌<◌}
+use Prim.Native.Nat.{◌+◌}
 use borrow.Author.Rules.{rules}
 use native.Mathlib.Omega.{arith}
-use lib.ListN.{length, length-set}
+use lib.ListN.{length-set}
 use Rattle.bits.specs.Window.{at}
-use Rattle.meetings.specs.Walk.{arrivals, Counted}
 use Rattle.meetings.proofs.Walks.{counted_none, counted-one-more, counted-low}
 use Rattle.meetings.proofs.spread.count_edges.Goals as goal
-use Rattle.meetings.proofs.spread.count_edges.Goals.{After-slice_known-1}
 
 pub loop-i-init : goal.loop-i-init
 loop-i-init c = (search rules, refl, counted_none (at c.args.lefts.now) c.args.from c.args.counts.now)
@@ -20,14 +18,9 @@ overflow_cast-left c = omega (arith, c.type_inv.lefts (c.args.from + c.loop-i.i)
 pub offset_bounds-counts-left : goal.offset_bounds-counts-left
 offset_bounds-counts-left c = omega (arith, c.type_inv.lefts (c.args.from + c.loop-i.i))
 
--- the entry's left vertex has a count
-inside : (c : After-slice_known-1)
-    → at c.args.lefts.now (c.args.from + c.loop-i.i) < length c.loop-i.counts
-inside c = omega (arith, c.requires.left_lt c.loop-i.i (omega arith), c.loop-i.invariant.1)
-
 pub bounds-counts-left : goal.bounds-counts-left
 unfolding at
-bounds-counts-left c = inside c
+bounds-counts-left c = omega (arith, c.requires.left_lt c.loop-i.i (omega arith), c.loop-i.invariant.1)
 
 pub overflow_add-counts : goal.overflow_add-counts
 unfolding at
@@ -41,7 +34,7 @@ overflow_add-counts c =
 
 pub bounds-counts-left-in-loop-i : goal.bounds-counts-left-in-loop-i
 unfolding at
-bounds-counts-left-in-loop-i c = inside c
+bounds-counts-left-in-loop-i c = omega (arith, c.requires.left_lt c.loop-i.i (omega arith), c.loop-i.invariant.1)
 
 pub loop-i-preserved : goal.loop-i-preserved
 unfolding at

@@ -1,11 +1,8 @@
-use mathlib.Core.Path.{◌≡◌, refl}
-use Prim.Native.Nat.{◌+◌, ◌-◌, ◌≤◌, ◌<◌}
-use borrow.Author.Rules.{rules}
-use native.Mathlib.Omega.{arith}
-use lib.ListN.{length, length-set}
+use mathlib.Core.Path.{◌≡◌}
+use Prim.Native.Nat.{◌-◌, ◌≤◌}
+use lib.ListN.{length}
 use Rattle.bits.specs.Window.{at}
 use Rattle.meetings.specs.Walk.{arrivals, Counted}
-use Rattle.meetings.proofs.Walks.{counted_none, counted-one-more, counted-low}
 use Rattle.meetings.proofs.spread.count_edges.Given as goal
 
 abbrev pub invariant-loop-i : goal.invariant-loop-i

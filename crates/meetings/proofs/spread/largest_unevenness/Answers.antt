@@ -1,8 +1,7 @@
 -- `meetings::largest_unevenness` meets its contract: each turn's counts are those of the walk of u alone, so that its sum is the one of u,
 -- and after u turns `largest` is the largest of the first u sums.
 use mathlib.Core.Path.{◌≡◌, refl, sym, ap, ◌∙◌}
-use mathlib.Core.Logic.{⊎_elim}
-use Prim.Native.Nat.{◌-◌, ◌≤◌, ◌<◌}
+use Prim.Native.Nat.{◌<◌}
 use borrow.Author.Rules.{rules}
 use native.Mathlib.Nat.{mul-le-mul_right}
 use native.Mathlib.Omega.{arith}
@@ -46,15 +45,17 @@ loop-u-preserved c =
     let args = c.args in
     let left = at args.lefts.now in
     let right = at args.rights.now in
-    let sum_is_lem =
+    let sum_is =
     c.unevenness_of-sum.ensures
     ∙ walked-uneven c.requires at_turn.u (omega arith) _ c.clear.ensures _ c.walk.ensures in (
       search rules,
       sized (goal.at.loop-u-preserved c).After-walk,
       (elim c.if-largest-sum.branch [
-          | then-largest-sum w ↦ w.1 ∙ largest-raised left right args.nl args.nr args.dl args.dr at_turn.u at_turn.largest _ at_turn.invariant.2 sum_is_lem w.if-largest-sum.true
-          | else-largest-sum w ↦ w.1 ∙ largest-kept left right args.nl args.nr args.dl args.dr at_turn.u at_turn.largest _ at_turn.invariant.2 sum_is_lem w.if-largest-sum.false
-        ]),
+        | then-largest-sum w ↦ w.largest-is
+            ∙ largest-raised left right args.nl args.nr args.dl args.dr at_turn.u at_turn.largest _ at_turn.invariant.2 sum_is w.if-largest-sum.true
+        | else-largest-sum w ↦ w.largest-is
+            ∙ largest-kept left right args.nl args.nr args.dl args.dr at_turn.u at_turn.largest _ at_turn.invariant.2 sum_is w.if-largest-sum.false
+      ]),
     )
 
 pub returns : goal.returns

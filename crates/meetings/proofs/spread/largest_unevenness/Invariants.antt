@@ -1,13 +1,8 @@
-use mathlib.Core.Path.{◌≡◌, refl, sym, ap, ◌∙◌}
-use mathlib.Core.Logic.{⊎_elim}
-use Prim.Native.Nat.{◌-◌, ◌≤◌, ◌<◌}
-use borrow.Author.Rules.{rules}
-use native.Mathlib.Nat.{mul-le-mul_right}
-use native.Mathlib.Omega.{arith}
+use mathlib.Core.Path.{◌≡◌}
+use Prim.Native.Nat.{◌-◌, ◌≤◌}
 use lib.ListN.{length}
 use Rattle.bits.specs.Window.{at}
 use Rattle.meetings.specs.Walk.{largest_walked}
-use Rattle.meetings.proofs.Walks.{ends-walkable, walked-summable, walked-uneven, largest-none, largest-raised, largest-kept}
 use Rattle.meetings.proofs.spread.largest_unevenness.Given as goal
 
 abbrev pub invariant-loop-u : goal.invariant-loop-u

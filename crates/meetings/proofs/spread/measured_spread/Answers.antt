@@ -1,66 +1,66 @@
 -- `meetings::measured_spread` meets its contract: the vertices that are noted are those of the wiring, and the walks over them count the
 -- meeting numbers.
-use mathlib.Core.Path.{sym, subst}
+use mathlib.Core.Path.{◌≡◌, sym, ap, subst, ◌∙◌}
 use Prim.Native.Nat.{ℕ, ◌≤◌}
-use borrow.Author.Rules.{rules}
 use native.Mathlib.Omega.{arith}
 use lib.ListN.{length, replicate, length-replicate}
 use Rattle.inner_code.specs.Sheet.{degree}
-use Rattle.wiring.specs.Plan.{Plan, plan_of, edge_count, edge_of}
+use Rattle.wiring.specs.Plan.{Plan, plan_of, edge_count, side_of}
+use Rattle.meetings.specs.Spread.{spread}
 use Rattle.wiring.specs.Checking.{WiredPlan}
-use Rattle.wiring.specs.Ends.{Noted}
 use Rattle.wiring.proofs.EdgeEnds.{wired-notable}
 use Rattle.wiring.proofs.Permutation.{fitted-edges}
 use Rattle.wiring.proofs.Plans.{fitted-sheet}
 use Rattle.meetings.proofs.Walks.{noted-walk, walked-spread}
 use Rattle.meetings.proofs.spread.measured_spread.Goals as goal
-use Rattle.meetings.proofs.spread.measured_spread.Goals.{After-note_ends}
 
 -- the arrays have room for all edges
 room : (plan : Plan) → WiredPlan plan → edge_count plan ≤ length (replicate {A = ℕ} 32768 0)
 room plan w = subst (λ (m : ℕ). edge_count plan ≤ m) (sym (length-replicate {A = ℕ} 32768 0)) (fitted-edges w.left-fits)
 
+-- the arguments' plan is the one that is wired
+wired : {plan named : Plan} → plan ≡ named → WiredPlan named → WiredPlan plan
+wired is w = subst WiredPlan (sym is) w
+
 pub bounds-left-0 : goal.bounds-left-0
-bounds-left-0 c = fitted-sheet _ c.requires.left-fits
+bounds-left-0 g c = fitted-sheet _ (wired c.requires.0 c.requires.1).left-fits
 
 pub overflow_cast-dl : goal.overflow_cast-dl
-overflow_cast-dl c = omega (arith, c.type_inv.left 0)
+overflow_cast-dl g c = omega (arith, c.type_inv.left 0)
 
 pub bounds-right-0 : goal.bounds-right-0
-bounds-right-0 c = fitted-sheet _ c.requires.right-fits
+bounds-right-0 g c = fitted-sheet _ (wired c.requires.0 c.requires.1).right-fits
 
 pub overflow_cast-dr : goal.overflow_cast-dr
-overflow_cast-dr c = omega (arith, c.type_inv.right 0)
+overflow_cast-dr g c = omega (arith, c.type_inv.right 0)
 
 pub overflow_mul-nl : goal.overflow_mul-nl
 unfolding degree
-overflow_mul-nl c = omega (arith, fitted-edges c.requires.left-fits)
+overflow_mul-nl g c = omega (arith, fitted-edges (wired c.requires.0 c.requires.1).left-fits)
 
 pub note_ends-requires : goal.note_ends-requires
 unfolding degree
-note_ends-requires c =
-    let fits = room (plan_of c.args.left.now c.args.right.now c.args.nl c.args.nr c.args.wiring.now) c.requires in
-    wired-notable c.requires fits fits
+note_ends-requires g c =
+    let plan = plan_of c.args.left.now c.args.right.now c.args.nl c.args.nr c.args.wiring.now in
+    let is_wired : WiredPlan plan = wired c.requires.0 c.requires.1 in
+    let fits = room plan is_wired in
+    wired-notable is_wired fits fits
 
 -- ---- past the notes of all edges
 
-noted : (c : After-note_ends)
-    → let plan = (plan_of c.args.left.now c.args.right.now c.args.nl c.args.nr c.args.wiring.now) in
-    Noted (edge_of plan.wiring) (degree plan.left_sheet) (degree plan.right_sheet) (edge_count plan)
-    c.note_ends.new.lefts c.note_ends.new.rights
-unfolding degree
-noted c = c.note_ends.ensures.noted
-
 pub largest_unevenness-requires : goal.largest_unevenness-requires
 unfolding degree
-largest_unevenness-requires c =
-    let plan : Plan = (plan_of c.args.left.now c.args.right.now c.args.nl c.args.nr c.args.wiring.now) in
-    let fits = room plan c.requires in
-    noted-walk plan c.requires (noted (goal.at.largest_unevenness-requires c).After-note_ends)
+largest_unevenness-requires g c =
+    let plan = plan_of c.args.left.now c.args.right.now c.args.nl c.args.nr c.args.wiring.now in
+    let is_wired : WiredPlan plan = wired c.requires.0 c.requires.1 in
+    let fits = room plan is_wired in
+    noted-walk plan is_wired c.note_ends.ensures.noted
     (subst (λ (m : ℕ). edge_count plan ≤ m) (sym c.note_ends.auto.lefts) fits)
     (subst (λ (m : ℕ). edge_count plan ≤ m) (sym c.note_ends.auto.rights) fits)
 
 pub returns : goal.returns
 unfolding degree
-returns c =
-    walked-spread (plan_of c.args.left.now c.args.right.now c.args.nl c.args.nr c.args.wiring.now) c.requires (noted (goal.at.returns c).After-note_ends) c.largest_unevenness.result c.largest_unevenness.ensures
+returns g c =
+    let plan = plan_of c.args.left.now c.args.right.now c.args.nl c.args.nr c.args.wiring.now in
+    walked-spread plan (wired c.requires.0 c.requires.1) c.note_ends.ensures.noted c.largest_unevenness.result c.largest_unevenness.ensures
+    ∙ ap (λ (p : Plan). spread (side_of p)) c.requires.0

@@ -1,23 +1,17 @@
 -- `meetings::plan_spread` meets its contract: a refusal of the plan's check is handed on, and of an accepted plan the measure gives the
 -- spread.
-use mathlib.Core.Path.{sym}
-use borrow.Author.Rules.{rules}
-use Rattle.wiring.specs.Plan.{Plan, plan_of}
+use mathlib.Core.Path.{refl, sym}
+use Rattle.wiring.specs.Plan.{plan_of}
 use Rattle.wiring.proofs.Plans.{PlanAccepted, plan-accepted, plan-refused}
 use Rattle.meetings.proofs.Answers.{spread-refused, spread-done}
 use Rattle.meetings.proofs.spread.plan_spread.Goals as goal
-use Rattle.meetings.proofs.spread.plan_spread.Goals.{After-check_plan-plan, In-Passed}
+use Rattle.meetings.proofs.spread.plan_spread.Goals.{In-Passed}
 
-abbrev plan_in : After-check_plan-plan → Plan
-plan_in c =
-    let args = c.args in
-    plan_of args.left.now args.right.now args.nl args.nr args.wiring.now
-
-plan : (c : In-Passed) → PlanAccepted (plan_in (record { before = c.before.before; type_inv = record { wiring = c.shared_slice_known-3-1.given; right = c.shared_slice_known-2-1.given; left = c.shared_slice_known-1.given; } })) c.check_plan-plan.result
+plan : (c : In-Passed) → PlanAccepted (plan_of c.args.left.now c.args.right.now c.args.nl c.args.nr c.args.wiring.now) c.check_plan-plan.result
 plan c = plan-accepted _ _ c.check_plan-plan.ensures c.in-Passed.is
 
 pub measured_spread-requires : goal.measured_spread-requires
-measured_spread-requires c = (plan c).plan-wired
+measured_spread-requires c = (refl, (plan (goal.at.measured_spread-requires c).In-Passed).plan-wired)
 
 pub returns-in-Refused : goal.returns-in-Refused
 returns-in-Refused c = sym (spread-refused _ _ _ (plan-refused _ _ c.check_plan-plan.ensures _ c.in-Refused.is))

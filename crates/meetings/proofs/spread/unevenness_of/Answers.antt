@@ -1,8 +1,6 @@
 -- `meetings::unevenness_of` meets its contract: after w turns `sum` is the sum over the first w counts. Each summand is at most 2^19, so
 -- that 2,048 of them fit 32 bits.
 use mathlib.Core.Path.{◌≡◌, sym, ap, ◌∙◌}
-use mathlib.Core.Logic.{⊎_elim}
-use Prim.Native.Nat.{◌-◌, ◌≤◌}
 use borrow.Author.Rules.{rules}
 use native.Mathlib.Omega.{arith}
 use Rattle.bits.specs.Window.{at}
@@ -45,9 +43,9 @@ loop-w-preserved c =
     let count = at args.counts.now in (
       search rules,
       (elim c.if-met-even.branch [
-          | then-met-even w ↦ w.1 ∙ uneven-under count args.nr args.dl before.w before.sum before.invariant.1 w.if-met-even.true
-          | else-met-even w ↦ w.1 ∙ uneven-over count args.nr args.dl before.w before.sum before.invariant.1 w.if-met-even.false
-        ]),
+        | then-met-even w ↦ w.sum-is ∙ uneven-under count args.nr args.dl before.w before.sum before.invariant.1 w.if-met-even.true
+        | else-met-even w ↦ w.sum-is ∙ uneven-over count args.nr args.dl before.w before.sum before.invariant.1 w.if-met-even.false
+      ]),
     )
 
 pub overflow_cast-result : goal.overflow_cast-result

@@ -1,11 +1,7 @@
-use mathlib.Core.Path.{◌≡◌, sym, ap, ◌∙◌}
-use mathlib.Core.Logic.{⊎_elim}
+use mathlib.Core.Path.{◌≡◌}
 use Prim.Native.Nat.{◌-◌, ◌≤◌}
-use borrow.Author.Rules.{rules}
-use native.Mathlib.Omega.{arith}
 use Rattle.bits.specs.Window.{at}
 use Rattle.meetings.specs.Walk.{uneven_by}
-use Rattle.meetings.proofs.Walks.{uneven-none, uneven-under, uneven-over, uneven-le, met-le, degrees-le}
 use Rattle.meetings.proofs.spread.unevenness_of.Given as goal
 
 abbrev pub invariant-loop-w : goal.invariant-loop-w

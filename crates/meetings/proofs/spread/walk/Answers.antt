@@ -1,11 +1,9 @@
 -- `meetings::walk` meets its contract: after j turns each count has risen by the number of walks that go by one of the first j edges.
 use mathlib.Core.Path.{◌≡◌, refl, ◌∙◌}
-use Prim.Native.Nat.{◌+◌, ◌-◌, ◌≤◌}
+use Prim.Native.Nat.{◌+◌}
 use borrow.Author.Rules.{rules}
 use native.Mathlib.Omega.{arith}
-use lib.ListN.{length}
 use Rattle.bits.specs.Window.{at}
-use Rattle.meetings.specs.Walk.{walked, Counted}
 use Rattle.meetings.proofs.Walks.{walk_none, walk-one-more, walk-countable}
 use Rattle.meetings.proofs.spread.walk.Goals as goal
 
@@ -36,9 +34,9 @@ loop-j-preserved c =
     let before = c.loop-j in
     let args = c.args in (
       search rules,
-      counting.auto.1.1.1.0 ∙ before.invariant.1,
+      counting.auto.counts ∙ before.invariant.1,
       walk-one-more args.lefts.now args.rights.now args.base args.dr before.j args.counts.now before.counts
-          counting.new.1.1.1.0 before.invariant.1 before.invariant.2 counting.ensures,
+          counting.new.counts before.invariant.1 before.invariant.2 counting.ensures,
     )
 
 pub returns : goal.returns

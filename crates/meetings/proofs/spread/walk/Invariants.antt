@@ -1,11 +1,8 @@
-use mathlib.Core.Path.{◌≡◌, refl, ◌∙◌}
-use Prim.Native.Nat.{◌+◌, ◌-◌, ◌≤◌}
-use borrow.Author.Rules.{rules}
-use native.Mathlib.Omega.{arith}
+use mathlib.Core.Path.{◌≡◌}
+use Prim.Native.Nat.{◌-◌, ◌≤◌}
 use lib.ListN.{length}
 use Rattle.bits.specs.Window.{at}
 use Rattle.meetings.specs.Walk.{walked, Counted}
-use Rattle.meetings.proofs.Walks.{walk_none, walk-one-more, walk-countable}
 use Rattle.meetings.proofs.spread.walk.Given as goal
 
 abbrev pub invariant-loop-j : goal.invariant-loop-j
