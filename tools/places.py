@@ -291,7 +291,7 @@ class File:
                 root = mod[0]
             elif name in self.domain and len(args) == 1 and not mod:
                 root = args[0]
-            if root and not re.search(r"(?<![" + IDC + r".-])" + re.escape(root) + r"(?![" + IDC + r".-])", new):
+            if root and ".before" not in new and not re.search(r"(?<![" + IDC + r".-])" + re.escape(root) + r"(?![" + IDC + r".-])", new):
                 self.inline[name] = (root, new.strip())
                 return "\n".join(L for L in head.split("\n") if L.startswith("--"))
         return head + sig + deff + new

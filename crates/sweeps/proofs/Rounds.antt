@@ -91,7 +91,7 @@ module _ {plan : Plan} {name : SideName} {before : List ℕ} where
       }
     where
       ap-side : {side : SideName} → name ≡ side → NewsTold plan side block block kept
-      ap-side e = rw e at (news-silent clear (plan-fits plan accepted name).n-high block)
+      ap-side e = rw e at (news-silent {plan = plan} clear (plan-fits plan accepted name).n-high block)
 
 -- ---- one visit
 

@@ -49,13 +49,13 @@ tells c wiring =
 pub returns-then-not-is_codeword : goal.returns-then-not-is_codeword
 returns-then-not-is_codeword c = record {
       when_true = λ e. absurd (true≢false (sym e));
-      when_false = λ _ wiring. (c.loop-v.v, omega arith, sym (tells (goal.at.returns-then-not-is_codeword c).After-is_codeword wiring) ∙ not-true _ c.if-not-is_codeword.true);
+      when_false = λ _ wiring. (c.loop-v.v, omega arith, sym (tells (goal.at.returns-then-not-is_codeword c).After-is_codeword wiring) ∙ c.if-not-is_codeword.true);
     }
 
 pub loop-v-preserved : goal.loop-v-preserved
 loop-v-preserved c =
     let turn = c.loop-v in
-    (omega arith, λ wiring. below_more _ turn.v (turn.invariant.1 wiring) (sym (tells (goal.at.loop-v-preserved c).After-is_codeword wiring) ∙ not-false _ c.if-not-is_codeword.false))
+    (omega arith, λ wiring. below_more _ turn.v (turn.invariant.1 wiring) (sym (tells (goal.at.loop-v-preserved c).After-is_codeword wiring) ∙ c.if-not-is_codeword.false))
 
 pub returns : goal.returns
 returns c = record {

@@ -14,7 +14,7 @@ use Rattle.sweeps.proofs.sweep.all_satisfied.Goals.{Else-not-all_codewords}
 -- the left side is satisfied
 lefts : (c : Else-not-all_codewords)
     → (v : ℕ) → v < c.args.nl → satisfied (side_of (plan_of c.args.left.now c.args.right.now c.args.nl c.args.nr c.args.wiring.now) left) c.args.block.now v ≡ true
-lefts c = c.all_codewords.ensures.when_true (not-false _ c.if-not-all_codewords.false) _
+lefts c = c.all_codewords.ensures.when_true (c.if-not-all_codewords.false) _
 
 pub all_codewords-requires : goal.all_codewords-requires
 all_codewords-requires c =
@@ -25,7 +25,7 @@ all_codewords-requires c =
 
 pub returns-then-not-all_codewords : goal.returns-then-not-all_codewords
 returns-then-not-all_codewords c =
-    let (v, l, missed) = c.all_codewords.ensures.when_false (not-true _ c.if-not-all_codewords.true) c.args.wiring.now in
+    let (v, l, missed) = c.all_codewords.ensures.when_false (c.if-not-all_codewords.true) c.args.wiring.now in
     sym (satisfied-not (side_of (plan_of c.args.left.now c.args.right.now c.args.nl c.args.nr c.args.wiring.now)) _ left v l missed)
 
 pub kept_codewords-requires : goal.kept_codewords-requires

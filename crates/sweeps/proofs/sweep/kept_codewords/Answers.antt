@@ -18,14 +18,14 @@ unfolding at
 returns-then-not-is_codeword c =
     record {
       when_true = λ e. absurd (true≢false (sym e));
-      when_false = λ _. (c.loop-v.v, omega arith, sym c.is_codeword.ensures ∙ not-true _ c.if-not-is_codeword.true);
+      when_false = λ _. (c.loop-v.v, omega arith, sym c.is_codeword.ensures ∙ c.if-not-is_codeword.true);
     }
 
 pub loop-v-preserved : goal.loop-v-preserved
 unfolding at
 loop-v-preserved c =
     let turn = c.loop-v in
-    (omega arith, below_more _ turn.v turn.invariant.1 (sym c.is_codeword.ensures ∙ not-false _ c.if-not-is_codeword.false))
+    (omega arith, below_more _ turn.v turn.invariant.1 (sym c.is_codeword.ensures ∙ c.if-not-is_codeword.false))
 
 pub returns : goal.returns
 returns c = record {

@@ -6,12 +6,12 @@ use Rattle.sweeps.proofs.sweep.nearest_on.Goals as goal
 pub find_nearest-requires : goal.find_nearest-requires
 unfolding sheet_for
 find_nearest-requires c =
-    let both = (rw c.in-Left.is at c.requires) in record { finds = both.0; word_bound = both.1 }
+    record { finds = rw c.in-Left.is at c.requires.finds; word_bound = rw c.in-Left.is at c.requires.word_bound }
 
 pub find_nearest-requires-in-Right : goal.find_nearest-requires-in-Right
 unfolding sheet_for
 find_nearest-requires-in-Right c =
-    let both = (rw c.in-Right.is at c.requires) in record { finds = both.0; word_bound = both.1 }
+    record { finds = rw c.in-Right.is at c.requires.finds; word_bound = rw c.in-Right.is at c.requires.word_bound }
 
 pub returns-in-Left : goal.returns-in-Left
 unfolding sheet_for

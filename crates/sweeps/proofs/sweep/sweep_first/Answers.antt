@@ -109,7 +109,7 @@ put_pattern-requires c =
 pub overflow_add-changed : goal.overflow_add-changed
 overflow_add-changed c =
     let turn = c.loop-v in
-    omega (arith, visits-le turn.invariant.2 left turn.invariant.0 turn.invariant.1, c.struct-known2.given)
+    omega (arith, visits-le turn.invariant.2 left turn.invariant.0 turn.invariant.1)
 
 pub overflow_add-ties : goal.overflow_add-ties
 overflow_add-ties c =

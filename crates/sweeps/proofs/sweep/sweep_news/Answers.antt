@@ -34,7 +34,7 @@ marks-few : (c : After-news_of-from) → c.news_of-from.result + 128 ≤ 2304
 marks-few c = omega (arith, c.news_of-from.ensures, marks-high c.args.side)
 
 few : (c : After-rest-1) → c.loop-i.i < 128
-few c = omega (arith, c.Numbers-of.ensures.1)
+few c = omega (arith, c.numbers_of-numbers.ensures.1)
 
 -- the sixteen marks, taken off
 scanned : (c : After-rest-1)
@@ -189,8 +189,8 @@ loop-i-preserved c =
 pub returns : goal.returns
 returns c =
     let turn = c.loop-i in
-    let enough : count_of (plan_of c.args.left.now c.args.right.now c.args.nl c.args.nr c.args.wiring.now) c.args.side ≤ 16 * c.Numbers-of.result =
-    le_trans (le_of_eq (sym (c.count_of.ensures ∙ count-for (plan_of c.args.left.now c.args.right.now c.args.nl c.args.nr c.args.wiring.now) c.args.side))) c.Numbers-of.ensures.0 in
+    let enough : count_of (plan_of c.args.left.now c.args.right.now c.args.nl c.args.nr c.args.wiring.now) c.args.side ≤ 16 * c.numbers_of-numbers.result =
+    le_trans (le_of_eq (sym (c.count_of.ensures ∙ count-for (plan_of c.args.left.now c.args.right.now c.args.nl c.args.nr c.args.wiring.now) c.args.side))) c.numbers_of-numbers.ensures.0 in
     let all : count_of (plan_of c.args.left.now c.args.right.now c.args.nl c.args.nr c.args.wiring.now) c.args.side ≤ 16 * turn.i = omega (arith, turn.invariant.0, enough) in record {
       news_swept = news-round-end c.requires.plan_value (hears (goal.at.returns c).Start) all turn.invariant.1 (news-round-clear c.requires.plan_value (hears (goal.at.returns c).Start) turn.kept turn.i all turn.invariant.4 turn.invariant.3);
       still_finds = turn.invariant.2;

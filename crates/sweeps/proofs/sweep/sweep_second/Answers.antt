@@ -64,8 +64,8 @@ loop-v-preserved-then-is_codeword c =
     let is = c.if-is_codeword.true in (
       omega (arith, below (goal.at.loop-v-preserved-then-is_codeword c).After-is_codeword),
       round-kept (accepted (goal.at.loop-v-preserved-then-is_codeword c).Start) (below (goal.at.loop-v-preserved-then-is_codeword c).After-is_codeword) turn.invariant.1
-          (word-stays ((ready-side (plan_of c.args.left.now c.args.right.now c.args.nl c.args.nr c.args.wiring.now) (accepted c.before.before.before.before.before.before.before.before.before.before.before) right c.loop-v.invariant.2)) right turn.block (below (goal.at.loop-v-preserved-then-is_codeword c).After-is_codeword) (word-is (goal.at.loop-v-preserved-then-is_codeword c).After-is_codeword) (member (goal.at.loop-v-preserved-then-is_codeword c).After-is_codeword) is)
-          (word-untied ((ready-side (plan_of c.args.left.now c.args.right.now c.args.nl c.args.nr c.args.wiring.now) (accepted c.before.before.before.before.before.before.before.before.before.before.before) right c.loop-v.invariant.2)) right turn.block (below (goal.at.loop-v-preserved-then-is_codeword c).After-is_codeword) (word-is (goal.at.loop-v-preserved-then-is_codeword c).After-is_codeword) (member (goal.at.loop-v-preserved-then-is_codeword c).After-is_codeword) is),
+          (word-stays ((ready-side (plan_of c.args.left.now c.args.right.now c.args.nl c.args.nr c.args.wiring.now) (accepted (goal.at.loop-v-preserved-then-is_codeword c).Start) right c.loop-v.invariant.2)) right turn.block (below (goal.at.loop-v-preserved-then-is_codeword c).After-is_codeword) (word-is (goal.at.loop-v-preserved-then-is_codeword c).After-is_codeword) (member (goal.at.loop-v-preserved-then-is_codeword c).After-is_codeword) is)
+          (word-untied ((ready-side (plan_of c.args.left.now c.args.right.now c.args.nl c.args.nr c.args.wiring.now) (accepted (goal.at.loop-v-preserved-then-is_codeword c).Start) right c.loop-v.invariant.2)) right turn.block (below (goal.at.loop-v-preserved-then-is_codeword c).After-is_codeword) (word-is (goal.at.loop-v-preserved-then-is_codeword c).After-is_codeword) (member (goal.at.loop-v-preserved-then-is_codeword c).After-is_codeword) is),
       turn.invariant.2,
       turn.invariant.3,
     )
@@ -84,7 +84,7 @@ visit-bits-requires c =
 pub overflow_add-changed : goal.overflow_add-changed
 overflow_add-changed c =
     let turn = c.loop-v in
-    omega (arith, visits-le ((ready-side (plan_of c.args.left.now c.args.right.now c.args.nl c.args.nr c.args.wiring.now) (accepted c.before.before.before.before.before.before.before.before.before.before.before) right c.loop-v.invariant.2)) right turn.invariant.0 turn.invariant.1.visits)
+    omega (arith, visits-le ((ready-side (plan_of c.args.left.now c.args.right.now c.args.nl c.args.nr c.args.wiring.now) (accepted (goal.at.overflow_add-changed c).Start) right c.loop-v.invariant.2)) right turn.invariant.0 turn.invariant.1.visits)
 
 pub overflow_add-ties : goal.overflow_add-ties
 overflow_add-ties c =
@@ -106,7 +106,7 @@ loop-v-preserved c =
     let visit = c.visit-bits.ensures in (
       omega (arith, below (goal.at.loop-v-preserved c).After-is_codeword),
       round-visited (accepted (goal.at.loop-v-preserved c).Start) (below (goal.at.loop-v-preserved c).After-is_codeword) turn.invariant.1 visit.visited_at
-          (visit-waits ((ready-side (plan_of c.args.left.now c.args.right.now c.args.nl c.args.nr c.args.wiring.now) (accepted c.before.before.before.before.before.before.before.before.before.before.before) right c.loop-v.invariant.2)) right turn.block (below (goal.at.loop-v-preserved c).After-is_codeword) (word-is (goal.at.loop-v-preserved c).After-is_codeword) (member (goal.at.loop-v-preserved c).After-is_codeword) c.if-is_codeword.false visit.visited_at.counted
+          (visit-waits ((ready-side (plan_of c.args.left.now c.args.right.now c.args.nl c.args.nr c.args.wiring.now) (accepted (goal.at.loop-v-preserved c).Start) right c.loop-v.invariant.2)) right turn.block (below (goal.at.loop-v-preserved c).After-is_codeword) (word-is (goal.at.loop-v-preserved c).After-is_codeword) (member (goal.at.loop-v-preserved c).After-is_codeword) c.if-is_codeword.false visit.visited_at.counted
           c.tie-ties.ensures),
       visit.still_finds,
       λ i l. visit.visited_at.keeps.own i l ∙ turn.invariant.3 i l,

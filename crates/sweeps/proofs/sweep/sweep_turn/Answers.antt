@@ -55,6 +55,6 @@ pub returns-else-right_finder-eq0 : goal.returns-else-right_finder-eq0
 returns-else-right_finder-eq0 c =
     let is = c.in-Right.is in
     let swept = c.sweep_news-in-Right in record {
-      news_swept = swept.ensures.0;
-      still_ready = ready-right-swept c.requires.ready swept.auto.1.1.1.1.1.1.0 c.if-right_finder-eq0.false (rw is at swept.ensures.1);
+      news_swept = swept.ensures.news_swept;
+      still_ready = ready-right-swept c.requires.ready swept.auto.finder c.if-right_finder-eq0.false (rw is at swept.ensures.still_finds);
     }
