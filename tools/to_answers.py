@@ -107,7 +107,8 @@ class Function:
             i += 1
         if i >= len(segs):
             return out
-        s = segs[i]
+        s = segs[i].strip("«»")
+        segs = segs[:i] + [s] + segs[i + 1:]
         if s.endswith("_lem") and norm(s[:-4]) in self.steps:
             s = s[:-4]
         if s in ("pre", "requires"):
@@ -463,6 +464,10 @@ def convert(crate, fn_path, text, entry, source):
     ans = re.sub(r"tie\.([A-Za-z0-9_«»-]+)((?: (?:invariant|decreases)-[A-Za-z0-9_-]+)*)", place, ans)
     ans = f.paths(ans)
     ans = f.aliases(ans)
+    words = {v for _, vs in f.loops for v in vs} | {v for ps in f.params.values() for v in ps}
+    words |= set(re.findall(r"\b([a-z][a-z0-9_]*):", source))
+    ans = re.sub(r"\.([a-z0-9]+(?:-[a-z0-9]+)+)(?![\w-])", lambda m: "." + m.group(1).replace("-", "_") if m.group(1).replace("-", "_") in words and m.group(1) not in {x[0] for x in f.steps.values()} else m.group(0), ans)
+    ans = re.sub(r"\((\w+(?:\.[\w-]+)+)\)", r"\1", ans)
     if any("kept" in vs for _, vs in f.loops):
         ans = re.sub(r"\.auto(?![.\w-])", ".kept", ans)
     ans = re.sub(r"\.inv\b(?!-)", ".invariant", ans)

@@ -3,12 +3,14 @@
 use mathlib.Core.Path.{◌≡◌, sym, ap, ◌∙◌}
 use mathlib.Core.List.{List, []}
 use native.Mathlib.Omega.{arith}
-use Prim.Native.Nat.{ℕ}
 use borrow.Author.Rules.{rules}
+use Prim.Native.Nat.{ℕ, ◌*◌}
 use lib.ListN.{replicate}
 use Rattle.inner_code.specs.Reply.{Reply, done, refused}
 use Rattle.wiring.specs.Plan.{Plan, plan_of, edge_count, left, right}
 use Rattle.wiring.specs.Block.{block_check}
+use Rattle.wiring.specs.declared.block.Checked.{Checked}
+use Rattle.wiring.specs.declared.plan.CheckedPlan.{CheckedPlan}
 use Rattle.wiring.specs.Checking.{check_reply}
 use Rattle.spans.specs.Spans.{spans_check}
 use Rattle.wiring.proofs.Blocks.{block-sized}
@@ -30,33 +32,20 @@ overflow_mul-plan c =
     let p = plan c in
     omega (arith, accepted-edges p, fitted-edges p.plan-wired.left-fits)
 
--- the check of the block at the plan's number of edges
-checked : (c : After-check_block) (reply : Reply) → check_reply c.check_block.result ≡ reply
-    → block_check (edge_count (plan_of c.args.left.now c.args.right.now c.args.nl c.args.nr c.args.wiring.now)) c.args.received.now ≡ reply
-checked c reply e =
-    ap (λ (N : ℕ). block_check N c.args.received.now) (sym (accepted-edges (plan (record { before = c.before.before; type_inv = record { output = c.slice_known-1.given; lost = c.shared_slice_known-5-1.given; received = c.shared_slice_known-4-1.given; wiring = c.shared_slice_known-3-1.given; right = c.shared_slice_known-2-1.given; left = c.shared_slice_known-1.given; } }))))
-    ∙ sym c.check_block.ensures ∙ e
+-- the checks of the block and of the list at the plan's number of edges
+module _ {plan : Plan} {result : CheckedPlan} (accepted : PlanAccepted plan result) where
+  checked : (received : List ℕ) (got : Checked) {reply : Reply} → check_reply got ≡ block_check (result.left.n * result.left.d) received
+      → check_reply got ≡ reply → block_check (edge_count plan) received ≡ reply
+  checked received got is e = ap (λ (N : ℕ). block_check N received) (sym (accepted-edges accepted)) ∙ sym is ∙ e
 
--- ---- a block that passes
-
-block : (c : In-Passed-check_block) → block_check (edge_count (plan_of c.args.left.now c.args.right.now c.args.nl c.args.nr c.args.wiring.now)) c.args.received.now ≡ done []
-block c = checked (record { before = c.before.before; type_inv = record { output = c.slice_known-1.given; lost = c.shared_slice_known-5-1.given; received = c.shared_slice_known-4-1.given; wiring = c.shared_slice_known-3-1.given; right = c.shared_slice_known-2-1.given; left = c.shared_slice_known-1.given; } }) (done []) (ap check_reply c.in-Passed-check_block.is)
+  listed : (lost : List ℕ) (got : Checked) {reply : Reply} → check_reply got ≡ spans_check (result.left.n * result.left.d) lost
+      → check_reply got ≡ reply → spans_check (edge_count plan) lost ≡ reply
+  listed lost got is e = ap (λ (N : ℕ). spans_check N lost) (sym (accepted-edges accepted)) ∙ sym is ∙ e
 
 pub overflow_mul-plan-in-Passed-check_block : goal.overflow_mul-plan-in-Passed-check_block
 overflow_mul-plan-in-Passed-check_block c =
     let p = plan (goal.at.overflow_mul-plan-in-Passed-check_block c).After-struct_known-1 in
     omega (arith, accepted-edges p, fitted-edges p.plan-wired.left-fits)
-
--- the check of the list at the plan's number of edges
-listed : (c : After-check_spans) (reply : Reply) → check_reply c.check_spans.result ≡ reply
-    → spans_check (edge_count (plan_of c.args.left.now c.args.right.now c.args.nl c.args.nr c.args.wiring.now)) c.args.lost.now ≡ reply
-listed c reply e =
-    ap (λ (N : ℕ). spans_check N c.args.lost.now) (sym (accepted-edges (plan (record { before = c.before.before.before.before.before.before; type_inv = record { output = c.slice_known-1.given; lost = c.shared_slice_known-5-1.given; received = c.shared_slice_known-4-1.given; wiring = c.shared_slice_known-3-1.given; right = c.shared_slice_known-2-1.given; left = c.shared_slice_known-1.given; } })))) ∙ sym c.check_spans.ensures ∙ e
-
--- ---- a list that passes
-
-spans : (c : In-Passed-check_spans) → spans_check (edge_count (plan_of c.args.left.now c.args.right.now c.args.nl c.args.nr c.args.wiring.now)) c.args.lost.now ≡ done []
-spans c = listed (record { before = c.before.before; type_inv = record { output = c.slice_known-1.given; lost = c.shared_slice_known-5-1.given; received = c.shared_slice_known-4-1.given; wiring = c.shared_slice_known-3-1.given; right = c.shared_slice_known-2-1.given; left = c.shared_slice_known-1.given; } }) (done []) (ap check_reply c.in-Passed-check_spans.is)
 
 -- a call that is stopped answers with `refuse`
 stopped : (plan : Plan) (received lost output : List ℕ) (H : ℕ) {number place : ℕ} {r : Decoding}
@@ -75,44 +64,44 @@ stopped plan received lost output H stops (answers, (tells, none)) =
 pub returns-then-output-received : goal.returns-then-output-received
 returns-then-output-received c =
     let args = c.args in
-    let pass = block (goal.at.returns-then-output-received c).In-Passed-check_block in
+    let pass = (checked (plan (goal.at.returns-then-output-received c).After-struct_known-1) c.args.received.now _ c.check_block.ensures (ap check_reply c.in-Passed-check_block.is)) in
     stopped _ _ _ _ _
     (check-short _ args.received.now args.lost.now args.output.now args.limit (plan (goal.at.returns-then-output-received c).After-struct_known-1).plan-done pass
-    (spans (goal.at.returns-then-output-received c).In-Passed-check_spans) (omega (arith, block-sized _ _ pass)))
-    c.refuse-then-output-received.ensures
+    (listed (plan (goal.at.returns-then-output-received c).After-struct_known-1) c.args.lost.now _ c.check_spans.ensures (ap check_reply c.in-Passed-check_spans.is)) (omega (arith, block-sized _ _ pass)))
+    (c.refuse-then-output-received.ensures.outcome_value, (c.refuse-then-output-received.ensures.sums_value, c.refuse-then-output-received.ensures.visits_value))
 
 pub returns-then-limit-gt-MAX_LIMIT : goal.returns-then-limit-gt-MAX_LIMIT
 returns-then-limit-gt-MAX_LIMIT c =
     let args = c.args in
-    let pass = block (goal.at.returns-then-limit-gt-MAX_LIMIT c).In-Passed-check_block in
+    let pass = (checked (plan (goal.at.returns-then-limit-gt-MAX_LIMIT c).After-struct_known-1) c.args.received.now _ c.check_block.ensures (ap check_reply c.in-Passed-check_block.is)) in
     stopped _ _ _ _ _
     (check-limit _ args.received.now args.lost.now args.output.now args.limit (plan (goal.at.returns-then-limit-gt-MAX_LIMIT c).After-struct_known-1).plan-done pass
-    (spans (goal.at.returns-then-limit-gt-MAX_LIMIT c).In-Passed-check_spans) (omega (arith, block-sized _ _ pass)) (omega arith))
-    c.refuse-then-limit-gt-MAX_LIMIT.ensures
+    (listed (plan (goal.at.returns-then-limit-gt-MAX_LIMIT c).After-struct_known-1) c.args.lost.now _ c.check_spans.ensures (ap check_reply c.in-Passed-check_spans.is)) (omega (arith, block-sized _ _ pass)) (omega arith))
+    (c.refuse-then-limit-gt-MAX_LIMIT.ensures.outcome_value, (c.refuse-then-limit-gt-MAX_LIMIT.ensures.sums_value, c.refuse-then-limit-gt-MAX_LIMIT.ensures.visits_value))
 
 pub decode_checked-requires : goal.decode_checked-requires
 decode_checked-requires c =
     let p = plan (goal.at.decode_checked-requires c).After-struct_known-1 in
-    let pass = block (goal.at.decode_checked-requires c).In-Passed-check_block in record {
+    let pass = (checked p c.args.received.now _ c.check_block.ensures (ap check_reply c.in-Passed-check_block.is)) in record {
       left_code_value = p.code_is left;
       right_code_value = p.code_is right;
-      limit_value = check-passed _ _ _ _ _ p.plan-done pass (spans (goal.at.decode_checked-requires c).In-Passed-check_spans) (omega (arith, block-sized _ _ pass)) (omega arith);
+      limit_value = check-passed _ _ _ _ _ p.plan-done pass (listed p c.args.lost.now _ c.check_spans.ensures (ap check_reply c.in-Passed-check_spans.is)) (omega (arith, block-sized _ _ pass)) (omega arith);
     }
 
 pub returns-in-Refused : goal.returns-in-Refused
 returns-in-Refused c =
     stopped _ _ _ _ _
     (check-plan _ _ _ _ _ (plan-refused _ _ c.check_plan-plan.ensures _ c.in-Refused.is))
-    c.refuse.ensures
+    (c.refuse.ensures.outcome_value, (c.refuse.ensures.sums_value, c.refuse.ensures.visits_value))
 
 pub returns-in-Refused-check_block : goal.returns-in-Refused-check_block
 returns-in-Refused-check_block c =
     stopped _ _ _ _ _
-    (check-block _ _ _ _ _ (plan (goal.at.returns-in-Refused-check_block c).After-struct_known-1).plan-done (checked (goal.at.returns-in-Refused-check_block c).After-check_block (refused _ _) (ap check_reply c.in-Refused-check_block.is)))
-    c.refuse-in-Refused-check_block.ensures
+    (check-block _ _ _ _ _ (plan (goal.at.returns-in-Refused-check_block c).After-struct_known-1).plan-done (checked (plan (goal.at.returns-in-Refused-check_block c).After-struct_known-1) c.args.received.now _ c.check_block.ensures (ap check_reply c.in-Refused-check_block.is)))
+    (c.refuse-in-Refused-check_block.ensures.outcome_value, (c.refuse-in-Refused-check_block.ensures.sums_value, c.refuse-in-Refused-check_block.ensures.visits_value))
 
 pub returns-in-Refused-check_spans : goal.returns-in-Refused-check_spans
 returns-in-Refused-check_spans c =
     stopped _ _ _ _ _
-    (check-spans _ _ _ _ _ (plan (goal.at.returns-in-Refused-check_spans c).After-struct_known-1).plan-done (block (goal.at.returns-in-Refused-check_spans c).In-Passed-check_block) (listed (goal.at.returns-in-Refused-check_spans c).After-check_spans (refused _ _) (ap check_reply c.in-Refused-check_spans.is)))
-    c.refuse-in-Refused-check_spans.ensures
+    (check-spans _ _ _ _ _ (plan (goal.at.returns-in-Refused-check_spans c).After-struct_known-1).plan-done (checked (plan (goal.at.returns-in-Refused-check_spans c).After-struct_known-1) c.args.received.now _ c.check_block.ensures (ap check_reply c.in-Passed-check_block.is)) (listed (plan (goal.at.returns-in-Refused-check_spans c).After-struct_known-1) c.args.lost.now _ c.check_spans.ensures (ap check_reply c.in-Refused-check_spans.is)))
+    (c.refuse-in-Refused-check_spans.ensures.outcome_value, (c.refuse-in-Refused-check_spans.ensures.sums_value, c.refuse-in-Refused-check_spans.ensures.visits_value))

@@ -31,7 +31,7 @@ pub returns-then-is_codeword_at_sight : goal.returns-then-is_codeword_at_sight
 returns-then-is_codeword_at_sight c =
     let none = none-lost _ c.if-lost-eq0.true in
     answers-none (plan_of c.args.left.now c.args.right.now c.args.nl c.args.nr c.args.wiring.now) _ _ _ _ none
-    (copy-codeword (plan_of c.args.left.now c.args.right.now c.args.nl c.args.nr c.args.wiring.now) _ _ _ (check-none (plan_of c.args.left.now c.args.right.now c.args.nl c.args.nr c.args.wiring.now) _ _ _ _ none c.requires.limit_value) c.args.left-code c.args.right-code c.requires.left_code_value
+    (copy-codeword (plan_of c.args.left.now c.args.right.now c.args.nl c.args.nr c.args.wiring.now) _ _ _ (check-none (plan_of c.args.left.now c.args.right.now c.args.nl c.args.nr c.args.wiring.now) _ _ _ _ none c.requires.limit_value) c.args.left_code c.args.right_code c.requires.left_code_value
     c.requires.right_code_value (c.is_codeword_at_sight.ensures c.if-is_codeword_at_sight.true) c.copy_front.ensures)
 
 -- ---- any other

@@ -38,29 +38,29 @@ module _ (c : Start) where
 
 module _ (c : After-finish_trial-first) where
 
-  out-sized : length c.finish_trial-first.new.room ≡ length (c.args.output.now)
+  out-sized : length c.finish_trial-first.new.room ≡ length c.args.output.now
   out-sized = c.finish_trial-first.auto.room
 
-  stands : c.finish_trial-first.new.room ≡ written (take (length (c.args.received.now)) c.finish_trial-first.new.room) (c.args.output.now)
+  stands : c.finish_trial-first.new.room ≡ written (take (length c.args.received.now) c.finish_trial-first.new.room) c.args.output.now
   stands = c.finish_trial-first.ensures.room_after
 
-  zeros-tried : Tried (plan_of c.args.left.now c.args.right.now c.args.nl c.args.nr c.args.wiring.now) (filled 0 (c.args.lost.now) (c.args.received.now)) (c.args.opening.limit) c.finish_trial-first.result.settling.count c.finish_trial-first.result.settling.sums c.finish_trial-first.result.settling.visits (take (length (c.args.received.now)) c.finish_trial-first.new.room)
-  zeros-tried = c.finish_trial-first.ensures.settles (filled 0 (c.args.lost.now) (c.args.received.now)) c.requires.opened
+  zeros-tried : Tried (plan_of c.args.left.now c.args.right.now c.args.nl c.args.nr c.args.wiring.now) (filled 0 c.args.lost.now c.args.received.now) c.args.opening.limit c.finish_trial-first.result.settling.count c.finish_trial-first.result.settling.sums c.finish_trial-first.result.settling.visits (take (length c.args.received.now) c.finish_trial-first.new.room)
+  zeros-tried = c.finish_trial-first.ensures.settles (filled 0 c.args.lost.now c.args.received.now) c.requires.opened
 
-  zeros-sized : length (take (length (c.args.received.now)) c.finish_trial-first.new.room) ≡ length (c.args.received.now)
-  zeros-sized = zeros-tried.kept ∙ length-filled 0 (c.args.lost.now) (c.args.received.now)
+  zeros-sized : length (take (length c.args.received.now) c.finish_trial-first.new.room) ≡ length c.args.received.now
+  zeros-sized = zeros-tried.kept ∙ length-filled 0 c.args.lost.now c.args.received.now
 
-  zeros-changed : (length (c.args.lost.now) ≡ 0 → ⊥) → c.finish_trial-first.result.settling.count ≤ c.args.opening.limit → c.finish_trial-first.result.changed ≡ changed_in c.before.before.before.before.before.before.before.before.before.before.before.before.before.before.before.before 0
+  zeros-changed : (length c.args.lost.now ≡ 0 → ⊥) → c.finish_trial-first.result.settling.count ≤ c.args.opening.limit → c.finish_trial-first.result.changed ≡ changed_in c.before.before.before.before.before.before.before.before.before.before.before.before.before.before.before.before 0
   zeros-changed some l =
-      changed-from (plan_of c.args.left.now c.args.right.now c.args.nl c.args.nr c.args.wiring.now) (c.args.received.now) (c.args.lost.now) (c.args.output.now) (c.args.opening.limit) c.requires.limit_value 0 zeros-tried l refl
+      changed-from (plan_of c.args.left.now c.args.right.now c.args.nl c.args.nr c.args.wiring.now) c.args.received.now c.args.lost.now c.args.output.now c.args.opening.limit c.requires.limit_value 0 zeros-tried l refl
       (c.finish_trial-first.ensures.changed_value some)
 
 pub finish_trial-first-requires : goal.finish_trial-first-requires
 finish_trial-first-requires c =
     record {
       ready = c.requires.ready;
-      received_in_bounds = (passed (goal.at.finish_trial-first-requires c).Start).ranges;
-      opened_some = record { received = filled 0 (c.args.lost.now) (c.args.received.now); limited = (passed (goal.at.finish_trial-first-requires c).Start).limited; opened = c.requires.opened };
+      received_in_bounds = (passed (goal.at.finish_trial-first-requires c).Start).fits;
+      opened_some = record { received = filled 0 c.args.lost.now c.args.received.now; limited = (passed (goal.at.finish_trial-first-requires c).Start).limited; opened = c.requires.opened };
       plan_in_bounds = c.requires.plan_in_bounds;
       places_noted = λ e. absurd (true≢false (sym e));
     }
@@ -73,11 +73,11 @@ pub returns-then-keeps_zeros : goal.returns-then-keeps_zeros
 returns-then-keeps_zeros c =
     let checked = c.requires.limit_value in
     let by = c.answer_by.ensures in
-    elim (ℕ_discrete (length (c.args.lost.now)) 0) [
-      | yes none ↦ twice-none (plan_of c.args.left.now c.args.right.now c.args.nl c.args.nr c.args.wiring.now) (c.args.received.now) (c.args.lost.now) (c.args.output.now) (c.args.opening.limit) checked (zeros-tried (goal.at.returns-then-keeps_zeros c).After-finish_trial-first) (stands (goal.at.returns-then-keeps_zeros c).After-finish_trial-first) by none
+    elim (ℕ_discrete (length c.args.lost.now) 0) [
+      | yes none ↦ twice-none (plan_of c.args.left.now c.args.right.now c.args.nl c.args.nr c.args.wiring.now) c.args.received.now c.args.lost.now c.args.output.now c.args.opening.limit checked (zeros-tried (goal.at.returns-then-keeps_zeros c).After-finish_trial-first) (stands (goal.at.returns-then-keeps_zeros c).After-finish_trial-first) by none
       | no some ↦
           let (in-time, none-changed) = c.keeps_zeros.ensures.when_true c.if-keeps_zeros.true some in
-          twice-zeros (plan_of c.args.left.now c.args.right.now c.args.nl c.args.nr c.args.wiring.now) (c.args.received.now) (c.args.lost.now) (c.args.output.now) (c.args.opening.limit) checked (zeros-tried (goal.at.returns-then-keeps_zeros c).After-finish_trial-first) (stands (goal.at.returns-then-keeps_zeros c).After-finish_trial-first) by
+          twice-zeros (plan_of c.args.left.now c.args.right.now c.args.nl c.args.nr c.args.wiring.now) c.args.received.now c.args.lost.now c.args.output.now c.args.opening.limit checked (zeros-tried (goal.at.returns-then-keeps_zeros c).After-finish_trial-first) (stands (goal.at.returns-then-keeps_zeros c).After-finish_trial-first) by
           (λ l _. omega (arith, zeros-changed (goal.at.returns-then-keeps_zeros c).After-finish_trial-first some l, none-changed)) (λ past. absurd (omega (arith, in-time, past)))
     ]
 
@@ -91,34 +91,34 @@ cleared-sized = length-replicate {A = ℕ} 4096 0
 
 module _ (c : After-lay_out) where
 
-  sized : length (c.args.received.now) - 0 ≡ length (filled 1 (c.args.lost.now) (c.args.received.now))
-  sized = omega (arith, length-filled 1 (c.args.lost.now) (c.args.received.now))
+  sized : length c.args.received.now - 0 ≡ length (filled 1 c.args.lost.now c.args.received.now)
+  sized = omega (arith, length-filled 1 c.args.lost.now c.args.received.now)
 
-  put : c.lay_out.new.room ≡ written (filled 1 (c.args.lost.now) (c.args.received.now)) cleared
+  put : c.lay_out.new.room ≡ written (filled 1 c.args.lost.now c.args.received.now) cleared
   put = c.lay_out.ensures
 
-  part : take (length (c.args.received.now) - 0) c.lay_out.new.room ≡ (filled 1 (c.args.lost.now) (c.args.received.now))
-  part = laid-part (filled 1 (c.args.lost.now) (c.args.received.now)) cleared (length (c.args.received.now) - 0) put sized
+  part : take (length c.args.received.now - 0) c.lay_out.new.room ≡ (filled 1 c.args.lost.now c.args.received.now)
+  part = laid-part (filled 1 c.args.lost.now c.args.received.now) cleared (length c.args.received.now - 0) put sized
 
 module _ (c : After-open-again) where
 
-  swept_kept : length c.«open».new.1.1.1.1.1.1.1.1.1.0 ≡ length (take (length (c.args.received.now) - 0) (c.lay_out.new.room))
-  swept_kept = c.«open».auto.1.1.1.1.1.1.1.1.1.0
+  swept_kept : length c.open-again.new.block ≡ length (take (length c.args.received.now - 0) c.lay_out.new.room)
+  swept_kept = c.open-again.auto.block
 
-  other-sized : length (c.«open».new.1.1.1.1.1.1.1.1.1.0 ++ drop (length (c.args.received.now) - 0) (c.lay_out.new.room)) ≡ 4096
+  other-sized : length (c.open-again.new.block ++ drop (length c.args.received.now - 0) c.lay_out.new.room) ≡ 4096
   other-sized =
-      let size : ℕ = length (c.args.received.now) - 0 in
-      let same = laid-sized ((filled 1 (c.args.lost.now) (c.args.received.now))) cleared size (put (record { before = c.before.before.before.before.before.before.before.before; type_inv = record { output = c.slice_known-8-1.given; places = c.slice_known-7-1.given; right_finder = c.slice_known-6-1.given; left_finder = c.slice_known-5-1.given; lost = c.shared_slice_known-5-1.given; received = c.shared_slice_known-4-1.given; wiring = c.shared_slice_known-3-1.given; right = c.shared_slice_known-2-1.given; left = c.shared_slice_known-1.given; } })) (sized (record { before = c.before.before.before.before.before.before.before.before; type_inv = record { output = c.slice_known-8-1.given; places = c.slice_known-7-1.given; right_finder = c.slice_known-6-1.given; left_finder = c.slice_known-5-1.given; lost = c.shared_slice_known-5-1.given; received = c.shared_slice_known-4-1.given; wiring = c.shared_slice_known-3-1.given; right = c.shared_slice_known-2-1.given; left = c.shared_slice_known-1.given; } })) c.«open».new.1.1.1.1.1.1.1.1.1.0 swept_kept in
-      let fits : length c.«open».new.1.1.1.1.1.1.1.1.1.0 ≤ length cleared =
-      omega (arith, same, length-filled 1 (c.args.lost.now) (c.args.received.now), passed-fits (passed c.before.before.before.before.before.before.before.before.before.before.before.before.before.before.before.before.before.before.before.before.before.before.before.before.before.before.before.before.before.before.before.before.before.before.before.before), cleared-sized) in
-      ap length (laid-whole ((filled 1 (c.args.lost.now) (c.args.received.now))) cleared size (put (record { before = c.before.before.before.before.before.before.before.before; type_inv = record { output = c.slice_known-8-1.given; places = c.slice_known-7-1.given; right_finder = c.slice_known-6-1.given; left_finder = c.slice_known-5-1.given; lost = c.shared_slice_known-5-1.given; received = c.shared_slice_known-4-1.given; wiring = c.shared_slice_known-3-1.given; right = c.shared_slice_known-2-1.given; left = c.shared_slice_known-1.given; } })) (sized (record { before = c.before.before.before.before.before.before.before.before; type_inv = record { output = c.slice_known-8-1.given; places = c.slice_known-7-1.given; right_finder = c.slice_known-6-1.given; left_finder = c.slice_known-5-1.given; lost = c.shared_slice_known-5-1.given; received = c.shared_slice_known-4-1.given; wiring = c.shared_slice_known-3-1.given; right = c.shared_slice_known-2-1.given; left = c.shared_slice_known-1.given; } })) c.«open».new.1.1.1.1.1.1.1.1.1.0 swept_kept)
-      ∙ length-written c.«open».new.1.1.1.1.1.1.1.1.1.0 cleared fits ∙ cleared-sized
+      let size : ℕ = length c.args.received.now - 0 in
+      let same = laid-sized (filled 1 c.args.lost.now c.args.received.now) cleared size (put (record { before = c.before.before.before.before.before.before.before.before; type_inv = record { output = c.slice_known-8-1.given; places = c.slice_known-7-1.given; right_finder = c.slice_known-6-1.given; left_finder = c.slice_known-5-1.given; lost = c.shared_slice_known-5-1.given; received = c.shared_slice_known-4-1.given; wiring = c.shared_slice_known-3-1.given; right = c.shared_slice_known-2-1.given; left = c.shared_slice_known-1.given; } })) (sized (record { before = c.before.before.before.before.before.before.before.before; type_inv = record { output = c.slice_known-8-1.given; places = c.slice_known-7-1.given; right_finder = c.slice_known-6-1.given; left_finder = c.slice_known-5-1.given; lost = c.shared_slice_known-5-1.given; received = c.shared_slice_known-4-1.given; wiring = c.shared_slice_known-3-1.given; right = c.shared_slice_known-2-1.given; left = c.shared_slice_known-1.given; } })) c.open-again.new.block swept_kept in
+      let fits : length c.open-again.new.block ≤ length cleared =
+      omega (arith, same, length-filled 1 c.args.lost.now c.args.received.now, passed-fits (passed c.before.before.before.before.before.before.before.before.before.before.before.before.before.before.before.before.before.before.before.before.before.before.before.before.before.before.before.before.before.before.before.before.before.before.before.before), cleared-sized) in
+      ap length (laid-whole (filled 1 c.args.lost.now c.args.received.now) cleared size (put (record { before = c.before.before.before.before.before.before.before.before; type_inv = record { output = c.slice_known-8-1.given; places = c.slice_known-7-1.given; right_finder = c.slice_known-6-1.given; left_finder = c.slice_known-5-1.given; lost = c.shared_slice_known-5-1.given; received = c.shared_slice_known-4-1.given; wiring = c.shared_slice_known-3-1.given; right = c.shared_slice_known-2-1.given; left = c.shared_slice_known-1.given; } })) (sized (record { before = c.before.before.before.before.before.before.before.before; type_inv = record { output = c.slice_known-8-1.given; places = c.slice_known-7-1.given; right_finder = c.slice_known-6-1.given; left_finder = c.slice_known-5-1.given; lost = c.shared_slice_known-5-1.given; received = c.shared_slice_known-4-1.given; wiring = c.shared_slice_known-3-1.given; right = c.shared_slice_known-2-1.given; left = c.shared_slice_known-1.given; } })) c.open-again.new.block swept_kept)
+      ∙ length-written c.open-again.new.block cleared fits ∙ cleared-sized
 
-  opened : Opened (plan_of c.args.left.now c.args.right.now c.args.nl c.args.nr c.args.wiring.now) ((filled 1 (c.args.lost.now) (c.args.received.now))) c.«open».result.limit c.«open».result c.«open».new.1.1.1.1.1.1.1.1.0
-      (take (length (c.args.received.now)) (c.«open».new.1.1.1.1.1.1.1.1.1.0 ++ drop (length (c.args.received.now) - 0) (c.lay_out.new.room)))
+  opened : Opened (plan_of c.args.left.now c.args.right.now c.args.nl c.args.nr c.args.wiring.now) (filled 1 c.args.lost.now c.args.received.now) c.open-again.result.limit c.open-again.result c.open-again.new.kept
+      (take (length c.args.received.now) (c.open-again.new.block ++ drop (length c.args.received.now - 0) c.lay_out.new.room))
   opened =
-      laid-opened ((filled 1 (c.args.lost.now) (c.args.received.now))) cleared (length (c.args.received.now) - 0) (put (record { before = c.before.before.before.before.before.before.before.before; type_inv = record { output = c.slice_known-8-1.given; places = c.slice_known-7-1.given; right_finder = c.slice_known-6-1.given; left_finder = c.slice_known-5-1.given; lost = c.shared_slice_known-5-1.given; received = c.shared_slice_known-4-1.given; wiring = c.shared_slice_known-3-1.given; right = c.shared_slice_known-2-1.given; left = c.shared_slice_known-1.given; } })) (sized (record { before = c.before.before.before.before.before.before.before.before; type_inv = record { output = c.slice_known-8-1.given; places = c.slice_known-7-1.given; right_finder = c.slice_known-6-1.given; left_finder = c.slice_known-5-1.given; lost = c.shared_slice_known-5-1.given; received = c.shared_slice_known-4-1.given; wiring = c.shared_slice_known-3-1.given; right = c.shared_slice_known-2-1.given; left = c.shared_slice_known-1.given; } })) c.«open».new.1.1.1.1.1.1.1.1.1.0 swept_kept
-      c.«open».ensures.1 (length (c.args.received.now)) (omega arith)
+      laid-opened (filled 1 c.args.lost.now c.args.received.now) cleared (length c.args.received.now - 0) (put (record { before = c.before.before.before.before.before.before.before.before; type_inv = record { output = c.slice_known-8-1.given; places = c.slice_known-7-1.given; right_finder = c.slice_known-6-1.given; left_finder = c.slice_known-5-1.given; lost = c.shared_slice_known-5-1.given; received = c.shared_slice_known-4-1.given; wiring = c.shared_slice_known-3-1.given; right = c.shared_slice_known-2-1.given; left = c.shared_slice_known-1.given; } })) (sized (record { before = c.before.before.before.before.before.before.before.before; type_inv = record { output = c.slice_known-8-1.given; places = c.slice_known-7-1.given; right_finder = c.slice_known-6-1.given; left_finder = c.slice_known-5-1.given; lost = c.shared_slice_known-5-1.given; received = c.shared_slice_known-4-1.given; wiring = c.shared_slice_known-3-1.given; right = c.shared_slice_known-2-1.given; left = c.shared_slice_known-1.given; } })) c.open-again.new.block swept_kept
+      c.open-again.ensures.opened (length c.args.received.now) (omega arith)
 
 pub lay_out-requires : goal.lay_out-requires
 lay_out-requires c =
@@ -143,37 +143,37 @@ open-again-requires c =
 
 module _ (c : After-finish_trial-second) where
 
-  some : length (c.args.lost.now) ≡ 0 → ⊥
+  some : length c.args.lost.now ≡ 0 → ⊥
   some =
       c.keeps_zeros.ensures.when_false c.if-keeps_zeros.false
 
   out-long : length c.finish_trial-second.new.room ≡ 4096
   out-long = c.finish_trial-second.auto.room ∙ other-sized (record { before = c.before.before.before.before.before.before.before.before.before.before.before.before; type_inv = record { output = c.slice_known-8-1.given; places = c.slice_known-7-1.given; lost = c.shared_slice_known-5-1.given; received = c.shared_slice_known-4-1.given; wiring = c.shared_slice_known-3-1.given; right = c.shared_slice_known-2-1.given; left = c.shared_slice_known-1.given; } })
 
-  left-sized : length c.finish_trial-second.new.left_finder ≡ length c.args.left-finder.now
+  left-sized : length c.finish_trial-second.new.left_finder ≡ length c.args.left_finder.now
   left-sized =
-      c.finish_trial-second.auto.left_finder ∙ c.«open».kept.1.1.1.1.1.0 ∙ c.finish_trial-first.auto.left_finder
+      c.finish_trial-second.auto.left_finder ∙ c.open-again.auto.left_finder ∙ c.finish_trial-first.auto.left_finder
 
-  right-sized : length c.finish_trial-second.new.right_finder ≡ length c.args.right-finder.now
+  right-sized : length c.finish_trial-second.new.right_finder ≡ length c.args.right_finder.now
   right-sized =
-      c.finish_trial-second.auto.right_finder ∙ c.«open».kept.1.1.1.1.1.1.0 ∙ c.finish_trial-first.auto.right_finder
+      c.finish_trial-second.auto.right_finder ∙ c.open-again.auto.right_finder ∙ c.finish_trial-first.auto.right_finder
 
   places-sized : length c.finish_trial-second.new.places ≡ length c.args.places.now
   places-sized =
       c.finish_trial-second.auto.places ∙ c.finish_trial-first.auto.places
 
-  ones-tried : Tried (plan_of c.args.left.now c.args.right.now c.args.nl c.args.nr c.args.wiring.now) (filled 1 (c.args.lost.now) (c.args.received.now)) (c.args.opening.limit) c.finish_trial-second.result.settling.count c.finish_trial-second.result.settling.sums c.finish_trial-second.result.settling.visits (take (length (c.args.received.now)) c.finish_trial-second.new.room)
+  ones-tried : Tried (plan_of c.args.left.now c.args.right.now c.args.nl c.args.nr c.args.wiring.now) (filled 1 c.args.lost.now c.args.received.now) c.args.opening.limit c.finish_trial-second.result.settling.count c.finish_trial-second.result.settling.sums c.finish_trial-second.result.settling.visits (take (length c.args.received.now) c.finish_trial-second.new.room)
   ones-tried =
-      subst (λ (H : ℕ). Tried (plan_of c.args.left.now c.args.right.now c.args.nl c.args.nr c.args.wiring.now) (filled 1 (c.args.lost.now) (c.args.received.now)) H c.finish_trial-second.result.settling.count c.finish_trial-second.result.settling.sums c.finish_trial-second.result.settling.visits (take (length (c.args.received.now)) c.finish_trial-second.new.room))
-      c.«open».ensures.1.limit_is
-      (c.finish_trial-second.ensures.settles (filled 1 (c.args.lost.now) (c.args.received.now)) (opened (record { before = c.before.before.before.before.before.before.before.before.before.before.before.before; type_inv = record { output = c.slice_known-8-1.given; places = c.slice_known-7-1.given; lost = c.shared_slice_known-5-1.given; received = c.shared_slice_known-4-1.given; wiring = c.shared_slice_known-3-1.given; right = c.shared_slice_known-2-1.given; left = c.shared_slice_known-1.given; } })))
+      subst (λ (H : ℕ). Tried (plan_of c.args.left.now c.args.right.now c.args.nl c.args.nr c.args.wiring.now) (filled 1 c.args.lost.now c.args.received.now) H c.finish_trial-second.result.settling.count c.finish_trial-second.result.settling.sums c.finish_trial-second.result.settling.visits (take (length c.args.received.now) c.finish_trial-second.new.room))
+      c.open-again.ensures.opened.limit_is
+      (c.finish_trial-second.ensures.settles (filled 1 c.args.lost.now c.args.received.now) (opened (record { before = c.before.before.before.before.before.before.before.before.before.before.before.before; type_inv = record { output = c.slice_known-8-1.given; places = c.slice_known-7-1.given; lost = c.shared_slice_known-5-1.given; received = c.shared_slice_known-4-1.given; wiring = c.shared_slice_known-3-1.given; right = c.shared_slice_known-2-1.given; left = c.shared_slice_known-1.given; } })))
 
-  ones-sized : length (take (length (c.args.received.now)) c.finish_trial-second.new.room) ≡ length (c.args.received.now)
-  ones-sized = ones-tried.kept ∙ length-filled 1 (c.args.lost.now) (c.args.received.now)
+  ones-sized : length (take (length c.args.received.now) c.finish_trial-second.new.room) ≡ length c.args.received.now
+  ones-sized = ones-tried.kept ∙ length-filled 1 c.args.lost.now c.args.received.now
 
   ones-changed : c.finish_trial-second.result.settling.count ≤ c.args.opening.limit → c.finish_trial-second.result.changed ≡ changed_in c.before.before.before.before.before.before.before.before.before.before.before.before.before.before.before.before.before.before.before.before.before.before.before.before.before.before.before.before.before.before.before.before.before.before.before.before.before.before.before.before.before.before.before.before.before.before.before 1
   ones-changed l =
-      changed-from (plan_of c.args.left.now c.args.right.now c.args.nl c.args.nr c.args.wiring.now) (c.args.received.now) (c.args.lost.now) (c.args.output.now) (c.args.opening.limit) c.requires.limit_value 1 ones-tried l refl
+      changed-from (plan_of c.args.left.now c.args.right.now c.args.nl c.args.nr c.args.wiring.now) c.args.received.now c.args.lost.now c.args.output.now c.args.opening.limit c.requires.limit_value 1 ones-tried l refl
       (c.finish_trial-second.ensures.changed_value some)
 
 pub slice_bounds-finish_trial-end : goal.slice_bounds-finish_trial-end
@@ -182,10 +182,10 @@ slice_bounds-finish_trial-end c =
 
 pub finish_trial-second-requires : goal.finish_trial-second-requires
 finish_trial-second-requires c =
-    let limited : (c.«open».result).limit ≤ 4096 = omega (arith, c.«open».ensures.1.limit_is, (passed (goal.at.finish_trial-second-requires c).Start).limited) in record {
-      ready = c.«open».ensures.0;
+    let limited : c.open-again.result.limit ≤ 4096 = omega (arith, c.open-again.ensures.opened.limit_is, (passed (goal.at.finish_trial-second-requires c).Start).limited) in record {
+      ready = c.open-again.ensures.still_ready;
       received_in_bounds = omega (arith, other-sized (goal.at.finish_trial-second-requires c).After-open-again, passed-fits (passed (goal.at.finish_trial-second-requires c).Start));
-      opened_some = record { received = (filled 1 (c.args.lost.now) (c.args.received.now)); limited = limited; opened = opened (goal.at.finish_trial-second-requires c).After-open-again };
+      opened_some = record { received = (filled 1 c.args.lost.now c.args.received.now); limited = limited; opened = opened (goal.at.finish_trial-second-requires c).After-open-again };
       plan_in_bounds = omega (arith, c.finish_trial-first.auto.places, c.requires.plan_in_bounds);
       places_noted = c.finish_trial-first.ensures.places_noted_after;
     }
@@ -196,7 +196,7 @@ slice_bounds-copy_front-end c =
 
 pub copy_front-requires : goal.copy_front-requires
 copy_front-requires c =
-    omega (arith, (passed (goal.at.copy_front-requires c).Start).fits, out-sized (goal.at.copy_front-requires c).After-finish_trial-first, ap length (part-lent (c.finish_trial-second.new.room) (length (c.args.received.now))), ones-sized (goal.at.copy_front-requires c).After-finish_trial-second)
+    omega (arith, (passed (goal.at.copy_front-requires c).Start).fits, out-sized (goal.at.copy_front-requires c).After-finish_trial-first, ap length (part-lent c.finish_trial-second.new.room (length c.args.received.now)), ones-sized (goal.at.copy_front-requires c).After-finish_trial-second)
 
 pub answer_by-requires-then-keeps_ones : goal.answer_by-requires-then-keeps_ones
 answer_by-requires-then-keeps_ones c =
@@ -224,11 +224,11 @@ answer_by-requires-then-keeps_ones c =
 pub returns-then-keeps_ones : goal.returns-then-keeps_ones
 returns-then-keeps_ones c =
     let (in-time, fewer) = c.keeps_ones.ensures.when_true c.if-keeps_ones.true in
-    let over = c.copy_front.ensures ∙ ap₂ written (part-lent (c.finish_trial-second.new.room) (length (c.args.received.now))) (stands (goal.at.returns-then-keeps_ones c).After-finish_trial-first)
-    ∙ written-again ((take (length (c.args.received.now)) c.finish_trial-second.new.room)) ((take (length (c.args.received.now)) c.finish_trial-first.new.room)) (c.args.output.now) (zeros-sized (goal.at.returns-then-keeps_ones c).After-finish_trial-first ∙ sym (ones-sized (goal.at.returns-then-keeps_ones c).After-finish_trial-second)) in
-    twice-ones (plan_of c.args.left.now c.args.right.now c.args.nl c.args.nr c.args.wiring.now) (c.args.received.now) (c.args.lost.now) (c.args.output.now) (c.args.opening.limit) c.requires.limit_value (ones-tried (goal.at.returns-then-keeps_ones c).After-finish_trial-second) over c.answer_by-then-keeps_ones.ensures in-time
+    let over = c.copy_front.ensures ∙ ap₂ written (part-lent c.finish_trial-second.new.room (length c.args.received.now)) (stands (goal.at.returns-then-keeps_ones c).After-finish_trial-first)
+    ∙ written-again ((take (length c.args.received.now) c.finish_trial-second.new.room)) ((take (length c.args.received.now) c.finish_trial-first.new.room)) c.args.output.now (zeros-sized (goal.at.returns-then-keeps_ones c).After-finish_trial-first ∙ sym (ones-sized (goal.at.returns-then-keeps_ones c).After-finish_trial-second)) in
+    twice-ones (plan_of c.args.left.now c.args.right.now c.args.nl c.args.nr c.args.wiring.now) c.args.received.now c.args.lost.now c.args.output.now c.args.opening.limit c.requires.limit_value (ones-tried (goal.at.returns-then-keeps_ones c).After-finish_trial-second) over c.answer_by-then-keeps_ones.ensures in-time
     (λ both.
-    let both-in-time : (c.finish_trial-first.result.settling).count ≤ c.args.opening.limit = omega (arith, (zeros-tried (goal.at.returns-then-keeps_ones c).After-finish_trial-first).counted, both) in
+    let both-in-time : c.finish_trial-first.result.settling.count ≤ c.args.opening.limit = omega (arith, (zeros-tried (goal.at.returns-then-keeps_ones c).After-finish_trial-first).counted, both) in
     omega (arith, zeros-changed (goal.at.returns-then-keeps_ones c).After-finish_trial-first (some (goal.at.returns-then-keeps_ones c).After-finish_trial-second) both-in-time, ones-changed (goal.at.returns-then-keeps_ones c).After-finish_trial-second in-time, fewer both-in-time))
 
 pub answer_by-requires-2 : goal.answer_by-requires-2
@@ -254,12 +254,12 @@ answer_by-requires-2 c =
 pub returns : goal.returns
 returns c =
     let zeros-win = c.keeps_ones.ensures.when_false c.if-keeps_ones.false in
-    twice-zeros (plan_of c.args.left.now c.args.right.now c.args.nl c.args.nr c.args.wiring.now) (c.args.received.now) (c.args.lost.now) (c.args.output.now) (c.args.opening.limit) c.requires.limit_value (zeros-tried (goal.at.returns c).After-finish_trial-first) (stands (goal.at.returns c).After-finish_trial-first) c.answer_by-2.ensures
+    twice-zeros (plan_of c.args.left.now c.args.right.now c.args.nl c.args.nr c.args.wiring.now) c.args.received.now c.args.lost.now c.args.output.now c.args.opening.limit c.requires.limit_value (zeros-tried (goal.at.returns c).After-finish_trial-first) (stands (goal.at.returns c).After-finish_trial-first) c.answer_by-2.ensures
     (λ in-time both.
-    let both-in-time : (c.finish_trial-second.result.settling).count ≤ c.args.opening.limit = omega (arith, (ones-tried (goal.at.returns c).After-finish_trial-second).counted, both) in
+    let both-in-time : c.finish_trial-second.result.settling.count ≤ c.args.opening.limit = omega (arith, (ones-tried (goal.at.returns c).After-finish_trial-second).counted, both) in
     omega (arith, zeros-changed (goal.at.returns c).After-finish_trial-first (some (goal.at.returns c).After-finish_trial-second) in-time, ones-changed (goal.at.returns c).After-finish_trial-second both-in-time, (zeros-win both-in-time).1))
     (λ past.
-    elim (dec_le (c.finish_trial-second.result.settling).count (c.args.opening.limit)) [
+    elim (dec_le c.finish_trial-second.result.settling.count c.args.opening.limit) [
       | yes l ↦ absurd (omega (arith, (zeros-win l).0, past))
       | no l ↦ omega (arith, (ones-tried (goal.at.returns c).After-finish_trial-second).counted, l)
     ])

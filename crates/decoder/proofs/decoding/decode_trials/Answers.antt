@@ -34,44 +34,44 @@ module _ (c : Start) where
 
 module _ (c : After-lay_out) where
 
-  put : c.lay_out.new.room ≡ written (filled 0 c.args.lost.now c.args.received.now) (c.args.output.now)
+  put : c.lay_out.new.room ≡ written (filled 0 c.args.lost.now c.args.received.now) c.args.output.now
   put = c.lay_out.ensures
 
-  part : take (length (c.args.received.now) - 0) c.lay_out.new.room ≡ (filled 0 c.args.lost.now c.args.received.now)
-  part = laid-part (filled 0 c.args.lost.now c.args.received.now) (c.args.output.now) (length (c.args.received.now) - 0) put (sized c.before.before.before.before.before.before.before.before.before.before.before)
+  part : take (length c.args.received.now - 0) c.lay_out.new.room ≡ (filled 0 c.args.lost.now c.args.received.now)
+  part = laid-part (filled 0 c.args.lost.now c.args.received.now) c.args.output.now (length c.args.received.now - 0) put (sized c.before.before.before.before.before.before.before.before.before.before.before)
 
 -- ---- its first two sweeps are made
 
 module _ (c : After-open-opening) where
 
-  swept_kept : length c.«open».new.1.1.1.1.1.1.1.1.1.0 ≡ length (take (length (c.args.received.now) - 0) (c.lay_out.new.room))
-  swept_kept = c.«open».auto.1.1.1.1.1.1.1.1.1.0
+  swept_kept : length c.open-opening.new.block ≡ length (take (length c.args.received.now - 0) c.lay_out.new.room)
+  swept_kept = c.open-opening.auto.block
 
-  swept-sized : length c.«open».new.1.1.1.1.1.1.1.1.1.0 ≡ length (c.args.received.now)
-  swept-sized = swept_kept ∙ ap length (part (record { before = c.before.before.before.before.before.before.before.before; type_inv = record { lost = c.shared_slice_known-5-1.given; received = c.shared_slice_known-4-1.given; right_finder = c.slice_known-2-1.given; left_finder = c.slice_known-1.given; wiring = c.shared_slice_known-3-1.given; right = c.shared_slice_known-2-1.given; left = c.shared_slice_known-1.given; } })) ∙ length-filled 0 (c.args.lost.now) (c.args.received.now)
+  swept-sized : length c.open-opening.new.block ≡ length c.args.received.now
+  swept-sized = swept_kept ∙ ap length (part (record { before = c.before.before.before.before.before.before.before.before; type_inv = record { lost = c.shared_slice_known-5-1.given; received = c.shared_slice_known-4-1.given; right_finder = c.slice_known-2-1.given; left_finder = c.slice_known-1.given; wiring = c.shared_slice_known-3-1.given; right = c.shared_slice_known-2-1.given; left = c.shared_slice_known-1.given; } })) ∙ length-filled 0 c.args.lost.now c.args.received.now
 
-  whole : (c.«open».new.1.1.1.1.1.1.1.1.1.0 ++ drop (length (c.args.received.now) - 0) (c.lay_out.new.room)) ≡ written c.«open».new.1.1.1.1.1.1.1.1.1.0 (c.args.output.now)
-  whole = laid-whole (filled 0 c.args.lost.now c.args.received.now) (c.args.output.now) (length (c.args.received.now) - 0) (put (record { before = c.before.before.before.before.before.before.before.before; type_inv = record { lost = c.shared_slice_known-5-1.given; received = c.shared_slice_known-4-1.given; right_finder = c.slice_known-2-1.given; left_finder = c.slice_known-1.given; wiring = c.shared_slice_known-3-1.given; right = c.shared_slice_known-2-1.given; left = c.shared_slice_known-1.given; } })) (sized c.before.before.before.before.before.before.before.before.before.before.before.before.before.before.before.before.before.before) c.«open».new.1.1.1.1.1.1.1.1.1.0 swept_kept
+  whole : (c.open-opening.new.block ++ drop (length c.args.received.now - 0) c.lay_out.new.room) ≡ written c.open-opening.new.block c.args.output.now
+  whole = laid-whole (filled 0 c.args.lost.now c.args.received.now) c.args.output.now (length c.args.received.now - 0) (put (record { before = c.before.before.before.before.before.before.before.before; type_inv = record { lost = c.shared_slice_known-5-1.given; received = c.shared_slice_known-4-1.given; right_finder = c.slice_known-2-1.given; left_finder = c.slice_known-1.given; wiring = c.shared_slice_known-3-1.given; right = c.shared_slice_known-2-1.given; left = c.shared_slice_known-1.given; } })) (sized c.before.before.before.before.before.before.before.before.before.before.before.before.before.before.before.before.before.before) c.open-opening.new.block swept_kept
 
-  after-sized : length (c.«open».new.1.1.1.1.1.1.1.1.1.0 ++ drop (length (c.args.received.now) - 0) (c.lay_out.new.room)) ≡ length (c.args.output.now)
-  after-sized = ap length whole ∙ length-written c.«open».new.1.1.1.1.1.1.1.1.1.0 (c.args.output.now) (omega (arith, swept-sized, (passed c.before.before.before.before.before.before.before.before.before.before.before.before.before.before.before.before.before.before).fits))
+  after-sized : length (c.open-opening.new.block ++ drop (length c.args.received.now - 0) c.lay_out.new.room) ≡ length c.args.output.now
+  after-sized = ap length whole ∙ length-written c.open-opening.new.block c.args.output.now (omega (arith, swept-sized, (passed c.before.before.before.before.before.before.before.before.before.before.before.before.before.before.before.before.before.before).fits))
 
-  opened : Opened (plan_of c.args.left.now c.args.right.now c.args.nl c.args.nr c.args.wiring.now) (filled 0 c.args.lost.now c.args.received.now) c.args.limit c.«open».result c.«open».new.1.1.1.1.1.1.1.1.0 c.«open».new.1.1.1.1.1.1.1.1.1.0
+  opened : Opened (plan_of c.args.left.now c.args.right.now c.args.nl c.args.nr c.args.wiring.now) (filled 0 c.args.lost.now c.args.received.now) c.args.limit c.open-opening.result c.open-opening.new.kept c.open-opening.new.block
   opened =
-      subst (λ (b : List ℕ). Opened (plan_of c.args.left.now c.args.right.now c.args.nl c.args.nr c.args.wiring.now) b c.args.limit c.«open».result c.«open».new.1.1.1.1.1.1.1.1.0 c.«open».new.1.1.1.1.1.1.1.1.1.0) (part (record { before = c.before.before.before.before.before.before.before.before; type_inv = record { lost = c.shared_slice_known-5-1.given; received = c.shared_slice_known-4-1.given; right_finder = c.slice_known-2-1.given; left_finder = c.slice_known-1.given; wiring = c.shared_slice_known-3-1.given; right = c.shared_slice_known-2-1.given; left = c.shared_slice_known-1.given; } })) c.«open».ensures.1
+      subst (λ (b : List ℕ). Opened (plan_of c.args.left.now c.args.right.now c.args.nl c.args.nr c.args.wiring.now) b c.args.limit c.open-opening.result c.open-opening.new.kept c.open-opening.new.block) (part (record { before = c.before.before.before.before.before.before.before.before; type_inv = record { lost = c.shared_slice_known-5-1.given; received = c.shared_slice_known-4-1.given; right_finder = c.slice_known-2-1.given; left_finder = c.slice_known-1.given; wiring = c.shared_slice_known-3-1.given; right = c.shared_slice_known-2-1.given; left = c.shared_slice_known-1.given; } })) c.open-opening.ensures.opened
 
-  opened-here : Opened (plan_of c.args.left.now c.args.right.now c.args.nl c.args.nr c.args.wiring.now) (filled 0 c.args.lost.now c.args.received.now) c.«open».result.limit c.«open».result c.«open».new.1.1.1.1.1.1.1.1.0 (take (length (c.args.received.now)) (c.«open».new.1.1.1.1.1.1.1.1.1.0 ++ drop (length (c.args.received.now) - 0) (c.lay_out.new.room)))
+  opened-here : Opened (plan_of c.args.left.now c.args.right.now c.args.nl c.args.nr c.args.wiring.now) (filled 0 c.args.lost.now c.args.received.now) c.open-opening.result.limit c.open-opening.result c.open-opening.new.kept (take (length c.args.received.now) (c.open-opening.new.block ++ drop (length c.args.received.now - 0) c.lay_out.new.room))
   opened-here =
-      laid-opened (filled 0 c.args.lost.now c.args.received.now) (c.args.output.now) (length (c.args.received.now) - 0) (put (record { before = c.before.before.before.before.before.before.before.before; type_inv = record { lost = c.shared_slice_known-5-1.given; received = c.shared_slice_known-4-1.given; right_finder = c.slice_known-2-1.given; left_finder = c.slice_known-1.given; wiring = c.shared_slice_known-3-1.given; right = c.shared_slice_known-2-1.given; left = c.shared_slice_known-1.given; } })) (sized c.before.before.before.before.before.before.before.before.before.before.before.before.before.before.before.before.before.before) c.«open».new.1.1.1.1.1.1.1.1.1.0 swept_kept c.«open».ensures.1
-      (length (c.args.received.now)) (omega arith)
+      laid-opened (filled 0 c.args.lost.now c.args.received.now) c.args.output.now (length c.args.received.now - 0) (put (record { before = c.before.before.before.before.before.before.before.before; type_inv = record { lost = c.shared_slice_known-5-1.given; received = c.shared_slice_known-4-1.given; right_finder = c.slice_known-2-1.given; left_finder = c.slice_known-1.given; wiring = c.shared_slice_known-3-1.given; right = c.shared_slice_known-2-1.given; left = c.shared_slice_known-1.given; } })) (sized c.before.before.before.before.before.before.before.before.before.before.before.before.before.before.before.before.before.before) c.open-opening.new.block swept_kept c.open-opening.ensures.opened
+      (length c.args.received.now) (omega arith)
 
   -- what a decoding ensures that goes on from there
-  decoded : {r : Decoding} {left : List ℕ} → Decodes (plan_of c.args.left.now c.args.right.now c.args.nl c.args.nr c.args.wiring.now) (c.args.received.now) (c.args.lost.now) (c.«open».new.1.1.1.1.1.1.1.1.1.0 ++ drop (length (c.args.received.now) - 0) (c.lay_out.new.room)) c.«open».result.limit r left
-      → Decodes (plan_of c.args.left.now c.args.right.now c.args.nl c.args.nr c.args.wiring.now) (c.args.received.now) (c.args.lost.now) (c.args.output.now) c.args.limit r left
+  decoded : {r : Decoding} {left : List ℕ} → Decodes (plan_of c.args.left.now c.args.right.now c.args.nl c.args.nr c.args.wiring.now) c.args.received.now c.args.lost.now (c.open-opening.new.block ++ drop (length c.args.received.now - 0) c.lay_out.new.room) c.open-opening.result.limit r left
+      → Decodes (plan_of c.args.left.now c.args.right.now c.args.nl c.args.nr c.args.wiring.now) c.args.received.now c.args.lost.now c.args.output.now c.args.limit r left
   decoded {r} {left} answered =
-      over-answers (plan_of c.args.left.now c.args.right.now c.args.nl c.args.nr c.args.wiring.now) (c.args.received.now) (c.args.lost.now) (c.args.output.now) c.args.limit c.requires.limit_value c.«open».new.1.1.1.1.1.1.1.1.1.0 swept-sized
-      (subst (λ (out : List ℕ). Decodes (plan_of c.args.left.now c.args.right.now c.args.nl c.args.nr c.args.wiring.now) (c.args.received.now) (c.args.lost.now) out c.args.limit r left) whole
-      (subst (λ (H : ℕ). Decodes (plan_of c.args.left.now c.args.right.now c.args.nl c.args.nr c.args.wiring.now) (c.args.received.now) (c.args.lost.now) (c.«open».new.1.1.1.1.1.1.1.1.1.0 ++ drop (length (c.args.received.now) - 0) (c.lay_out.new.room)) H r left) opened.limit_is answered))
+      over-answers (plan_of c.args.left.now c.args.right.now c.args.nl c.args.nr c.args.wiring.now) c.args.received.now c.args.lost.now c.args.output.now c.args.limit c.requires.limit_value c.open-opening.new.block swept-sized
+      (subst (λ (out : List ℕ). Decodes (plan_of c.args.left.now c.args.right.now c.args.nl c.args.nr c.args.wiring.now) c.args.received.now c.args.lost.now out c.args.limit r left) whole
+      (subst (λ (H : ℕ). Decodes (plan_of c.args.left.now c.args.right.now c.args.nl c.args.nr c.args.wiring.now) c.args.received.now c.args.lost.now (c.open-opening.new.block ++ drop (length c.args.received.now - 0) c.lay_out.new.room) H r left) opened.limit_is answered))
 
 pub lay_out-requires : goal.lay_out-requires
 lay_out-requires c = (passed (goal.at.lay_out-requires c).Start).fits
@@ -92,16 +92,16 @@ open-opening-requires c =
 pub returns-then-at_once : goal.returns-then-at_once
 returns-then-at_once c =
     let (none, (ended, in-time)) = c.at_once.ensures c.if-at_once.true in
-    twice-none (plan_of c.args.left.now c.args.right.now c.args.nl c.args.nr c.args.wiring.now) (c.args.received.now) (c.args.lost.now) (c.args.output.now) c.args.limit c.requires.limit_value ((opened (goal.at.returns-then-at_once c).After-open-opening).closed ended) (whole (goal.at.returns-then-at_once c).After-open-opening)
-    (by-settled (c.args.received.now) c.args.limit (record { count = (c.«open».result).count; sums = (c.«open».result).sums; visits = (c.«open».result).visits }) ((c.«open».new.1.1.1.1.1.1.1.1.1.0 ++ drop (length (c.args.received.now) - 0) (c.lay_out.new.room))) in-time)
+    twice-none (plan_of c.args.left.now c.args.right.now c.args.nl c.args.nr c.args.wiring.now) c.args.received.now c.args.lost.now c.args.output.now c.args.limit c.requires.limit_value ((opened (goal.at.returns-then-at_once c).After-open-opening).closed ended) (whole (goal.at.returns-then-at_once c).After-open-opening)
+    (by-settled c.args.received.now c.args.limit (record { count = c.open-opening.result.count; sums = c.open-opening.result.sums; visits = c.open-opening.result.visits }) ((c.open-opening.new.block ++ drop (length c.args.received.now - 0) c.lay_out.new.room)) in-time)
     none
 
 pub decode_on-requires : goal.decode_on-requires
 decode_on-requires c =
-    let checked = ap₂ (decode_check (plan_of c.args.left.now c.args.right.now c.args.nl c.args.nr c.args.wiring.now) (c.args.received.now) (c.args.lost.now)) (whole (goal.at.decode_on-requires c).After-open-opening) (opened (goal.at.decode_on-requires c).After-open-opening).limit_is
-    ∙ over-check (plan_of c.args.left.now c.args.right.now c.args.nl c.args.nr c.args.wiring.now) (c.args.received.now) (c.args.lost.now) (c.args.output.now) c.args.limit c.requires.limit_value (c.«open».new.1.1.1.1.1.1.1.1.1.0) (swept-sized (goal.at.decode_on-requires c).After-open-opening) in
+    let checked = ap₂ (decode_check (plan_of c.args.left.now c.args.right.now c.args.nl c.args.nr c.args.wiring.now) c.args.received.now c.args.lost.now) (whole (goal.at.decode_on-requires c).After-open-opening) (opened (goal.at.decode_on-requires c).After-open-opening).limit_is
+    ∙ over-check (plan_of c.args.left.now c.args.right.now c.args.nl c.args.nr c.args.wiring.now) c.args.received.now c.args.lost.now c.args.output.now c.args.limit c.requires.limit_value c.open-opening.new.block (swept-sized (goal.at.decode_on-requires c).After-open-opening) in
     record {
-      ready = c.«open».ensures.0;
+      ready = c.open-opening.ensures.still_ready;
       limit_value = checked;
       opened = opened-here (goal.at.decode_on-requires c).After-open-opening;
     }

@@ -27,26 +27,26 @@ module _ (c : Start) where
 
 module _ (c : After-finish-settling) where
 
-  kept : length c.finish-settling.new.block ≡ length (take ((length c.args.received.now) - 0) (c.args.room.now))
+  kept : length c.finish-settling.new.block ≡ length (take ((length c.args.received.now) - 0) c.args.room.now)
   kept = c.finish-settling.auto.block
 
-  whole : (c.finish-settling.new.block ++ drop ((length c.args.received.now) - 0) (c.args.room.now)) ≡ written c.finish-settling.new.block (c.args.room.now)
-  whole = part-whole (c.args.room.now) (length c.args.received.now) (fits c.before.before.before.before.before.before.before.before.before.before.before.before.before.before.before.before.before.before.before) c.finish-settling.new.block kept
+  whole : (c.finish-settling.new.block ++ drop ((length c.args.received.now) - 0) c.args.room.now) ≡ written c.finish-settling.new.block c.args.room.now
+  whole = part-whole c.args.room.now (length c.args.received.now) (fits c.before.before.before.before.before.before.before.before.before.before.before.before.before.before.before.before.before.before.before) c.finish-settling.new.block kept
 
-  front : take (length c.args.received.now) (c.finish-settling.new.block ++ drop ((length c.args.received.now) - 0) (c.args.room.now)) ≡ c.finish-settling.new.block
-  front = part-front (c.args.room.now) (length c.args.received.now) (fits c.before.before.before.before.before.before.before.before.before.before.before.before.before.before.before.before.before.before.before) c.finish-settling.new.block kept
+  front : take (length c.args.received.now) (c.finish-settling.new.block ++ drop ((length c.args.received.now) - 0) c.args.room.now) ≡ c.finish-settling.new.block
+  front = part-front c.args.room.now (length c.args.received.now) (fits c.before.before.before.before.before.before.before.before.before.before.before.before.before.before.before.before.before.before.before) c.finish-settling.new.block kept
 
-  stands : (c.finish-settling.new.block ++ drop ((length c.args.received.now) - 0) (c.args.room.now)) ≡ written (take (length c.args.received.now) (c.finish-settling.new.block ++ drop ((length c.args.received.now) - 0) (c.args.room.now))) (c.args.room.now)
-  stands = whole ∙ ap (λ (block : List ℕ). written block (c.args.room.now)) (sym front)
+  stands : (c.finish-settling.new.block ++ drop ((length c.args.received.now) - 0) c.args.room.now) ≡ written (take (length c.args.received.now) (c.finish-settling.new.block ++ drop ((length c.args.received.now) - 0) c.args.room.now)) c.args.room.now
+  stands = whole ∙ ap (λ (block : List ℕ). written block c.args.room.now) (sym front)
 
   trial : (block : List ℕ)
-      → Opened (plan_of c.args.left.now c.args.right.now c.args.nl c.args.nr c.args.wiring.now) block c.args.opening.limit c.args.opening c.args.kept.now (take (length c.args.received.now) (c.args.room.now))
-      → Tried (plan_of c.args.left.now c.args.right.now c.args.nl c.args.nr c.args.wiring.now) block c.args.opening.limit c.finish-settling.result.count c.finish-settling.result.sums c.finish-settling.result.visits (take (length c.args.received.now) (c.finish-settling.new.block ++ drop ((length c.args.received.now) - 0) (c.args.room.now)))
+      → Opened (plan_of c.args.left.now c.args.right.now c.args.nl c.args.nr c.args.wiring.now) block c.args.opening.limit c.args.opening c.args.kept.now (take (length c.args.received.now) c.args.room.now)
+      → Tried (plan_of c.args.left.now c.args.right.now c.args.nl c.args.nr c.args.wiring.now) block c.args.opening.limit c.finish-settling.result.count c.finish-settling.result.sums c.finish-settling.result.visits (take (length c.args.received.now) (c.finish-settling.new.block ++ drop ((length c.args.received.now) - 0) c.args.room.now))
   trial block opened =
       subst (Tried (plan_of c.args.left.now c.args.right.now c.args.nl c.args.nr c.args.wiring.now) block c.args.opening.limit c.finish-settling.result.count c.finish-settling.result.sums c.finish-settling.result.visits) (sym front)
       (c.finish-settling.ensures.settles block
       (subst (Opened (plan_of c.args.left.now c.args.right.now c.args.nl c.args.nr c.args.wiring.now) block c.args.opening.limit c.args.opening c.args.kept.now)
-      (sym (part-lent (c.args.room.now) (length c.args.received.now))) opened))
+      (sym (part-lent c.args.room.now (length c.args.received.now))) opened))
 
 pub places_for-noted-requires : goal.places_for-noted-requires
 places_for-noted-requires c =
@@ -60,12 +60,11 @@ places_for-noted-requires c =
 
 pub finish-settling-requires : goal.finish-settling-requires
 finish-settling-requires c =
-    let (told, needed) = c.places_for-noted.ensures in
-    let opened = subst (OpenedSome (plan_of c.args.left.now c.args.right.now c.args.nl c.args.nr c.args.wiring.now) c.args.opening c.args.kept.now) (sym (part-lent (c.args.room.now) (length c.args.received.now))) c.requires.opened_some in
+    let opened = subst (OpenedSome (plan_of c.args.left.now c.args.right.now c.args.nl c.args.nr c.args.wiring.now) c.args.opening c.args.kept.now) (sym (part-lent c.args.room.now (length c.args.received.now))) c.requires.opened_some in
     record {
       ready = c.requires.ready;
       opened_some = opened;
-      places_noted = λ e. told (needed e);
+      places_noted = λ e. c.places_for-noted.ensures.places_noted_after (c.places_for-noted.ensures.value e);
     }
 
 pub returns-then-lost-eq0 : goal.returns-then-lost-eq0
@@ -81,13 +80,13 @@ returns-then-lost-eq0 c =
 pub slice_bounds-flips_outside-end : goal.slice_bounds-flips_outside-end
 slice_bounds-flips_outside-end c =
     let sized = ap length (whole (goal.at.slice_bounds-flips_outside-end c).After-finish-settling)
-    ∙ length-written (c.finish-settling.new.block) (c.args.room.now) (omega (arith, part-sized (c.args.room.now) (length c.args.received.now) (fits (goal.at.slice_bounds-flips_outside-end c).Start) (c.finish-settling.new.block) (kept (goal.at.slice_bounds-flips_outside-end c).After-finish-settling), fits (goal.at.slice_bounds-flips_outside-end c).Start)) in
+    ∙ length-written c.finish-settling.new.block c.args.room.now (omega (arith, part-sized c.args.room.now (length c.args.received.now) (fits (goal.at.slice_bounds-flips_outside-end c).Start) c.finish-settling.new.block (kept (goal.at.slice_bounds-flips_outside-end c).After-finish-settling), fits (goal.at.slice_bounds-flips_outside-end c).Start)) in
     omega (arith, sized, fits (goal.at.slice_bounds-flips_outside-end c).Start)
 
 pub returns : goal.returns
 returns c =
     let changes = c.flips_outside-changed.ensures
-    ∙ ap (flips_around (length c.args.wiring.now / 2) c.args.lost.now c.args.received.now) (part-lent ((c.finish-settling.new.block ++ drop ((length c.args.received.now) - 0) (c.args.room.now))) (length c.args.received.now)) in
+    ∙ ap (flips_around (length c.args.wiring.now / 2) c.args.lost.now c.args.received.now) (part-lent ((c.finish-settling.new.block ++ drop ((length c.args.received.now) - 0) c.args.room.now)) (length c.args.received.now)) in
     record {
       still_ready = c.finish-settling.ensures.still_ready;
       places_noted_after = c.places_for-noted.ensures.places_noted_after;

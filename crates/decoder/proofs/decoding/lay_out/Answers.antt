@@ -16,6 +16,6 @@ returns c =
     let room = c.args.room.now in
     let part = laid-part received room (length received - 0) c.copy_front.ensures (omega arith) in
     let filling = c.fill in
-    laid-whole received room (length received - 0) c.copy_front.ensures (omega arith) filling.new.1.1.0 filling.auto.1.1.0
+    laid-whole received room (length received - 0) c.copy_front.ensures (omega arith) filling.new.block filling.auto.block
     ∙ ap (λ (block : List ℕ). written block room)
     (filling.ensures ∙ ap (filled (c.args.value % 2) c.args.lost.now) part)

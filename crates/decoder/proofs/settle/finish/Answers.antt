@@ -23,20 +23,20 @@ use Rattle.decoder.proofs.settle.finish.Goals.{After-sweep_turn-here, At-loop-co
 limited : (c : Start) → c.args.opening.limit ≤ 4096
 limited c = c.requires.opened_some.limited
 
-ready : (c : At-loop-count) → Ready (plan_of c.args.left.now c.args.right.now c.args.nl c.args.nr c.args.wiring.now) c.loop-count.left-finder c.loop-count.right-finder
+ready : (c : At-loop-count) → Ready (plan_of c.args.left.now c.args.right.now c.args.nl c.args.nr c.args.wiring.now) c.loop-count.left_finder c.loop-count.right_finder
 ready c = c.loop-count.invariant.2 c.requires.ready
 
 -- where the trial of a received block stands
 abbrev At : At-loop-count → List ℕ → Type 0
 At c received =
-    Midway (plan_of c.args.left.now c.args.right.now c.args.nl c.args.nr c.args.wiring.now) received (c.args.opening.limit) c.loop-count.count c.loop-count.sums c.loop-count.visits c.loop-count.kept c.loop-count.block
+    Midway (plan_of c.args.left.now c.args.right.now c.args.nl c.args.nr c.args.wiring.now) received c.args.opening.limit c.loop-count.count c.loop-count.sums c.loop-count.visits c.loop-count.kept c.loop-count.block
 
 midway : (c : At-loop-count) (received : List ℕ)
-    → Opened (plan_of c.args.left.now c.args.right.now c.args.nl c.args.nr c.args.wiring.now) received (c.args.opening.limit) c.args.opening c.args.kept.now c.args.block.now → At c received
+    → Opened (plan_of c.args.left.now c.args.right.now c.args.nl c.args.nr c.args.wiring.now) received c.args.opening.limit c.args.opening c.args.kept.now c.args.block.now → At c received
 midway c received opened = c.loop-count.invariant.1 received (opened.going c.if-opening.false)
 
-one : (c : At-loop-count) → At c (c.requires.opened_some.received)
-one c = midway c (c.requires.opened_some.received) c.requires.opened_some.opened
+one : (c : At-loop-count) → At c c.requires.opened_some.received
+one c = midway c c.requires.opened_some.received c.requires.opened_some.opened
 
 begun : (c : At-loop-count) {received : List ℕ} → At c received → Begun (plan_of c.args.left.now c.args.right.now c.args.nl c.args.nr c.args.wiring.now) received
 begun c m = record { plan-done = (ready c).plan-done; block-done = m.begun }
@@ -47,7 +47,7 @@ few c name = (plan-fits (plan_of c.args.left.now c.args.right.now c.args.nl c.ar
 -- ---- one more sweep
 
 swept : (c : After-sweep_turn-here)
-    → NewsSwept (plan_of c.args.left.now c.args.right.now c.args.nl c.args.nr c.args.wiring.now) (turn c.loop-count.count) c.loop-count.block c.loop-count.kept c.sweep_turn-here.result (c.sweep_turn-here.new.block) (c.sweep_turn-here.new.kept)
+    → NewsSwept (plan_of c.args.left.now c.args.right.now c.args.nl c.args.nr c.args.wiring.now) (turn c.loop-count.count) c.loop-count.block c.loop-count.kept c.sweep_turn-here.result c.sweep_turn-here.new.block c.sweep_turn-here.new.kept
 swept c = rw c.loop-count.invariant.0 at c.sweep_turn-here.ensures.news_swept
 
 within : (c : After-sweep_turn-here) → c.loop-count.count ≤ c.args.opening.limit
@@ -55,14 +55,14 @@ within c = c.loop-count-test.true
 
 -- what is lent keeps its length
 left-length : (c : After-sweep_turn-here)
-    → length c.sweep_turn-here.new.left_finder ≡ length c.args.left-finder.now
+    → length c.sweep_turn-here.new.left_finder ≡ length c.args.left_finder.now
 left-length c = c.sweep_turn-here.auto.left_finder ∙ c.loop-count.invariant.3
 
 right-length : (c : After-sweep_turn-here)
-    → length c.sweep_turn-here.new.right_finder ≡ length c.args.right-finder.now
+    → length c.sweep_turn-here.new.right_finder ≡ length c.args.right_finder.now
 right-length c = c.sweep_turn-here.auto.right_finder ∙ c.loop-count.invariant.4
 
-block-length : (c : After-sweep_turn-here) → length (c.sweep_turn-here.new.block) ≡ length c.args.block.now
+block-length : (c : After-sweep_turn-here) → length c.sweep_turn-here.new.block ≡ length c.args.block.now
 block-length c = c.sweep_turn-here.auto.block ∙ c.loop-count.invariant.5
 
 -- the visits so far, and those of one sweep more, are few
@@ -73,10 +73,10 @@ visits-fit c =
     omega (
       arith,
       m.visited,
-      visits-few plan (c.requires.opened_some.received) (few (record { before = c.before.before.before.before.before.before.before; type_inv = record { places = c.shared_slice_known-4-1.given; wiring = c.shared_slice_known-3-1.given; right = c.shared_slice_known-2-1.given; left = c.shared_slice_known-1.given; } })) (min c.loop-count.count (c.args.opening.limit)),
+      visits-few plan c.requires.opened_some.received (few (record { before = c.before.before.before.before.before.before.before; type_inv = record { places = c.shared_slice_known-4-1.given; wiring = c.shared_slice_known-3-1.given; right = c.shared_slice_known-2-1.given; left = c.shared_slice_known-1.given; } })) (min c.loop-count.count c.args.opening.limit),
       limited c.before.before.before.before.before.before.before.before.before.before.before.before.before.before.before.before.before,
       midway-visits (begun (record { before = c.before.before.before.before.before.before.before; type_inv = record { places = c.shared_slice_known-4-1.given; wiring = c.shared_slice_known-3-1.given; right = c.shared_slice_known-2-1.given; left = c.shared_slice_known-1.given; } }) m) m (swept c),
-      visits-in-few plan (c.requires.opened_some.received) (few (record { before = c.before.before.before.before.before.before.before; type_inv = record { places = c.shared_slice_known-4-1.given; wiring = c.shared_slice_known-3-1.given; right = c.shared_slice_known-2-1.given; left = c.shared_slice_known-1.given; } })) c.loop-count.count,
+      visits-in-few plan c.requires.opened_some.received (few (record { before = c.before.before.before.before.before.before.before; type_inv = record { places = c.shared_slice_known-4-1.given; wiring = c.shared_slice_known-3-1.given; right = c.shared_slice_known-2-1.given; left = c.shared_slice_known-1.given; } })) c.loop-count.count,
     )
 
 pub returns-then-opening : goal.returns-then-opening

@@ -23,7 +23,7 @@ use Rattle.decoder.proofs.settle.open.Goals.{After-note, After-note-2, After-swe
 
 -- ---- the call
 
-begun : (c : Start) → Begun (plan_of c.args.left.now c.args.right.now c.args.nl c.args.nr c.args.wiring.now) (c.args.block.now)
+begun : (c : Start) → Begun (plan_of c.args.left.now c.args.right.now c.args.nl c.args.nr c.args.wiring.now) c.args.block.now
 begun c = record { plan-done = c.requires.ready.plan-done; block-done = c.requires.block_value }
 
 few : (c : Start) (name : SideName) → count_of (plan_of c.args.left.now c.args.right.now c.args.nl c.args.nr c.args.wiring.now) name ≤ 2048
@@ -31,13 +31,13 @@ few c name = (plan-fits (plan_of c.args.left.now c.args.right.now c.args.nl c.ar
 
 -- ---- the two sweeps
 
-first-pass : (c : After-sweep_firsts-firsts) → Pass (plan_of c.args.left.now c.args.right.now c.args.nl c.args.nr c.args.wiring.now) (c.args.block.now) 0 c.sweep_firsts-firsts.result.left
+first-pass : (c : After-sweep_firsts-firsts) → Pass (plan_of c.args.left.now c.args.right.now c.args.nl c.args.nr c.args.wiring.now) c.args.block.now 0 c.sweep_firsts-firsts.result.left
     c.sweep_firsts-firsts.ensures.both_swept.between
 first-pass c =
     pass (begun c.before.before.before.before.before.before.before.before.before.before.before.before) c.sweep_firsts-firsts.ensures.both_swept.left-swept turn-zero
-    (sym (after-zero (side_of (plan_of c.args.left.now c.args.right.now c.args.nl c.args.nr c.args.wiring.now)) (c.args.block.now)))
+    (sym (after-zero (side_of (plan_of c.args.left.now c.args.right.now c.args.nl c.args.nr c.args.wiring.now)) c.args.block.now))
 
-second-pass : (c : After-sweep_firsts-firsts) → Pass (plan_of c.args.left.now c.args.right.now c.args.nl c.args.nr c.args.wiring.now) (c.args.block.now) 1 c.sweep_firsts-firsts.result.right
+second-pass : (c : After-sweep_firsts-firsts) → Pass (plan_of c.args.left.now c.args.right.now c.args.nl c.args.nr c.args.wiring.now) c.args.block.now 1 c.sweep_firsts-firsts.result.right
     c.sweep_firsts-firsts.new.block
 second-pass c = pass (begun c.before.before.before.before.before.before.before.before.before.before.before.before) c.sweep_firsts-firsts.ensures.both_swept.right-swept turn_one (first-pass c).leaves
 
@@ -49,7 +49,7 @@ ties-few c =
       arith,
       both.left-swept.waiting,
       both.right-swept.waiting,
-      ties-le (side_of (plan_of c.args.left.now c.args.right.now c.args.nl c.args.nr c.args.wiring.now) left) (c.args.block.now) c.args.nl,
+      ties-le (side_of (plan_of c.args.left.now c.args.right.now c.args.nl c.args.nr c.args.wiring.now) left) c.args.block.now c.args.nl,
       ties-le (side_of (plan_of c.args.left.now c.args.right.now c.args.nl c.args.nr c.args.wiring.now) right) both.between c.args.nr,
       few c.before.before.before.before.before.before.before.before.before.before.before.before left,
       few c.before.before.before.before.before.before.before.before.before.before.before.before right,
@@ -57,47 +57,49 @@ ties-few c =
 
 -- ---- what they tell
 
-told_none : (c : Start) → Told (plan_of c.args.left.now c.args.right.now c.args.nl c.args.nr c.args.wiring.now) (c.args.block.now) c.args.limit 0 (replicate 64 0) 0
+told_none : (c : Start) → Told (plan_of c.args.left.now c.args.right.now c.args.nl c.args.nr c.args.wiring.now) c.args.block.now c.args.limit 0 (replicate 64 0) 0
 told_none c = told-start (begun c) c.args.limit refl
 
-left-visits : (c : Start) → c.args.nl ≡ visits_in (plan_of c.args.left.now c.args.right.now c.args.nl c.args.nr c.args.wiring.now) (c.args.block.now) 0
+left-visits : (c : Start) → c.args.nl ≡ visits_in (plan_of c.args.left.now c.args.right.now c.args.nl c.args.nr c.args.wiring.now) c.args.block.now 0
 unfolding turn
-left-visits c = sym (visits-full (plan_of c.args.left.now c.args.right.now c.args.nl c.args.nr c.args.wiring.now) (c.args.block.now) 0 (omega arith))
+left-visits c = sym (visits-full (plan_of c.args.left.now c.args.right.now c.args.nl c.args.nr c.args.wiring.now) c.args.block.now 0 (omega arith))
 
-right-visits : (c : Start) → c.args.nr ≡ visits_in (plan_of c.args.left.now c.args.right.now c.args.nl c.args.nr c.args.wiring.now) (c.args.block.now) 1
+right-visits : (c : Start) → c.args.nr ≡ visits_in (plan_of c.args.left.now c.args.right.now c.args.nl c.args.nr c.args.wiring.now) c.args.block.now 1
 unfolding turn other
-right-visits c = sym (visits-full (plan_of c.args.left.now c.args.right.now c.args.nl c.args.nr c.args.wiring.now) (c.args.block.now) 1 (omega arith))
+right-visits c = sym (visits-full (plan_of c.args.left.now c.args.right.now c.args.nl c.args.nr c.args.wiring.now) c.args.block.now 1 (omega arith))
 
 told-one : (c : After-note)
-    → Told (plan_of c.args.left.now c.args.right.now c.args.nl c.args.nr c.args.wiring.now) (c.args.block.now) c.args.limit 1 c.note.new.sums c.add_visits-one.result
+    → Told (plan_of c.args.left.now c.args.right.now c.args.nl c.args.nr c.args.wiring.now) c.args.block.now c.args.limit 1 c.note.new.sums c.add_visits-one.result
 told-one c =
     told_more (begun c.before.before.before.before.before.before.before.before.before.before.before.before.before.before.before.before.before.before.before.before.before.before.before.before) (told_none c.before.before.before.before.before.before.before.before.before.before.before.before.before.before.before.before.before.before.before.before.before.before.before.before) (first-pass (record { before = c.before.before.before.before.before.before.before.before.before.before.before.before.before; type_inv = record { wiring = c.shared_slice_known-3-1.given; right = c.shared_slice_known-2-1.given; left = c.shared_slice_known-1.given; } })) c.note.ensures (left-visits c.before.before.before.before.before.before.before.before.before.before.before.before.before.before.before.before.before.before.before.before.before.before.before.before) c.add_visits-one.ensures
 
 both-visits : (c : After-note)
-    → c.add_visits-two.result ≡ visits_made (plan_of c.args.left.now c.args.right.now c.args.nl c.args.nr c.args.wiring.now) (c.args.block.now) (min 2 c.args.limit)
+    → c.add_visits-two.result ≡ visits_made (plan_of c.args.left.now c.args.right.now c.args.nl c.args.nr c.args.wiring.now) c.args.block.now (min 2 c.args.limit)
 both-visits c =
-    visits-added (plan_of c.args.left.now c.args.right.now c.args.nl c.args.nr c.args.wiring.now) (c.args.block.now) c.args.limit 1 (told-one c).visits-are (right-visits c.before.before.before.before.before.before.before.before.before.before.before.before.before.before.before.before.before.before.before.before.before.before.before.before) c.add_visits-two.ensures
+    visits-added (plan_of c.args.left.now c.args.right.now c.args.nl c.args.nr c.args.wiring.now) c.args.block.now c.args.limit 1 (told-one c).visits-are (right-visits c.before.before.before.before.before.before.before.before.before.before.before.before.before.before.before.before.before.before.before.before.before.before.before.before) c.add_visits-two.ensures
 
 -- ---- the second changed something
 
 swept : (c : After-note-2)
-    → Swept (plan_of c.args.left.now c.args.right.now c.args.nl c.args.nr c.args.wiring.now) (c.args.block.now) c.args.limit 2 c.sweep_firsts-firsts.new.block c.note-2.new.sums
+    → (one : Told (plan_of c.args.left.now c.args.right.now c.args.nl c.args.nr c.args.wiring.now) c.args.block.now c.args.limit 1 c.note.new.sums c.add_visits-one.result)
+    → Swept (plan_of c.args.left.now c.args.right.now c.args.nl c.args.nr c.args.wiring.now) c.args.block.now c.args.limit 2 c.sweep_firsts-firsts.new.block c.note-2.new.sums
     c.add_visits-two.result
-swept c =
+swept c one =
     swept-two (begun c.before.before.before.before.before.before.before.before.before.before.before.before.before.before.before.before.before.before.before.before.before.before.before.before.before.before.before.before) (second-pass (record { before = c.before.before.before.before.before.before.before.before.before.before.before.before.before.before.before.before.before; type_inv = record { wiring = c.shared_slice_known-3-1.given; right = c.shared_slice_known-2-1.given; left = c.shared_slice_known-1.given; } })) c.if-second-eq0.false
-    (told_more (begun c.before.before.before.before.before.before.before.before.before.before.before.before.before.before.before.before.before.before.before.before.before.before.before.before.before.before.before.before) (told-one (record { before = c.before.before.before.before.before; type_inv = record { sums = c.type_inv.sums; block = c.slice_known-6-1.given; right_finder = c.slice_known-5-1.given; left_finder = c.slice_known-4-1.given; wiring = c.shared_slice_known-3-1.given; right = c.shared_slice_known-2-1.given; left = c.shared_slice_known-1.given; } })) (second-pass (record { before = c.before.before.before.before.before.before.before.before.before.before.before.before.before.before.before.before.before; type_inv = record { wiring = c.shared_slice_known-3-1.given; right = c.shared_slice_known-2-1.given; left = c.shared_slice_known-1.given; } })) c.note-2.ensures (right-visits c.before.before.before.before.before.before.before.before.before.before.before.before.before.before.before.before.before.before.before.before.before.before.before.before.before.before.before.before) c.add_visits-two.ensures)
+    (told_more (begun c.before.before.before.before.before.before.before.before.before.before.before.before.before.before.before.before.before.before.before.before.before.before.before.before.before.before.before.before) one (second-pass (record { before = c.before.before.before.before.before.before.before.before.before.before.before.before.before.before.before.before.before; type_inv = record { wiring = c.shared_slice_known-3-1.given; right = c.shared_slice_known-2-1.given; left = c.shared_slice_known-1.given; } })) c.note-2.ensures (right-visits c.before.before.before.before.before.before.before.before.before.before.before.before.before.before.before.before.before.before.before.before.before.before.before.before.before.before.before.before) c.add_visits-two.ensures)
 
 -- a third sweep is made
 going : (c : After-note-2)
-    → Midway (plan_of c.args.left.now c.args.right.now c.args.nl c.args.nr c.args.wiring.now) (c.args.block.now) c.args.limit 2 c.note-2.new.sums c.add_visits-two.result
+    → (one : Told (plan_of c.args.left.now c.args.right.now c.args.nl c.args.nr c.args.wiring.now) c.args.block.now c.args.limit 1 c.note.new.sums c.add_visits-one.result)
+    → Midway (plan_of c.args.left.now c.args.right.now c.args.nl c.args.nr c.args.wiring.now) c.args.block.now c.args.limit 2 c.note-2.new.sums c.add_visits-two.result
     c.sweep_firsts-firsts.new.kept c.sweep_firsts-firsts.new.block
-going c =
-    open-going (begun c.before.before.before.before.before.before.before.before.before.before.before.before.before.before.before.before.before.before.before.before.before.before.before.before.before.before.before.before) (swept c) (first-pass (record { before = c.before.before.before.before.before.before.before.before.before.before.before.before.before.before.before.before.before; type_inv = record { wiring = c.shared_slice_known-3-1.given; right = c.shared_slice_known-2-1.given; left = c.shared_slice_known-1.given; } })).leaves c.sweep_firsts-firsts.ensures.both_swept.listening
+going c one =
+    open-going (begun c.before.before.before.before.before.before.before.before.before.before.before.before.before.before.before.before.before.before.before.before.before.before.before.before.before.before.before.before) (swept c one) (first-pass (record { before = c.before.before.before.before.before.before.before.before.before.before.before.before.before.before.before.before.before; type_inv = record { wiring = c.shared_slice_known-3-1.given; right = c.shared_slice_known-2-1.given; left = c.shared_slice_known-1.given; } })).leaves c.sweep_firsts-firsts.ensures.both_swept.listening
 
 pub add_visits-two-requires : goal.add_visits-two-requires
 add_visits-two-requires c =
-    let one = visits-added (plan_of c.args.left.now c.args.right.now c.args.nl c.args.nr c.args.wiring.now) (c.args.block.now) c.args.limit 0 (told_none (goal.at.add_visits-two-requires c).Start).visits-are (left-visits (goal.at.add_visits-two-requires c).Start) c.add_visits-one.ensures in
-    omega (arith, one, visits-few (plan_of c.args.left.now c.args.right.now c.args.nl c.args.nr c.args.wiring.now) (c.args.block.now) (few (goal.at.add_visits-two-requires c).Start) (min 1 c.args.limit), few (goal.at.add_visits-two-requires c).Start right)
+    let one = visits-added (plan_of c.args.left.now c.args.right.now c.args.nl c.args.nr c.args.wiring.now) c.args.block.now c.args.limit 0 (told_none (goal.at.add_visits-two-requires c).Start).visits-are (left-visits (goal.at.add_visits-two-requires c).Start) c.add_visits-one.ensures in
+    omega (arith, one, visits-few (plan_of c.args.left.now c.args.right.now c.args.nl c.args.nr c.args.wiring.now) c.args.block.now (few (goal.at.add_visits-two-requires c).Start) (min 1 c.args.limit), few (goal.at.add_visits-two-requires c).Start right)
 
 pub note-requires : goal.note-requires
 note-requires c = record {
@@ -146,7 +148,7 @@ returns-then-limit-lt2 c =
       still_ready = c.sweep_firsts-firsts.ensures.still_ready;
       opened = record {
         limit_is = refl;
-        closed = λ _. open-limit (begun (goal.at.returns-then-limit-lt2 c).Start) (swept (goal.at.returns-then-limit-lt2 c).After-note-2) c.if-limit-lt2.true;
+        closed = λ _. open-limit (begun (goal.at.returns-then-limit-lt2 c).Start) (swept (goal.at.returns-then-limit-lt2 c).After-note-2 (told-one (goal.at.returns-then-limit-lt2 c).After-note)) c.if-limit-lt2.true;
         going = λ no. absurd (true≢false no);
       };
     }
@@ -164,7 +166,7 @@ returns-then-all_codewords c =
       still_ready = c.sweep_firsts-firsts.ensures.still_ready;
       opened = record {
         limit_is = refl;
-        closed = λ _. open-settled (begun (goal.at.returns-then-all_codewords c).Start) (swept (goal.at.returns-then-all_codewords c).After-note-2) (second-pass (goal.at.returns-then-all_codewords c).After-sweep_firsts-firsts) c.if-second-eq0-2.true c.if-limit-lt2.false
+        closed = λ _. open-settled (begun (goal.at.returns-then-all_codewords c).Start) (swept (goal.at.returns-then-all_codewords c).After-note-2 (told-one (goal.at.returns-then-all_codewords c).After-note)) (second-pass (goal.at.returns-then-all_codewords c).After-sweep_firsts-firsts) c.if-second-eq0-2.true c.if-limit-lt2.false
             (c.all_codewords.ensures.when_true c.if-all_codewords.true _);
         going = λ no. absurd (true≢false no);
       };
@@ -174,12 +176,12 @@ pub returns-else-all_codewords : goal.returns-else-all_codewords
 returns-else-all_codewords c =
     record {
       still_ready = c.sweep_firsts-firsts.ensures.still_ready;
-      opened = record { limit_is = refl; closed = λ no. absurd (true≢false (sym no)); going = λ _. going (goal.at.returns-else-all_codewords c).After-note-2 };
+      opened = record { limit_is = refl; closed = λ no. absurd (true≢false (sym no)); going = λ _. (going (goal.at.returns-else-all_codewords c).After-note-2 (told-one (goal.at.returns-else-all_codewords c).After-note)) };
     }
 
 pub returns-else-second-eq0-2 : goal.returns-else-second-eq0-2
 returns-else-second-eq0-2 c =
     record {
       still_ready = c.sweep_firsts-firsts.ensures.still_ready;
-      opened = record { limit_is = refl; closed = λ no. absurd (true≢false (sym no)); going = λ _. going (goal.at.returns-else-second-eq0-2 c).After-note-2 };
+      opened = record { limit_is = refl; closed = λ no. absurd (true≢false (sym no)); going = λ _. (going (goal.at.returns-else-second-eq0-2 c).After-note-2 (told-one (goal.at.returns-else-second-eq0-2 c).After-note)) };
     }
