@@ -19,7 +19,7 @@ use Rattle.radius.specs.Answer.{measures_of, margin_of, numbers_of, in_order, nu
 use Rattle.radius.specs.Ranges.{measures_by, InRange}
 use Rattle.radius.specs.declared.numbers.Numbers.{Numbers}
 use Rattle.radius.specs.declared.numbers.PlanNumbers.{PlanNumbers}
-use Rattle.radius.proofs.PlanNumbers.{numbers-known}
+use Rattle.radius.proofs.MeasuredNumbers.{numbers-known}
 use Rattle.radius.proofs.PlanRanges.{measures-plan, plan-within}
 use Rattle.radius.proofs.Uncovered.{beyond-covers}
 use Rattle.margin.specs.Input.{input_parts}

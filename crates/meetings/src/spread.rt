@@ -32,10 +32,8 @@ pub fn plan_spread(left: &[u8], right: &[u8], nl: usize, nr: usize, wiring: &[u8
 
 // The spread R of an accepted plan.
 pub fn measured_spread(left: &[u8], right: &[u8], nl: usize, nr: usize, wiring: &[u8]) -> u64
-    ghost plan: { Plan }
-    requires wiring_value { plan_of left.now right.now nl nr wiring.now ≡ plan }
-    requires wired_plan { WiredPlan plan }
-    ensures { result ≡ spread (side_of plan) }
+    requires { let plan : Plan = plan_of left.now right.now nl nr wiring.now in WiredPlan plan }
+    ensures { let plan : Plan = plan_of left.now right.now nl nr wiring.now in result ≡ spread (side_of plan) }
 {
     let dl = left[0] as usize;
     let dr = right[0] as usize;

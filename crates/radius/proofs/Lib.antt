@@ -9,5 +9,5 @@ pub mod LostSpans
 pub mod PlanRanges
 pub mod ChainWalk
 pub mod Uncovered
-pub mod PlanNumbers
+pub mod MeasuredNumbers
 pub mod Calls

@@ -18,31 +18,27 @@ use Rattle.meetings.proofs.spread.measured_spread.Goals as goal
 room : (plan : Plan) → WiredPlan plan → edge_count plan ≤ length (replicate {A = ℕ} 32768 0)
 room plan w = subst (λ (m : ℕ). edge_count plan ≤ m) (sym (length-replicate {A = ℕ} 32768 0)) (fitted-edges w.left-fits)
 
--- the arguments' plan is the one that is wired
-wired : {plan named : Plan} → plan ≡ named → WiredPlan named → WiredPlan plan
-wired is w = subst WiredPlan (sym is) w
-
 pub bounds-left-0 : goal.bounds-left-0
-bounds-left-0 g c = fitted-sheet _ (wired c.requires.0 c.requires.1).left-fits
+bounds-left-0 c = fitted-sheet _ c.requires.left-fits
 
 pub overflow_cast-dl : goal.overflow_cast-dl
-overflow_cast-dl g c = omega (arith, c.type_inv.left 0)
+overflow_cast-dl c = omega (arith, c.type_inv.left 0)
 
 pub bounds-right-0 : goal.bounds-right-0
-bounds-right-0 g c = fitted-sheet _ (wired c.requires.0 c.requires.1).right-fits
+bounds-right-0 c = fitted-sheet _ c.requires.right-fits
 
 pub overflow_cast-dr : goal.overflow_cast-dr
-overflow_cast-dr g c = omega (arith, c.type_inv.right 0)
+overflow_cast-dr c = omega (arith, c.type_inv.right 0)
 
 pub overflow_mul-nl : goal.overflow_mul-nl
 unfolding degree
-overflow_mul-nl g c = omega (arith, fitted-edges (wired c.requires.0 c.requires.1).left-fits)
+overflow_mul-nl c = omega (arith, fitted-edges c.requires.left-fits)
 
 pub note_ends-requires : goal.note_ends-requires
 unfolding degree
-note_ends-requires g c =
+note_ends-requires c =
     let plan = plan_of c.args.left.now c.args.right.now c.args.nl c.args.nr c.args.wiring.now in
-    let is_wired : WiredPlan plan = wired c.requires.0 c.requires.1 in
+    let is_wired : WiredPlan plan = c.requires in
     let fits = room plan is_wired in
     wired-notable is_wired fits fits
 
@@ -50,9 +46,9 @@ note_ends-requires g c =
 
 pub largest_unevenness-requires : goal.largest_unevenness-requires
 unfolding degree
-largest_unevenness-requires g c =
+largest_unevenness-requires c =
     let plan = plan_of c.args.left.now c.args.right.now c.args.nl c.args.nr c.args.wiring.now in
-    let is_wired : WiredPlan plan = wired c.requires.0 c.requires.1 in
+    let is_wired : WiredPlan plan = c.requires in
     let fits = room plan is_wired in
     noted-walk plan is_wired c.note_ends.ensures.noted
     (subst (λ (m : ℕ). edge_count plan ≤ m) (sym c.note_ends.auto.lefts) fits)
@@ -60,7 +56,6 @@ largest_unevenness-requires g c =
 
 pub returns : goal.returns
 unfolding degree
-returns g c =
+returns c =
     let plan = plan_of c.args.left.now c.args.right.now c.args.nl c.args.nr c.args.wiring.now in
-    walked-spread plan (wired c.requires.0 c.requires.1) c.note_ends.ensures.noted c.largest_unevenness.result c.largest_unevenness.ensures
-    ∙ ap (λ (p : Plan). spread (side_of p)) c.requires.0
+    walked-spread plan c.requires c.note_ends.ensures.noted c.largest_unevenness.result c.largest_unevenness.ensures

@@ -11,7 +11,7 @@ plan : (c : In-Passed) → PlanAccepted (plan_of c.args.left.now c.args.right.no
 plan c = plan-accepted _ _ c.check_plan-plan.ensures c.in-Passed.is
 
 pub measured_spread-requires : goal.measured_spread-requires
-measured_spread-requires c = (refl, (plan (goal.at.measured_spread-requires c).In-Passed).plan-wired)
+measured_spread-requires c = (plan (goal.at.measured_spread-requires c).In-Passed).plan-wired
 
 pub returns-in-Refused : goal.returns-in-Refused
 returns-in-Refused c = sym (spread-refused _ _ _ (plan-refused _ _ c.check_plan-plan.ensures _ c.in-Refused.is))

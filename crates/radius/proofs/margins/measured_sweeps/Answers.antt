@@ -12,7 +12,7 @@ use Rattle.radius.specs.Answer.{distance_of, measures_of}
 use Rattle.radius.specs.Margin.{Measures, sweeps_named}
 use Rattle.radius.specs.Ranges.{measures_by}
 use Rattle.radius.proofs.MarginChain.{named-one}
-use Rattle.radius.proofs.PlanNumbers.{distance_is}
+use Rattle.radius.proofs.MeasuredNumbers.{distance_is}
 use Rattle.radius.proofs.PlanRanges.{measures-plan, plan-within}
 use Rattle.radius.proofs.margins.measured_sweeps.Goals as goal
 use Rattle.radius.proofs.margins.measured_sweeps.Goals.{After-measured_distance-distance}

@@ -8,7 +8,7 @@ use Rattle.bits.specs.Window.{at}
 use Rattle.inner_code.specs.Reduction.{fewest_ones}
 use Rattle.inner_code.specs.Sheet.{row_of}
 use Rattle.inner_code.proofs.Listings.{words-most, lists-fits}
-use Rattle.radius.proofs.PlanNumbers.{listed-distance}
+use Rattle.radius.proofs.MeasuredNumbers.{listed-distance}
 use Rattle.radius.proofs.numbers.measured_distance.Goals as goal
 
 pub slice_bounds-distance-end : goal.slice_bounds-distance-end

@@ -6,7 +6,7 @@ use Rattle.inner_code.proofs.SheetChecks.{Sound}
 use Rattle.wiring.specs.Plan.{Plan, plan_of, sheet_of, left, right}
 use Rattle.wiring.specs.declared.side.SideName.{SideName}
 use Rattle.wiring.proofs.Plans.{plan-sound}
-use Rattle.radius.proofs.PlanNumbers.{distance_is}
+use Rattle.radius.proofs.MeasuredNumbers.{distance_is}
 use Rattle.radius.proofs.numbers.measured_numbers.Goals as goal
 use Rattle.radius.proofs.numbers.measured_numbers.Goals.{Start}
 

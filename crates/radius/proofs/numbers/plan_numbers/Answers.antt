@@ -3,7 +3,7 @@ use mathlib.Core.Path.{sym}
 use borrow.Author.Rules.{rules}
 use Rattle.wiring.specs.Plan.{Plan, plan_of}
 use Rattle.wiring.proofs.Plans.{PlanAccepted, plan-accepted, plan-refused}
-use Rattle.radius.proofs.PlanNumbers.{numbers-refused, numbers-answered}
+use Rattle.radius.proofs.MeasuredNumbers.{numbers-refused, numbers-answered}
 use Rattle.radius.proofs.numbers.plan_numbers.Goals as goal
 use Rattle.radius.proofs.numbers.plan_numbers.Goals.{After-check_plan-plan, In-Passed}
 
