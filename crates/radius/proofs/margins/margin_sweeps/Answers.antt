@@ -11,16 +11,11 @@ use Rattle.wiring.proofs.Permutation.{fitted-edges}
 use Rattle.wiring.proofs.Plans.{PlanAccepted, plan-accepted, plan-refused, accepted-edges}
 use Rattle.radius.proofs.Answers.{margin-plan, margin-over, margin-uncovered, margin-covered}
 use Rattle.radius.proofs.margins.margin_sweeps.Goals as goal
-use Rattle.radius.proofs.margins.margin_sweeps.Goals.{After-check_plan-plan, After-struct_known-1, Else-edges-flips}
+use Rattle.radius.proofs.margins.margin_sweeps.Goals.{After-struct_known-1, Else-edges-flips}
 
 -- ---- past the check: the call, the plan that it is about, and what is known of it
 
-abbrev plan_in : After-check_plan-plan → Plan
-plan_in c =
-    let args = c.args in
-    plan_of args.left.now args.right.now args.nl args.nr args.wiring.now
-
-plan : (c : After-struct_known-1) → PlanAccepted (plan_in (record { before = c.before.before.before.before.before; type_inv = record { wiring = c.shared_slice_known-3-1.given; right = c.shared_slice_known-2-1.given; left = c.shared_slice_known-1.given; } })) c.check_plan-plan.result
+plan : (c : After-struct_known-1) → PlanAccepted (plan_of c.args.left.now c.args.right.now c.args.nl c.args.nr c.args.wiring.now) c.check_plan-plan.result
 plan c = plan-accepted _ _ c.check_plan-plan.ensures c.in-Passed.is
 
 pub overflow_mul-edges : goal.overflow_mul-edges
@@ -29,7 +24,7 @@ overflow_mul-edges c = omega (arith, accepted-edges (plan c), fitted-edges (plan
 pub returns-then-edges-flips : goal.returns-then-edges-flips
 returns-then-edges-flips c = sym (margin-over _ _ (plan (goal.at.returns-then-edges-flips c).After-struct_known-1).plan-done (rw (← accepted-edges (plan (goal.at.returns-then-edges-flips c).After-struct_known-1)) c.if-edges-flips.true))
 
-within : (c : Else-edges-flips) → c.args.flips ≤ edge_count (plan_in (record { before = c.before.before.before.before.before.before; type_inv = record { wiring = c.shared_slice_known-3-1.given; right = c.shared_slice_known-2-1.given; left = c.shared_slice_known-1.given; } }))
+within : (c : Else-edges-flips) → c.args.flips ≤ edge_count (plan_of c.args.left.now c.args.right.now c.args.nl c.args.nr c.args.wiring.now)
 within c = rw (← accepted-edges (plan (record { before = c.before.before; type_inv = record { wiring = c.shared_slice_known-3-1.given; right = c.shared_slice_known-2-1.given; left = c.shared_slice_known-1.given; } }))) c.if-edges-flips.false
 
 pub measured_sweeps-sweeps-requires : goal.measured_sweeps-sweeps-requires
