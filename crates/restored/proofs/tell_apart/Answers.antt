@@ -8,26 +8,12 @@ use Rattle.restored.specs.Sent.{sent_block}
 use Rattle.restored.proofs.SquarePlan.{zero_block, square-edges, square-margin, sent-codeword, zero-codeword, zero-another}
 use Rattle.restored.proofs.SquarePlan.{received-block, received-few}
 use borrow.Author.Rules.{rules}
-use Rattle.restored.proofs.tell_apart.Statement.{statement}
-use Rattle.restored.proofs.tell_apart.Tie as tie
+use Rattle.restored.proofs.tell_apart.Goals as goal
 
-slice-aggregate-differing : tie.Need-slice-aggregate-differing
-slice-aggregate-differing c = search rules
-
-differing-requires : tie.Need-differing-requires
-differing-requires c κs = search rules
-
-expect-requires : tie.Need-expect-requires
-expect-requires c κs =
-    let r = c.before.before.before.requires in
+pub expect-requires : goal.expect-requires
+expect-requires c =
+    let r = c.requires in
     let far =
     demand3-alone square_plan sent_block _ zero_block 3 2 sent-codeword (received-block r) (received-few r) square-margin zero-codeword
     zero-another in
     lt-ltb 3 c.differing.result (omega (arith, c.differing.ensures, rw square-edges at far))
-
-returns : tie.Need-returns
-returns c = search rules
-
-pub tell-apart-spec : {M : Type 1} → statement M
-tell-apart-spec =
-    tie.close (tie.spec slice-aggregate-differing differing-requires expect-requires returns)

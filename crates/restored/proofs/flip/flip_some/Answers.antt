@@ -1,0 +1,26 @@
+-- `restored::flip::flip_some` meets its contract: each turn flips at most one bit, and only while fewer than `most` are flipped.
+use Prim.Native.Nat.{◌≤◌, ◌-◌}
+use mathlib.Core.Path.{◌≡◌}
+use mathlib.Core.Logic.{⊎_elim}
+use native.Mathlib.Omega.{arith}
+use borrow.Author.Rules.{rules}
+use lib.ListN.{length}
+use Rattle.restored.specs.Flip.{Flipped}
+use Rattle.restored.proofs.Flips.{flipped-none, flipped-then, flipped-most}
+use Rattle.restored.proofs.flip.flip_some.Goals as goal
+use Rattle.restored.proofs.flip.flip_some.Goals.{else-flipped-most, then-flipped-most}
+
+pub loop-i-init : goal.loop-i-init
+loop-i-init c = (search rules, search rules, search rules, flipped-none _ _)
+
+pub loop-i-preserved : goal.loop-i-preserved
+loop-i-preserved c =
+    let so_far = c.loop-i.invariant.3 in
+    (elim c.if-flipped-most.branch [
+          | then-flipped-most w ↦ rw (w.6, w.7)
+    (search rules, omega (arith, w.3.ensures.0), omega (arith, w.3.kept.1.0), flipped-then so_far w.3.ensures.1)
+          | else-flipped-most w ↦ rw (w.1, w.2) (search rules, search rules, search rules, so_far)
+        ])
+
+pub returns : goal.returns
+returns c = flipped-most c.loop-i.invariant.1 c.loop-i.invariant.3
