@@ -13,7 +13,7 @@ use native.Mathlib.Nat.{div-add-mod', div-lt_iff_lt-mul, mod-lt}
 use native.Mathlib.Omega.{arith}
 use lib.Bits.{bit_xor}
 use lib.ListN.{length}
-use Rattle.bits.specs.Window.{at, turned}
+use Rattle.bits.specs.Window.{turned}
 use Rattle.inner_code.specs.Reply.{done}
 use Rattle.wiring.specs.Plan.{Plan, Side, edge_count, sheet_of, count_of, side_of, side_bit, left, right, other}
 use Rattle.wiring.specs.Wiring.{plan_check}

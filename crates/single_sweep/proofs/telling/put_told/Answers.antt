@@ -3,55 +3,71 @@ use Prim.Native.Nat.{ℕ, ◌+◌, ◌-◌, ◌*◌, ◌≤◌, ◌<◌}
 use mathlib.Core.List.{List, []}
 use mathlib.Core.Path.{◌≡◌, refl, ap, ◌∙◌}
 use native.Mathlib.Omega.{arith}
-use borrow.Author.Rules.{rules}
 use lib.Arith.{digits_lt}
 use lib.ListN.{length}
 use lib.Pow.{pow_pos}
 use Rattle.bits.specs.Window.{turned}
 use Rattle.inner_code.specs.Reply.{done}
 use Rattle.inner_code.specs.Sheet.{degree}
-use Rattle.wiring.specs.Plan.{Plan, plan_of, sheet_of, side_of, side_bit, edge_count, other}
+use Rattle.wiring.specs.Plan.{Plan, plan_of, sheet_of, count_of, side_bit, edge_count, other}
 use Rattle.wiring.specs.Wiring.{plan_check}
+use Rattle.wiring.specs.Places.{Across}
 use Rattle.wiring.specs.declared.side.SideCode.{SideCode}
-use Rattle.unsatisfied.specs.Count.{unsatisfied_at}
-use Rattle.words.specs.Words.{pattern_put}
-use Rattle.words.proofs.Patterns.{Rest, rest-sized, rest-none, rest-high, rest_more, length-pattern}
+use Rattle.wiring.specs.declared.side.SideName.{SideName}
+use Rattle.words.proofs.Patterns.{rest-sized, rest-none, rest-high, rest_more, length-pattern}
 use Rattle.wiring.proofs.Plans.{plan-fits, plan-whole, plan-few, plan-entries}
 use Rattle.single_sweep.specs.Telling.{across_from}
 use Rattle.single_sweep.proofs.TurnedBits.{code-named, across-meets}
 use Rattle.single_sweep.proofs.Visits.{side-few}
 use Rattle.single_sweep.proofs.telling.put_told.Goals as goal
-use Rattle.single_sweep.proofs.telling.put_told.Goals.{After-code_of-here, After-highest-high, After-place_across-place, After-turn_told-one, Start}
+use Rattle.single_sweep.proofs.telling.put_told.Goals.{After-code_of-here, After-highest-high}
 
-accepted : (c : Start) → plan_check (plan_of c.args.left.now c.args.right.now c.args.nl c.args.nr c.args.wiring.now) ≡ done []
-accepted c = c.requires.plan_value
+module _ (plan : Plan) (accepted : plan_check plan ≡ done []) (side : SideName) {v : ℕ} (v_below : v < count_of plan side) where
+  abbrev digits : ℕ
+  digits = degree (sheet_of plan side)
+
+  -- an entry of vertex v
+  entry_lt : (j : ℕ) → j < digits → v * digits + j < edge_count plan
+  entry_lt j l = rw (plan-whole plan accepted side).entries at (digits_lt v_below l)
+
+  -- the first one
+  base_few : {d : ℕ} → d ≡ digits → v * d < 32768
+  base_few is = rw is (omega (arith, entry_lt 0 (omega (arith, (plan-fits plan accepted side).d-low)), plan-few plan accepted))
+
+  -- the entry of a digit
+  module _ {d high : ℕ} (is : d ≡ digits) (within : high < digits) where
+    entry_few : (v * d + (d - 1 - high) < edge_count plan) × (v * d + (d - 1 - high) < 32768)
+    entry_few =
+        let below = entry_lt (digits - 1 - high) (omega (arith, within)) in
+        rw is (below, omega (arith, below, plan-few plan accepted))
+
+    -- the entry of the other side that has the bit
+    placed : {places : List ℕ} {place : ℕ} → Across plan.wiring side places
+        → place ≡ across_from side plan.wiring places (v * d + (d - 1 - high))
+        → (place < edge_count plan)
+        × (side_bit (other side) plan.wiring place ≡ side_bit side plan.wiring (v * digits + (digits - 1 - high)))
+    placed across e =
+        rw (e, is) (across-meets plan accepted side across (v * digits + (digits - 1 - high)) (rw is at entry_few.0))
+
+abbrev plan_in : After-code_of-here → Plan
+plan_in c = plan_of c.args.left.now c.args.right.now c.args.nl c.args.nr c.args.wiring.now
 
 -- the degree of the side, as its check has told it
-degree-is : (c : After-code_of-here) → c.code_of-here.result.d ≡ degree (sheet_of (plan_of c.args.left.now c.args.right.now c.args.nl c.args.nr c.args.wiring.now) c.args.side)
+degree-is : (c : After-code_of-here) → c.code_of-here.result.d ≡ degree (sheet_of (plan_in c) c.args.side)
 degree-is c =
-    ap (λ (x : SideCode). x.d) (c.code_of-here.ensures ∙ code-named (plan_of c.args.left.now c.args.right.now c.args.nl c.args.nr c.args.wiring.now) c.requires.left_code_value c.requires.right_code_value c.args.side)
-
--- an entry of vertex v
-entry_lt : (c : Start) (j : ℕ) → j < degree (sheet_of (plan_of c.args.left.now c.args.right.now c.args.nl c.args.nr c.args.wiring.now) c.args.side)
-    → c.args.v * degree (sheet_of (plan_of c.args.left.now c.args.right.now c.args.nl c.args.nr c.args.wiring.now) c.args.side) + j < edge_count (plan_of c.args.left.now c.args.right.now c.args.nl c.args.nr c.args.wiring.now)
-entry_lt c j l = rw (plan-whole (plan_of c.args.left.now c.args.right.now c.args.nl c.args.nr c.args.wiring.now) (accepted c) c.args.side).entries at (digits_lt c.requires.v_bound l)
+    ap (λ (x : SideCode). x.d)
+    (c.code_of-here.ensures ∙ code-named (plan_in c) c.requires.left_code_value c.requires.right_code_value c.args.side)
 
 pub overflow_mul-base : goal.overflow_mul-base
-overflow_mul-base c =
-    let fits = plan-fits (plan_of c.args.left.now c.args.right.now c.args.nl c.args.nr c.args.wiring.now) (accepted (goal.at.overflow_mul-base c).Start) c.args.side in
-    rw (degree-is c) (omega (arith, entry_lt (goal.at.overflow_mul-base c).Start 0 (omega (arith, fits.d-low)), plan-few (plan_of c.args.left.now c.args.right.now c.args.nl c.args.nr c.args.wiring.now) (accepted (goal.at.overflow_mul-base c).Start)))
+overflow_mul-base c = omega (arith, base_few _ c.requires.plan_value c.args.side c.requires.v_bound (degree-is c))
 
 pub loop-rest-init : goal.loop-rest-init
 loop-rest-init c = (record { low = c.requires.pattern_bound; putting = refl }, refl)
 
 -- the highest one is within the word
-within : (c : After-highest-high) → c.highest-high.result < (degree (sheet_of (plan_of c.args.left.now c.args.right.now c.args.nl c.args.nr c.args.wiring.now) c.args.side))
+within : (c : After-highest-high)
+    → c.highest-high.result < degree (sheet_of (plan_of c.args.left.now c.args.right.now c.args.nl c.args.nr c.args.wiring.now) c.args.side)
 within c = rest-high c.loop-rest.invariant.0 _ c.highest-high.ensures.power_low c.highest-high.ensures.power_high
-
-entry-few : (c : After-highest-high) → ((c.args.v * (degree (sheet_of (plan_of c.args.left.now c.args.right.now c.args.nl c.args.nr c.args.wiring.now) c.args.side)) + ((degree (sheet_of (plan_of c.args.left.now c.args.right.now c.args.nl c.args.nr c.args.wiring.now) c.args.side)) - 1 - c.highest-high.result)) < edge_count (plan_of c.args.left.now c.args.right.now c.args.nl c.args.nr c.args.wiring.now)) × ((c.args.v * (degree (sheet_of (plan_of c.args.left.now c.args.right.now c.args.nl c.args.nr c.args.wiring.now) c.args.side)) + ((degree (sheet_of (plan_of c.args.left.now c.args.right.now c.args.nl c.args.nr c.args.wiring.now) c.args.side)) - 1 - c.highest-high.result)) < 32768)
-entry-few c =
-    let below = entry_lt c.before.before.before.before.before.before.before.before.before.before ((degree (sheet_of (plan_of c.args.left.now c.args.right.now c.args.nl c.args.nr c.args.wiring.now) c.args.side)) - 1 - c.highest-high.result) (omega (arith, within c)) in
-    (below, omega (arith, below, plan-few (plan_of c.args.left.now c.args.right.now c.args.nl c.args.nr c.args.wiring.now) (accepted c.before.before.before.before.before.before.before.before.before.before)))
 
 pub overflow_sub-d : goal.overflow_sub-d
 overflow_sub-d c = omega (arith, degree-is (goal.at.overflow_sub-d c).After-code_of-here, within c)
@@ -60,77 +76,54 @@ pub overflow_sub-d-in-loop-rest : goal.overflow_sub-d-in-loop-rest
 overflow_sub-d-in-loop-rest c = omega (arith, degree-is (goal.at.overflow_sub-d-in-loop-rest c).After-code_of-here, within c)
 
 pub overflow_add-base : goal.overflow_add-base
-overflow_add-base c = rw (degree-is (goal.at.overflow_add-base c).After-code_of-here) (omega (arith, (entry-few c).1))
+overflow_add-base c =
+    let is = degree-is (goal.at.overflow_add-base c).After-code_of-here in
+    omega (arith, entry_few _ c.requires.plan_value c.args.side c.requires.v_bound is (within c))
 
 pub place_across-place-requires : goal.place_across-place-requires
 place_across-place-requires c =
-    let both = (rw (degree-is (goal.at.place_across-place-requires c).After-code_of-here)
-    ((entry-few c).1, λ is-left. omega (arith, (entry-few c).0, plan-entries (plan_of c.args.left.now c.args.right.now c.args.nl c.args.nr c.args.wiring.now) (accepted (goal.at.place_across-place-requires c).Start), (c.requires.across.noted is-left).sized))) in record { i_bound = both.0; i_in_bounds = both.1 }
-
--- the entry of the other side that has the bit
-placed : (c : After-place_across-place)
-    → (c.place_across-place.result < edge_count (plan_of c.args.left.now c.args.right.now c.args.nl c.args.nr c.args.wiring.now))
-    × (side_bit (other c.args.side) c.args.wiring.now c.place_across-place.result
-    ≡ side_bit c.args.side c.args.wiring.now ((c.args.v * (degree (sheet_of (plan_of c.args.left.now c.args.right.now c.args.nl c.args.nr c.args.wiring.now) c.args.side)) + ((degree (sheet_of (plan_of c.args.left.now c.args.right.now c.args.nl c.args.nr c.args.wiring.now) c.args.side)) - 1 - c.highest-high.result))))
-placed c =
-    let is : c.place_across-place.result ≡ across_from c.args.side c.args.wiring.now c.args.places.now ((c.args.v * (degree (sheet_of (plan_of c.args.left.now c.args.right.now c.args.nl c.args.nr c.args.wiring.now) c.args.side)) + ((degree (sheet_of (plan_of c.args.left.now c.args.right.now c.args.nl c.args.nr c.args.wiring.now) c.args.side)) - 1 - c.highest-high.result))) =
-    rw (degree-is (record { before = c.before.before.before.before.before; type_inv = record { block = c.slice_known-1.given; places = c.shared_slice_known-4-1.given; wiring = c.shared_slice_known-3-1.given; right = c.shared_slice_known-2-1.given; left = c.shared_slice_known-1.given; } })) at c.place_across-place.ensures in
-    rw is (across-meets (plan_of c.args.left.now c.args.right.now c.args.nl c.args.nr c.args.wiring.now) (accepted c.before.before.before.before.before.before.before.before.before.before.before) c.args.side c.requires.across ((c.args.v * (degree (sheet_of (plan_of c.args.left.now c.args.right.now c.args.nl c.args.nr c.args.wiring.now) c.args.side)) + ((degree (sheet_of (plan_of c.args.left.now c.args.right.now c.args.nl c.args.nr c.args.wiring.now) c.args.side)) - 1 - c.highest-high.result))) (entry-few (record { before = c.before.before; type_inv = record { places = c.shared_slice_known-4-1.given; wiring = c.shared_slice_known-3-1.given; right = c.shared_slice_known-2-1.given; left = c.shared_slice_known-1.given; } })).0)
+    let is = degree-is (goal.at.place_across-place-requires c).After-code_of-here in
+    let few = entry_few _ c.requires.plan_value c.args.side c.requires.v_bound is (within c) in
+    record {
+      i_bound = few.1;
+      i_in_bounds = λ is-left. omega (arith, few.0, plan-entries _ c.requires.plan_value, (c.requires.across.noted is-left).sized);
+    }
 
 -- the block has room for all bits
-room : (c : After-highest-high) → edge_count (plan_of c.args.left.now c.args.right.now c.args.nl c.args.nr c.args.wiring.now) ≤ length c.loop-rest.block * 8
-room c =
-    omega (
-      arith,
-      rest-sized c.loop-rest.invariant.0,
-      length-pattern (side_bit c.args.side c.args.wiring.now) ((degree (sheet_of (plan_of c.args.left.now c.args.right.now c.args.nl c.args.nr c.args.wiring.now) c.args.side))) (c.args.v * (degree (sheet_of (plan_of c.args.left.now c.args.right.now c.args.nl c.args.nr c.args.wiring.now) c.args.side))) c.args.pattern
-          ((degree (sheet_of (plan_of c.args.left.now c.args.right.now c.args.nl c.args.nr c.args.wiring.now) c.args.side))) c.args.block.now,
-      c.requires.plan_in_bounds,
-    )
+room : (c : After-highest-high)
+    → edge_count (plan_of c.args.left.now c.args.right.now c.args.nl c.args.nr c.args.wiring.now) ≤ length c.loop-rest.block * 8
+room c = omega (arith, rest-sized c.loop-rest.invariant.0 ∙ length-pattern _ _ _ _ _ _, c.requires.plan_in_bounds)
 
 pub turn_told-one-requires : goal.turn_told-one-requires
 turn_told-one-requires c =
+    let at = goal.at.turn_told-one-requires c in
     record {
-      plan_value = accepted (goal.at.turn_told-one-requires c).Start;
+      plan_value = c.requires.plan_value;
       left_code_value = c.requires.left_code_value;
       right_code_value = c.requires.right_code_value;
-      place_bound = (placed (goal.at.turn_told-one-requires c).After-place_across-place).0;
-      plan_in_bounds = room (goal.at.turn_told-one-requires c).After-highest-high;
+      place_bound = (placed _ c.requires.plan_value c.args.side c.requires.v_bound (degree-is at.After-code_of-here) (within at.After-highest-high)
+          c.requires.across c.place_across-place.ensures).0;
+      plan_in_bounds = room at.After-highest-high;
     }
-
--- how many vertices of the other side are unsatisfied
-abbrev missing : After-highest-high → List ℕ → ℕ
-missing c block = unsatisfied_at (side_of (plan_of c.args.left.now c.args.right.now c.args.nl c.args.nr c.args.wiring.now) (other c.args.side)) block
-
-told-one : (c : After-turn_told-one)
-    → (c.turn_told-one.result + missing (record { before = c.before.before.before.before.before; type_inv = record { places = c.shared_slice_known-4-1.given; wiring = c.shared_slice_known-3-1.given; right = c.shared_slice_known-2-1.given; left = c.shared_slice_known-1.given; } }) c.loop-rest.block ≡ 1 + missing (record { before = c.before.before.before.before.before; type_inv = record { places = c.shared_slice_known-4-1.given; wiring = c.shared_slice_known-3-1.given; right = c.shared_slice_known-2-1.given; left = c.shared_slice_known-1.given; } }) (c.turn_told-one.new.block))
-    × (c.turn_told-one.new.block
-    ≡ turned c.loop-rest.block (side_bit c.args.side c.args.wiring.now ((c.args.v * (degree (sheet_of (plan_of c.args.left.now c.args.right.now c.args.nl c.args.nr c.args.wiring.now) c.args.side)) + ((degree (sheet_of (plan_of c.args.left.now c.args.right.now c.args.nl c.args.nr c.args.wiring.now) c.args.side)) - 1 - c.highest-high.result)))) 1)
-told-one c =
-    let told = rw c.other_side.ensures at c.turn_told-one.ensures in
-    (told.block_value, told.block_after ∙ ap (λ (e : ℕ). turned c.loop-rest.block e 1) (placed (record { before = c.before.before.before.before; type_inv = record { places = c.shared_slice_known-4-1.given; wiring = c.shared_slice_known-3-1.given; right = c.shared_slice_known-2-1.given; left = c.shared_slice_known-1.given; } })).1)
-
--- the numbers are in range
-few : (c : After-highest-high) (block : List ℕ) → missing c block ≤ 2048
-few c block = side-few (plan_of c.args.left.now c.args.right.now c.args.nl c.args.nr c.args.wiring.now) (accepted c.before.before.before.before.before.before.before.before.before.before) (other c.args.side) block
 
 pub overflow_add-told : goal.overflow_add-told
 overflow_add-told c =
+    let few = side-few _ c.requires.plan_value (other c.args.side) in
     omega (
       arith,
       c.loop-rest.invariant.1,
-      (told-one (goal.at.overflow_add-told c).After-turn_told-one).0,
-      few (goal.at.overflow_add-told c).After-highest-high c.loop-rest.block,
-      few (goal.at.overflow_add-told c).After-highest-high (c.turn_told-one.new.block),
+      rw c.other_side.ensures at c.turn_told-one.ensures.block_value,
+      few c.loop-rest.block,
+      few c.turn_told-one.new.block,
     )
 
 pub overflow_sub-told : goal.overflow_sub-told
 overflow_sub-told c =
-    omega (arith, c.loop-rest.invariant.1, few (goal.at.overflow_sub-told c).After-highest-high c.args.block.now)
+    omega (arith, c.loop-rest.invariant.1, side-few _ c.requires.plan_value (other c.args.side) c.args.block.now)
 
 pub power-rest-requires : goal.power-rest-requires
 power-rest-requires c =
-    omega (arith, within (goal.at.power-rest-requires c).After-highest-high, (plan-fits (plan_of c.args.left.now c.args.right.now c.args.nl c.args.nr c.args.wiring.now) (accepted (goal.at.power-rest-requires c).Start) c.args.side).d-high)
+    omega (arith, within (goal.at.power-rest-requires c).After-highest-high, (plan-fits _ c.requires.plan_value c.args.side).d-high)
 
 pub overflow_sub-rest : goal.overflow_sub-rest
 overflow_sub-rest c = omega (arith, c.power-rest.ensures, c.highest-high.ensures.power_low)
@@ -142,19 +135,15 @@ loop-rest-smaller c =
 
 pub loop-rest-preserved : goal.loop-rest-preserved
 loop-rest-preserved c =
-    (
-      rest_more c.loop-rest.invariant.0 _ c.highest-high.ensures.power_low c.highest-high.ensures.power_high refl c.power-rest.ensures (told-one (goal.at.loop-rest-preserved c).After-turn_told-one).1,
-      omega (arith, c.loop-rest.invariant.1, (told-one (goal.at.loop-rest-preserved c).After-turn_told-one).0, few (goal.at.loop-rest-preserved c).After-highest-high c.args.block.now),
+    let at = goal.at.loop-rest-preserved c in
+    let told = rw c.other_side.ensures at c.turn_told-one.ensures.block_value in
+    let there = rw c.other_side.ensures at c.turn_told-one.ensures.block_after in
+    let meets = placed _ c.requires.plan_value c.args.side c.requires.v_bound (degree-is at.After-code_of-here) (within at.After-highest-high)
+    c.requires.across c.place_across-place.ensures in (
+      rest_more c.loop-rest.invariant.0 _ c.highest-high.ensures.power_low c.highest-high.ensures.power_high refl c.power-rest.ensures
+          (there ∙ ap (λ (e : ℕ). turned c.loop-rest.block e 1) meets.1),
+      omega (arith, c.loop-rest.invariant.1, told, side-few _ c.requires.plan_value (other c.args.side) c.args.block.now),
     )
 
--- look: no goal for `same-length`
--- same_length : tie.Need-same-length invariant-loop decreases-loop
--- same_length c = rest-sized c.loop-rest.invariant.0 ∙ length-pattern _ _ _ _ _ _
-
 pub returns : goal.returns
-returns c =
-    let block-is = rest-none c.loop-rest.invariant.0 (omega arith) in
-    record {
-      block_value = c.loop-rest.invariant.1;
-      block_after = block-is;
-    }
+returns c = record { block_value = c.loop-rest.invariant.1; block_after = rest-none c.loop-rest.invariant.0 (omega arith) }

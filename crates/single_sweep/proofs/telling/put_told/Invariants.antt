@@ -1,24 +1,10 @@
-use Prim.Native.Nat.{ℕ, ◌+◌, ◌-◌, ◌*◌, ◌≤◌, ◌<◌}
-use mathlib.Core.List.{List, []}
-use mathlib.Core.Path.{◌≡◌, refl, ap, ◌∙◌}
-use native.Mathlib.Omega.{arith}
-use borrow.Author.Rules.{rules}
-use lib.Arith.{digits_lt}
-use lib.ListN.{length}
-use lib.Pow.{pow_pos}
-use Rattle.bits.specs.Window.{turned}
-use Rattle.inner_code.specs.Reply.{done}
+use Prim.Native.Nat.{◌+◌, ◌*◌}
+use mathlib.Core.Path.{◌≡◌}
 use Rattle.inner_code.specs.Sheet.{degree}
-use Rattle.wiring.specs.Plan.{Plan, plan_of, sheet_of, side_of, side_bit, edge_count, other}
-use Rattle.wiring.specs.Wiring.{plan_check}
-use Rattle.wiring.specs.declared.side.SideCode.{SideCode}
+use Rattle.wiring.specs.Plan.{Plan, plan_of, sheet_of, side_of, side_bit, other}
 use Rattle.unsatisfied.specs.Count.{unsatisfied_at}
 use Rattle.words.specs.Words.{pattern_put}
-use Rattle.words.proofs.Patterns.{Rest, rest-sized, rest-none, rest-high, rest_more, length-pattern}
-use Rattle.wiring.proofs.Plans.{plan-fits, plan-whole, plan-few, plan-entries}
-use Rattle.single_sweep.specs.Telling.{across_from}
-use Rattle.single_sweep.proofs.TurnedBits.{code-named, across-meets}
-use Rattle.single_sweep.proofs.Visits.{side-few}
+use Rattle.words.proofs.Patterns.{Rest}
 use Rattle.single_sweep.proofs.telling.put_told.Given as goal
 
 abbrev pub invariant-loop-rest : goal.invariant-loop-rest
