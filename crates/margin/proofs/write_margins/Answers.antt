@@ -10,38 +10,28 @@ use Rattle.margin.specs.Output.{plan_part}
 use Rattle.margin.proofs.MarginInputs.{parts_within}
 use Rattle.margin.proofs.Outputs.{first-is}
 use Rattle.margin.proofs.write_margins.Goals as goal
-use Rattle.margin.proofs.write_margins.Goals.{After-plan_numbers, After-split_input-parts}
-
-within : (c : After-split_input-parts)
-    → let parts = c.split_input-parts.result in
-    let input = c.args.input.now in
-    (parts.left ≤ parts.right) × ((parts.right ≤ length input) × (parts.wiring ≤ length input))
-within c = parts_within _ _ c.split_input-parts.ensures
 
 pub slice_bounds-plan_numbers-end : goal.slice_bounds-plan_numbers-end
-slice_bounds-plan_numbers-end c = sym (length-take-le _ _ (omega (arith, within c)))
+slice_bounds-plan_numbers-end g c = sym (length-take-le _ _ (omega (arith, parts_within _ _ c.split_input-parts.ensures)))
 
 pub slice_bounds-plan_numbers-count : goal.slice_bounds-plan_numbers-count
-slice_bounds-plan_numbers-count c = omega (arith, within c)
+slice_bounds-plan_numbers-count g c = omega (arith, parts_within _ _ c.split_input-parts.ensures)
 
 pub slice_bounds-plan_numbers-start : goal.slice_bounds-plan_numbers-start
-slice_bounds-plan_numbers-start c = omega (arith, within c)
+slice_bounds-plan_numbers-start g c = omega (arith, parts_within _ _ c.split_input-parts.ensures)
 
 pub slice_bounds-plan_numbers-end-2 : goal.slice_bounds-plan_numbers-end-2
-slice_bounds-plan_numbers-end-2 c = omega (arith, within c)
+slice_bounds-plan_numbers-end-2 g c = omega (arith, parts_within _ _ c.split_input-parts.ensures)
 
 pub slice_bounds-plan_numbers-count-2 : goal.slice_bounds-plan_numbers-count-2
-slice_bounds-plan_numbers-count-2 c = omega (arith, within (goal.at.slice_bounds-plan_numbers-count-2 c).After-split_input-parts)
+slice_bounds-plan_numbers-count-2 g c = omega (arith, parts_within _ _ c.split_input-parts.ensures)
 
 pub slice_bounds-plan_numbers-start-2 : goal.slice_bounds-plan_numbers-start-2
-slice_bounds-plan_numbers-start-2 c = omega (arith, within (goal.at.slice_bounds-plan_numbers-start-2 c).After-split_input-parts)
+slice_bounds-plan_numbers-start-2 g c = omega (arith, parts_within _ _ c.split_input-parts.ensures)
 
 -- the parts are those of the input, so the plan's numbers are the input's
-answered : (c : After-plan_numbers) → numbers_reply c.plan_numbers.result ≡ numbers_answer (plan_part c.args.input.now)
-answered c = c.plan_numbers.ensures ∙ first-is _ _ c.split_input-parts.ensures
-
 pub write_refusal-requires : goal.write_refusal-requires
-write_refusal-requires c = sym (ap numbers_reply c.in-Refused.is) ∙ answered (goal.at.write_refusal-requires c).After-plan_numbers
+write_refusal-requires g c = sym (ap numbers_reply c.in-Refused.is) ∙ c.plan_numbers.ensures ∙ first-is _ _ c.split_input-parts.ensures
 
 pub write_plan-requires : goal.write_plan-requires
-write_plan-requires c = sym (ap numbers_reply c.in-Plan.is) ∙ answered (goal.at.write_plan-requires c).After-plan_numbers
+write_plan-requires g c = sym (ap numbers_reply c.in-Plan.is) ∙ c.plan_numbers.ensures ∙ first-is _ _ c.split_input-parts.ensures

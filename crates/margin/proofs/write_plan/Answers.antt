@@ -9,22 +9,17 @@ use Rattle.radius.specs.Answer.{measures_of}
 use Rattle.margin.specs.Output.{plan_part}
 use Rattle.margin.proofs.Outputs.{numbers-within, line-covered, line-sweeps, last-is}
 use Rattle.margin.proofs.write_plan.Goals as goal
-use Rattle.margin.proofs.write_plan.Goals.{At-loop-flips}
-
--- the loop's end is the first F that is not covered
-ends : (c : At-loop-flips) → c.first_uncovered-beyond.result ≡ beyond (measures_of (plan_part c.args.input.now))
-ends c = last-is _ _ c.requires _ c.first_uncovered-beyond.ensures
 
 pub first_uncovered-beyond-requires : goal.first_uncovered-beyond-requires
-first_uncovered-beyond-requires c = numbers-within _ _ c.requires
+first_uncovered-beyond-requires g c = numbers-within _ _ c.requires
 
 pub sweeps_named-sweeps-requires : goal.sweeps_named-sweeps-requires
-sweeps_named-sweeps-requires c = numbers-within _ _ c.requires
+sweeps_named-sweeps-requires g c = numbers-within _ _ c.requires
 
 pub write_line-requires : goal.write_line-requires
-write_line-requires c =
+write_line-requires g c =
     let sweeps = line-sweeps _ _ c.requires _ _ c.sweeps_named-sweeps.ensures in
-    (sweeps, rw sweeps (line-covered _ _ (omega (arith, ends (goal.at.write_line-requires c).At-loop-flips))))
+    (sweeps, rw sweeps (line-covered _ _ (omega (arith, last-is _ _ c.requires _ c.first_uncovered-beyond.ensures))))
 
 pub write_beyond-requires : goal.write_beyond-requires
-write_beyond-requires c = omega (arith, ends (goal.at.write_beyond-requires c).At-loop-flips)
+write_beyond-requires g c = omega (arith, last-is _ _ c.requires _ c.first_uncovered-beyond.ensures)

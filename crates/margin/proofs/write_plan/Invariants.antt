@@ -9,7 +9,7 @@ use Rattle.margin.proofs.Outputs.{numbers-within, line-covered, line-sweeps, las
 use Rattle.margin.proofs.write_plan.Given as goal
 
 abbrev pub invariant-loop-flips : goal.invariant-loop-flips
-invariant-loop-flips l = l.flips ≤ l.beyond
+invariant-loop-flips g l = l.flips ≤ l.beyond
 
 abbrev pub decreases-loop-flips : goal.decreases-loop-flips
-decreases-loop-flips l = l.beyond - l.flips
+decreases-loop-flips g l = l.beyond - l.flips

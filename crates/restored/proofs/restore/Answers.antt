@@ -23,7 +23,7 @@ promised c = decode-restored c.requires zero_block refl 4096 (omega arith) (omeg
 count-is : (c : After-sweeps-count) → c.sweeps-count.result ≡ (promised c).count
 count-is c =
     let call = c.decode in
-    c.sweeps-count.ensures ∙ outcome-count call.result _ (call.ensures.0 ∙ (promised c).answer)
+    c.sweeps-count.ensures ∙ outcome-count call.result _ (call.ensures.result_value ∙ (promised c).answer)
 
 pub expect-requires : goal.expect-requires
 expect-requires c = le-leb c.sweeps-count.result 2 (omega (arith, count-is c, (promised c).within))
@@ -40,7 +40,7 @@ expect-requires-3 c =
     let count = count-is (goal.at.expect-requires-3 c).After-sweeps-count in
     let p = promised (goal.at.expect-requires-3 c).After-sweeps-count in
     let one = c.decode in
-    let at = decode-at c.requires _ one.kept.1.0 p.count (omega (arith, p.within)) p.first p.settled in
+    let at = decode-at c.requires _ one.auto.output p.count (omega (arith, p.within)) p.first p.settled in
     let again = outcome-count c.decode-again.result p.count ((rw count at c.decode-again.ensures.result_value) ∙ at) in
     eq-eqb _ _ (c.sweeps.ensures ∙ again ∙ sym count)
 

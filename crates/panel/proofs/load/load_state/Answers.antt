@@ -14,8 +14,6 @@ use Rattle.panel.proofs.load.load_state.Goals.{After-count_unsatisfied, In-Told}
 
 -- ---- the block is counted
 
-module _ (c : After-count_unsatisfied) where
-
 module _ (c : In-Told) where
 
   told : counted_reply c.count_unsatisfied.result ≡ done (c.in-Told.count ∷ [])

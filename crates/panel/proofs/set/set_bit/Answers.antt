@@ -12,8 +12,6 @@ use Rattle.panel.proofs.Returns.{SetLent, set-lent, set-too-short, set-block-ref
 use Rattle.panel.proofs.set.set_bit.Goals as goal
 use Rattle.panel.proofs.set.set_bit.Goals.{After-set_bit, In-Told, Start}
 
-module _ (c : Start) where
-
 pub returns-then-state-lt-HEAD : goal.returns-then-state-lt-HEAD
 returns-then-state-lt-HEAD c =
     let both = (set-too-short (plan_of c.args.left.now c.args.right.now c.args.nl c.args.nr c.args.wiring.now) _ _ (c.args.state.now) c.if-state-lt-HEAD.true c.refuse_short.ensures) in record { result_value = both.0; state_after = both.1 }

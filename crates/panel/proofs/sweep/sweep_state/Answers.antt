@@ -14,15 +14,11 @@ use Rattle.panel.proofs.Returns.{sweep-settled, sweep-over, sweep-low, sweep-put
 use Rattle.panel.proofs.sweep.sweep_state.Goals as goal
 use Rattle.panel.proofs.sweep.sweep_state.Goals.{After-read_head-head, After-sweep_once, In-Told, Start}
 
-module _ (c : Start) where
-
 pub returns-then-state-lt-HEAD : goal.returns-then-state-lt-HEAD
 returns-then-state-lt-HEAD c =
     let both = (sweep-too-short (plan_of c.args.left.now c.args.right.now c.args.nl c.args.nr c.args.wiring.now) (c.args.state.now) c.if-state-lt-HEAD.true c.refuse_short.ensures) in record { result_value = both.0; state_after = both.1 }
 
 -- ---- a state whose count and sweep number are read
-
-module _ (c : After-read_head-head) where
 
 pub returns-in-Refused : goal.returns-in-Refused
 returns-in-Refused c =

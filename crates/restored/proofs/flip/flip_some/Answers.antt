@@ -17,9 +17,9 @@ pub loop-i-preserved : goal.loop-i-preserved
 loop-i-preserved c =
     let so_far = c.loop-i.invariant.3 in
     (elim c.if-flipped-most.branch [
-          | then-flipped-most w ↦ rw (w.6, w.7)
-    (search rules, omega (arith, w.3.ensures.0), omega (arith, w.3.kept.1.0), flipped-then so_far w.3.ensures.1)
-          | else-flipped-most w ↦ rw (w.1, w.2) (search rules, search rules, search rules, so_far)
+          | then-flipped-most w ↦ rw (w.block-is, w.flipped-is)
+    (search rules, omega (arith, w.flip_one-flipped.ensures.at_most_one), omega (arith, w.flip_one-flipped.auto.block), flipped-then so_far w.flip_one-flipped.ensures.flipped)
+          | else-flipped-most w ↦ rw (w.block-is, w.flipped-is) (search rules, search rules, search rules, so_far)
         ])
 
 pub returns : goal.returns
