@@ -2,7 +2,7 @@
 --   distance row k   D of the code that the first k rows make
 -- It is at least 1, no nonzero codeword has fewer ones, and some nonzero codeword has that many.
 use mathlib.Core.Path.{◌≡◌, refl, sym, ap, ◌∙◌, subst}
-use mathlib.Core.Logic.{◌⊎◌, ⊎_elim}
+use mathlib.Core.Logic.{⊎_elim}
 use mathlib.Core.Bool.{Bool, true, cond}
 use Prim.Native.Nat.{ℕ, zero, suc, ◌+◌, ◌^◌, ◌≤◌, ◌<◌, min}
 use native.Mathlib.Nat.{le_of_lt, min-eq_left, min-eq_right, pos_of_ne-zero}

@@ -21,7 +21,7 @@
 --   named_step, named-last                           the b of a covered F: every step is covered, and the last b is 0
 --   named-is, named-one, named-zero, named_small, named-over  which F are covered, by which chain
 --   named-monotone, named-le                         the covered F have no gaps; how many sweeps are named at most
-use Prim.Native.Nat.{ℕ, zero, suc, ◌+◌, ◌-◌, ◌*◌, ◌/◌, ◌≤◌, ◌<◌, zero-le}
+use Prim.Native.Nat.{ℕ, zero, suc, ◌+◌, ◌*◌, ◌/◌, ◌≤◌, ◌<◌, zero-le}
 use mathlib.Core.Bool.{Bool, true, false, cond, ◌&&◌}
 use mathlib.Core.Logic.{◌≢◌, inl, inr}
 use mathlib.Core.Path.{◌≡◌, refl, sym, ap, ◌∙◌}

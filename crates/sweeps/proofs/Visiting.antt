@@ -8,7 +8,7 @@
 -- Laws are named by their subject, then by the fact: `changed-` is about the number of bits that change, `ties-` about the vertices that
 -- wait, `visits-` about the block so far, `word-`, `found-` and `pattern-` about one vertex's word in the code, `ready-` about a side of a
 -- checked plan.
-use Prim.Native.Nat.{ℕ, ◌+◌, ◌-◌, ◌*◌, ◌^◌, ◌≤◌, ◌<◌}
+use Prim.Native.Nat.{ℕ, ◌+◌, ◌*◌, ◌^◌, ◌≤◌, ◌<◌}
 use mathlib.Core.Bool.{Bool, true, false, cond}
 use mathlib.Core.List.{List, []}
 use mathlib.Core.Path.{◌≡◌, refl, sym, ap, ap₂, ◌∙◌}

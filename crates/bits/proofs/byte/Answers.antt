@@ -3,7 +3,6 @@ use mathlib.Core.Path.{refl, sym}
 use native.Mathlib.Omega.{arith}
 use lib.ListN.{get_or-eq_default}
 use Rattle.bits.specs.Window.{at}
-use borrow.Author.Rules.{rules}
 use Rattle.bits.proofs.byte.Goals as goal
 
 pub returns-then-bytes-i : goal.returns-then-bytes-i

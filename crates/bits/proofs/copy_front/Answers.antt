@@ -1,10 +1,9 @@
 use borrow.Author.Rules.{rules}
-use mathlib.Core.Path.{◌≡◌, refl, ap, ◌∙◌}
+use mathlib.Core.Path.{refl, ap, ◌∙◌}
 use mathlib.Core.List.{List}
-use Prim.Native.Nat.{ℕ, ◌-◌, ◌≤◌}
+use Prim.Native.Nat.{ℕ}
 use native.Mathlib.Omega.{arith}
-use lib.ListN.{length, get_or, set, take, length-set}
-use Rattle.bits.specs.Bit.{written}
+use lib.ListN.{get_or, set, length-set}
 use Rattle.bits.proofs.Fronts.{written_start, written-one-more, written_all}
 use Rattle.bits.proofs.copy_front.Goals as goal
 

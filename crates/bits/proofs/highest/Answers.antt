@@ -20,7 +20,7 @@ overflow_sub-result c = (top c.args.x c.requires (omega arith)).0
 
 pub returns : goal.returns
 returns c = let t = top c.args.x c.requires (omega arith) in record {
-      power_low = t.1;
-      power_high = t.2;
-      fits_word = omega arith;
-    }
+  power_low = t.1;
+  power_high = t.2;
+  fits_word = omega arith;
+}

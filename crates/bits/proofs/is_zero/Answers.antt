@@ -1,8 +1,6 @@
 -- `bits::is_zero` meets its contract: no byte before i is above `largest`, which is 0 where all bytes are.
 use mathlib.Core.Bool.{false≢true}
-use mathlib.Core.Logic.{⊎_elim}
-use mathlib.Core.Path.{◌≡◌, sym, ◌∙◌}
-use Prim.Native.Nat.{ℕ, ◌-◌, ◌<◌, ◌≤◌}
+use mathlib.Core.Path.{sym, ◌∙◌}
 use native.Mathlib.Decide.{dec_le}
 use native.Mathlib.Omega.{arith}
 use borrow.Author.Count.{below_more}
@@ -21,17 +19,17 @@ unfolding at
 loop-i-preserved c =
     let turn = c.loop-i in
     (elim c.if-largest-byte.branch [
-          | then-largest-byte w ↦ (
-      omega arith,
-      below_more _ _ (λ j l. omega (arith, turn.invariant.1 j l)) (omega arith),
-      λ zero. omega (arith, zero turn.i),
-    )
-          | else-largest-byte w ↦ (
-      omega arith,
-      below_more _ _ (λ j l. omega (arith, turn.invariant.1 j l)) (omega arith),
-      λ zero. omega (arith, turn.invariant.2 zero),
-    )
-        ])
+      | then-largest-byte w ↦ (
+        omega arith,
+        below_more _ _ (λ j l. omega (arith, turn.invariant.1 j l)) (omega arith),
+        λ zero. omega (arith, zero turn.i),
+      )
+      | else-largest-byte w ↦ (
+        omega arith,
+        below_more _ _ (λ j l. omega (arith, turn.invariant.1 j l)) (omega arith),
+        λ zero. omega (arith, turn.invariant.2 zero),
+      )
+    ])
 
 pub returns : goal.returns
 unfolding at

@@ -2,7 +2,6 @@
 use mathlib.Core.Path.{refl, sym}
 use Prim.Native.Nat.{◌+◌}
 use native.Mathlib.Omega.{arith}
-use borrow.Author.Rules.{rules}
 use Rattle.bits.specs.Bit.{pair_at}
 use Rattle.bits.proofs.Bytes.{pair_at-past, pair_at-last}
 use Rattle.bits.proofs.pair.Goals as goal

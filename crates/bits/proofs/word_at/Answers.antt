@@ -6,7 +6,6 @@ use native.Mathlib.Omega.{arith}
 use lib.Pow.{pow_pos, pow_mono}
 use Rattle.bits.specs.Window.{at}
 use Rattle.bits.proofs.Windows.{shifted_one, word_at-window}
-use borrow.Author.Rules.{rules}
 use Rattle.bits.proofs.word_at.Goals as goal
 
 -- what a mask of d bits leaves

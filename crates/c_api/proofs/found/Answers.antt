@@ -1,5 +1,4 @@
 -- `c_api::found` meets its contract: each side is told by its number and one more.
-use borrow.Author.Rules.{rules}
 use Rattle.c_api.specs.Answer.{told_place}
 use Rattle.c_api.proofs.found.Goals as goal
 

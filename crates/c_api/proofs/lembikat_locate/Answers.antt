@@ -1,5 +1,4 @@
 -- `c_api::lembikat_locate` meets its contract: what is told of each case of the locator's answer is told of the defined reply.
-use borrow.Author.Rules.{rules}
 use Rattle.wiring.specs.Answer.{locate_reply}
 use Rattle.c_api.specs.Answer.{told, told_place}
 use Rattle.c_api.proofs.Telling.{telling}

@@ -1,5 +1,4 @@
 -- `c_api::lembikat_margin` meets its contract: what is told of each case of the service's answer is told of the defined reply.
-use borrow.Author.Rules.{rules}
 use Rattle.radius.specs.Answer.{margin_reply}
 use Rattle.c_api.specs.Answer.{told}
 use Rattle.c_api.proofs.Telling.{telling}

@@ -1,6 +1,5 @@
 -- `c_api::lembikat_nearest_word` meets its contract: what is told of each case of the service's answer is told of the defined reply.
 use mathlib.Core.Path.{refl}
-use borrow.Author.Rules.{rules}
 use Rattle.inner_code.specs.Answer.{nearest_reply}
 use Rattle.c_api.specs.Answer.{told_word}
 use Rattle.c_api.proofs.Telling.{telling}

@@ -1,5 +1,4 @@
 -- `c_api::lembikat_spread` meets its contract: what is told of each case of the service's answer is told of the defined reply.
-use borrow.Author.Rules.{rules}
 use Rattle.meetings.specs.Answer.{spread_reply}
 use Rattle.c_api.specs.Answer.{told}
 use Rattle.c_api.proofs.Telling.{telling}

@@ -1,6 +1,5 @@
 -- `c_api::shown` meets its contract: what is told of each case of an answer is told of the reply that it stands for.
 use mathlib.Core.Path.{sym, ap}
-use borrow.Author.Rules.{rules}
 use Rattle.panel.specs.Answer.{shown_reply}
 use Rattle.panel.specs.declared.shown.Shown.{Shown}
 use Rattle.c_api.specs.Answer.{told_state}

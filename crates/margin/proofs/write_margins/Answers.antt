@@ -1,12 +1,8 @@
 -- `margin::write_margins` hands the parts of the input on, which lie in order within it, and what it writes is what is answered for them.
-use Prim.Native.Nat.{◌≤◌}
-use mathlib.Core.Path.{◌≡◌, sym, ap, ◌∙◌}
+use mathlib.Core.Path.{sym, ap, ◌∙◌}
 use native.Mathlib.Omega.{arith}
-use lib.ListN.{length}
 use lib.Seq.{length-take-le}
-use borrow.Author.Rules.{rules}
-use Rattle.radius.specs.Answer.{numbers_reply, numbers_answer}
-use Rattle.margin.specs.Output.{plan_part}
+use Rattle.radius.specs.Answer.{numbers_reply}
 use Rattle.margin.proofs.MarginInputs.{parts_within}
 use Rattle.margin.proofs.Outputs.{first-is}
 use Rattle.margin.proofs.write_margins.Goals as goal

@@ -1,12 +1,6 @@
 -- `margin::write_plan` meets what each function that writes numbers requires: the loop's F is covered while it is below the first that is
 -- not, and at the end it is that number.
-use Prim.Native.Nat.{◌-◌, ◌≤◌}
-use mathlib.Core.Path.{◌≡◌}
 use native.Mathlib.Omega.{arith}
-use borrow.Author.Rules.{rules}
-use Rattle.radius.specs.Margin.{beyond}
-use Rattle.radius.specs.Answer.{measures_of}
-use Rattle.margin.specs.Output.{plan_part}
 use Rattle.margin.proofs.Outputs.{numbers-within, line-covered, line-sweeps, last-is}
 use Rattle.margin.proofs.write_plan.Goals as goal
 

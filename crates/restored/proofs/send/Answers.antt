@@ -3,7 +3,6 @@ use mathlib.Core.Path.{ap, ◌∙◌}
 use lib.ListN.{length}
 use Rattle.restored.specs.Sent.{Received}
 use Rattle.restored.proofs.SquarePlan.{received-flipped}
-use borrow.Author.Rules.{rules}
 use Rattle.restored.proofs.send.Goals as goal
 use Rattle.restored.proofs.send.Goals.{After-flip_some}
 

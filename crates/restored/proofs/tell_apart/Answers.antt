@@ -7,7 +7,6 @@ use Rattle.radius.proofs.Guarantee.{demand3-alone}
 use Rattle.restored.specs.Sent.{sent_block}
 use Rattle.restored.proofs.SquarePlan.{zero_block, square-edges, square-margin, sent-codeword, zero-codeword, zero-another}
 use Rattle.restored.proofs.SquarePlan.{received-block, received-few}
-use borrow.Author.Rules.{rules}
 use Rattle.restored.proofs.tell_apart.Goals as goal
 
 pub expect-requires : goal.expect-requires

@@ -1,7 +1,6 @@
 -- `decoder::at_once` meets its contract, one way out after the other.
 use mathlib.Core.Bool.{true≢false}
 use mathlib.Core.Path.{sym}
-use borrow.Author.Rules.{rules}
 use Rattle.decoder.proofs.decoding.at_once.Goals as goal
 
 pub returns-then-lost_bytes-ne0 : goal.returns-then-lost_bytes-ne0

@@ -1,12 +1,11 @@
 -- `decoder::decode` meets its contract: each return is the outcome of the first test that refuses, and past them all `decode_checked` gives the
 -- answer.
 use mathlib.Core.Path.{◌≡◌, sym, ap, ◌∙◌}
-use mathlib.Core.List.{List, []}
+use mathlib.Core.List.{List}
 use native.Mathlib.Omega.{arith}
-use borrow.Author.Rules.{rules}
 use Prim.Native.Nat.{ℕ, ◌*◌}
 use lib.ListN.{replicate}
-use Rattle.inner_code.specs.Reply.{Reply, done, refused}
+use Rattle.inner_code.specs.Reply.{Reply, refused}
 use Rattle.wiring.specs.Plan.{Plan, plan_of, edge_count, left, right}
 use Rattle.wiring.specs.Block.{block_check}
 use Rattle.wiring.specs.declared.block.Checked.{Checked}

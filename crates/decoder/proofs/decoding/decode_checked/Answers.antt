@@ -3,9 +3,8 @@
 use mathlib.Core.List.{[]}
 use mathlib.Core.Path.{◌≡◌, refl}
 use native.Mathlib.Omega.{arith}
-use borrow.Author.Rules.{rules}
 use Rattle.inner_code.specs.Reply.{done}
-use Rattle.wiring.specs.Plan.{Plan, plan_of, left, right}
+use Rattle.wiring.specs.Plan.{plan_of, left, right}
 use Rattle.wiring.specs.Wiring.{plan_check}
 use Rattle.wiring.proofs.VertexAccess.{codes-readable}
 use Rattle.wiring.proofs.Blocks.{block_room}

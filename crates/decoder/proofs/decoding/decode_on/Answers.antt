@@ -3,8 +3,7 @@ use mathlib.Core.Path.{◌≡◌}
 use Prim.Native.Nat.{ℕ, ◌*◌, ◌≤◌}
 use native.Mathlib.Omega.{arith}
 use lib.ListN.{length, replicate, length-replicate}
-use borrow.Author.Rules.{rules}
-use Rattle.wiring.specs.Plan.{Plan, plan_of, edge_count, left}
+use Rattle.wiring.specs.Plan.{plan_of, edge_count, left}
 use Rattle.wiring.proofs.Plans.{plan-fits, plan-few}
 use Rattle.decoder.proofs.Trials.{check-means}
 use Rattle.decoder.proofs.decoding.decode_on.Goals as goal

@@ -6,17 +6,14 @@ use mathlib.Core.Path.{◌≡◌, refl, sym, ap, ap₂, ◌∙◌, subst}
 use Prim.Native.Nat.{ℕ, ◌-◌, ◌≤◌}
 use native.Mathlib.Decide.{dec_le, ℕ_discrete}
 use native.Mathlib.Omega.{arith}
-use borrow.Author.Rules.{rules}
 use lib.ListN.{length, take, drop, replicate, length-replicate}
 use Rattle.bits.specs.Bit.{written}
 use Rattle.bits.proofs.Fronts.{written-again, length-written}
-use Rattle.wiring.specs.Plan.{Plan, plan_of, edge_count}
+use Rattle.wiring.specs.Plan.{plan_of, edge_count}
 use Rattle.wiring.specs.Block.{block_check}
 use Rattle.spans.specs.Spans.{filled}
 use Rattle.spans.proofs.Filling.{length-filled}
 use Rattle.decoder.specs.Turns.{Passed, Tried, Opened}
-use Rattle.decoder.specs.declared.settle.Opening.{Opening}
-use Rattle.decoder.specs.declared.settle.Settling.{Settling}
 use Rattle.decoder.proofs.Settling.{changed_from}
 use Rattle.decoder.proofs.Trials.{check-means, passed-fits, passed-filled, part-lent, laid-part, laid-sized, laid-whole, laid-opened}
 use Rattle.decoder.proofs.Trials.{changed-from, twice-zeros, twice-ones, twice-none}
@@ -26,7 +23,6 @@ use Rattle.decoder.proofs.decoding.decode_placed.Goals.{After-finish_trial-first
 -- ---- the call
 
 module _ (c : Start) where
-
   -- the received bits that the trial with the lost bits b changes outside the spans
   abbrev changed_in : ℕ → ℕ
   changed_in b = changed_from (plan_of c.args.left.now c.args.right.now c.args.nl c.args.nr c.args.wiring.now) c.args.received.now c.args.lost.now c.args.opening.limit b
@@ -37,7 +33,6 @@ module _ (c : Start) where
 -- ---- the trial with zeros
 
 module _ (c : After-finish_trial-first) where
-
   out-sized : length c.finish_trial-first.new.room ≡ length c.args.output.now
   out-sized = c.finish_trial-first.auto.room
 
@@ -90,7 +85,6 @@ cleared-sized : length cleared ≡ 4096
 cleared-sized = length-replicate {A = ℕ} 4096 0
 
 module _ (c : After-lay_out) where
-
   sized : length c.args.received.now - 0 ≡ length (filled 1 c.args.lost.now c.args.received.now)
   sized = omega (arith, length-filled 1 c.args.lost.now c.args.received.now)
 
@@ -101,23 +95,22 @@ module _ (c : After-lay_out) where
   part = laid-part (filled 1 c.args.lost.now c.args.received.now) cleared (length c.args.received.now - 0) put sized
 
 module _ (c : After-open-again) where
-
   swept_kept : length c.open-again.new.block ≡ length (take (length c.args.received.now - 0) c.lay_out.new.room)
   swept_kept = c.open-again.auto.block
 
   other-sized : length (c.open-again.new.block ++ drop (length c.args.received.now - 0) c.lay_out.new.room) ≡ 4096
   other-sized =
       let size : ℕ = length c.args.received.now - 0 in
-      let same = laid-sized (filled 1 c.args.lost.now c.args.received.now) cleared size (put (record { before = c.before.before.before.before.before.before.before.before; type_inv = record { output = c.slice_known-8-1.given; places = c.slice_known-7-1.given; right_finder = c.slice_known-6-1.given; left_finder = c.slice_known-5-1.given; lost = c.shared_slice_known-5-1.given; received = c.shared_slice_known-4-1.given; wiring = c.shared_slice_known-3-1.given; right = c.shared_slice_known-2-1.given; left = c.shared_slice_known-1.given; } })) (sized (record { before = c.before.before.before.before.before.before.before.before; type_inv = record { output = c.slice_known-8-1.given; places = c.slice_known-7-1.given; right_finder = c.slice_known-6-1.given; left_finder = c.slice_known-5-1.given; lost = c.shared_slice_known-5-1.given; received = c.shared_slice_known-4-1.given; wiring = c.shared_slice_known-3-1.given; right = c.shared_slice_known-2-1.given; left = c.shared_slice_known-1.given; } })) c.open-again.new.block swept_kept in
+      let same = laid-sized (filled 1 c.args.lost.now c.args.received.now) cleared size (put (record { before = c.before.before.before.before.before.before.before.before; type_inv = record { output = c.slice_known-8-1.given; places = c.slice_known-7-1.given; right_finder = c.slice_known-6-1.given; left_finder = c.slice_known-5-1.given; lost = c.shared_slice_known-5-1.given; received = c.shared_slice_known-4-1.given; wiring = c.shared_slice_known-3-1.given; right = c.shared_slice_known-2-1.given; left = c.shared_slice_known-1.given } })) (sized (record { before = c.before.before.before.before.before.before.before.before; type_inv = record { output = c.slice_known-8-1.given; places = c.slice_known-7-1.given; right_finder = c.slice_known-6-1.given; left_finder = c.slice_known-5-1.given; lost = c.shared_slice_known-5-1.given; received = c.shared_slice_known-4-1.given; wiring = c.shared_slice_known-3-1.given; right = c.shared_slice_known-2-1.given; left = c.shared_slice_known-1.given } })) c.open-again.new.block swept_kept in
       let fits : length c.open-again.new.block ≤ length cleared =
       omega (arith, same, length-filled 1 c.args.lost.now c.args.received.now, passed-fits (passed c.before.before.before.before.before.before.before.before.before.before.before.before.before.before.before.before.before.before.before.before.before.before.before.before.before.before.before.before.before.before.before.before.before.before.before.before), cleared-sized) in
-      ap length (laid-whole (filled 1 c.args.lost.now c.args.received.now) cleared size (put (record { before = c.before.before.before.before.before.before.before.before; type_inv = record { output = c.slice_known-8-1.given; places = c.slice_known-7-1.given; right_finder = c.slice_known-6-1.given; left_finder = c.slice_known-5-1.given; lost = c.shared_slice_known-5-1.given; received = c.shared_slice_known-4-1.given; wiring = c.shared_slice_known-3-1.given; right = c.shared_slice_known-2-1.given; left = c.shared_slice_known-1.given; } })) (sized (record { before = c.before.before.before.before.before.before.before.before; type_inv = record { output = c.slice_known-8-1.given; places = c.slice_known-7-1.given; right_finder = c.slice_known-6-1.given; left_finder = c.slice_known-5-1.given; lost = c.shared_slice_known-5-1.given; received = c.shared_slice_known-4-1.given; wiring = c.shared_slice_known-3-1.given; right = c.shared_slice_known-2-1.given; left = c.shared_slice_known-1.given; } })) c.open-again.new.block swept_kept)
+      ap length (laid-whole (filled 1 c.args.lost.now c.args.received.now) cleared size (put (record { before = c.before.before.before.before.before.before.before.before; type_inv = record { output = c.slice_known-8-1.given; places = c.slice_known-7-1.given; right_finder = c.slice_known-6-1.given; left_finder = c.slice_known-5-1.given; lost = c.shared_slice_known-5-1.given; received = c.shared_slice_known-4-1.given; wiring = c.shared_slice_known-3-1.given; right = c.shared_slice_known-2-1.given; left = c.shared_slice_known-1.given } })) (sized (record { before = c.before.before.before.before.before.before.before.before; type_inv = record { output = c.slice_known-8-1.given; places = c.slice_known-7-1.given; right_finder = c.slice_known-6-1.given; left_finder = c.slice_known-5-1.given; lost = c.shared_slice_known-5-1.given; received = c.shared_slice_known-4-1.given; wiring = c.shared_slice_known-3-1.given; right = c.shared_slice_known-2-1.given; left = c.shared_slice_known-1.given } })) c.open-again.new.block swept_kept)
       ∙ length-written c.open-again.new.block cleared fits ∙ cleared-sized
 
   opened : Opened (plan_of c.args.left.now c.args.right.now c.args.nl c.args.nr c.args.wiring.now) (filled 1 c.args.lost.now c.args.received.now) c.open-again.result.limit c.open-again.result c.open-again.new.kept
       (take (length c.args.received.now) (c.open-again.new.block ++ drop (length c.args.received.now - 0) c.lay_out.new.room))
   opened =
-      laid-opened (filled 1 c.args.lost.now c.args.received.now) cleared (length c.args.received.now - 0) (put (record { before = c.before.before.before.before.before.before.before.before; type_inv = record { output = c.slice_known-8-1.given; places = c.slice_known-7-1.given; right_finder = c.slice_known-6-1.given; left_finder = c.slice_known-5-1.given; lost = c.shared_slice_known-5-1.given; received = c.shared_slice_known-4-1.given; wiring = c.shared_slice_known-3-1.given; right = c.shared_slice_known-2-1.given; left = c.shared_slice_known-1.given; } })) (sized (record { before = c.before.before.before.before.before.before.before.before; type_inv = record { output = c.slice_known-8-1.given; places = c.slice_known-7-1.given; right_finder = c.slice_known-6-1.given; left_finder = c.slice_known-5-1.given; lost = c.shared_slice_known-5-1.given; received = c.shared_slice_known-4-1.given; wiring = c.shared_slice_known-3-1.given; right = c.shared_slice_known-2-1.given; left = c.shared_slice_known-1.given; } })) c.open-again.new.block swept_kept
+      laid-opened (filled 1 c.args.lost.now c.args.received.now) cleared (length c.args.received.now - 0) (put (record { before = c.before.before.before.before.before.before.before.before; type_inv = record { output = c.slice_known-8-1.given; places = c.slice_known-7-1.given; right_finder = c.slice_known-6-1.given; left_finder = c.slice_known-5-1.given; lost = c.shared_slice_known-5-1.given; received = c.shared_slice_known-4-1.given; wiring = c.shared_slice_known-3-1.given; right = c.shared_slice_known-2-1.given; left = c.shared_slice_known-1.given } })) (sized (record { before = c.before.before.before.before.before.before.before.before; type_inv = record { output = c.slice_known-8-1.given; places = c.slice_known-7-1.given; right_finder = c.slice_known-6-1.given; left_finder = c.slice_known-5-1.given; lost = c.shared_slice_known-5-1.given; received = c.shared_slice_known-4-1.given; wiring = c.shared_slice_known-3-1.given; right = c.shared_slice_known-2-1.given; left = c.shared_slice_known-1.given } })) c.open-again.new.block swept_kept
       c.open-again.ensures.opened (length c.args.received.now) (omega arith)
 
 pub lay_out-requires : goal.lay_out-requires
@@ -142,13 +135,12 @@ open-again-requires c =
 -- ---- it is finished
 
 module _ (c : After-finish_trial-second) where
-
   some : length c.args.lost.now ≡ 0 → ⊥
   some =
       c.keeps_zeros.ensures.when_false c.if-keeps_zeros.false
 
   out-long : length c.finish_trial-second.new.room ≡ 4096
-  out-long = c.finish_trial-second.auto.room ∙ other-sized (record { before = c.before.before.before.before.before.before.before.before.before.before.before.before; type_inv = record { output = c.slice_known-8-1.given; places = c.slice_known-7-1.given; lost = c.shared_slice_known-5-1.given; received = c.shared_slice_known-4-1.given; wiring = c.shared_slice_known-3-1.given; right = c.shared_slice_known-2-1.given; left = c.shared_slice_known-1.given; } })
+  out-long = c.finish_trial-second.auto.room ∙ other-sized (record { before = c.before.before.before.before.before.before.before.before.before.before.before.before; type_inv = record { output = c.slice_known-8-1.given; places = c.slice_known-7-1.given; lost = c.shared_slice_known-5-1.given; received = c.shared_slice_known-4-1.given; wiring = c.shared_slice_known-3-1.given; right = c.shared_slice_known-2-1.given; left = c.shared_slice_known-1.given } })
 
   left-sized : length c.finish_trial-second.new.left_finder ≡ length c.args.left_finder.now
   left-sized =
@@ -166,7 +158,7 @@ module _ (c : After-finish_trial-second) where
   ones-tried =
       subst (λ (H : ℕ). Tried (plan_of c.args.left.now c.args.right.now c.args.nl c.args.nr c.args.wiring.now) (filled 1 c.args.lost.now c.args.received.now) H c.finish_trial-second.result.settling.count c.finish_trial-second.result.settling.sums c.finish_trial-second.result.settling.visits (take (length c.args.received.now) c.finish_trial-second.new.room))
       c.open-again.ensures.opened.limit_is
-      (c.finish_trial-second.ensures.settles (filled 1 c.args.lost.now c.args.received.now) (opened (record { before = c.before.before.before.before.before.before.before.before.before.before.before.before; type_inv = record { output = c.slice_known-8-1.given; places = c.slice_known-7-1.given; lost = c.shared_slice_known-5-1.given; received = c.shared_slice_known-4-1.given; wiring = c.shared_slice_known-3-1.given; right = c.shared_slice_known-2-1.given; left = c.shared_slice_known-1.given; } })))
+      (c.finish_trial-second.ensures.settles (filled 1 c.args.lost.now c.args.received.now) (opened (record { before = c.before.before.before.before.before.before.before.before.before.before.before.before; type_inv = record { output = c.slice_known-8-1.given; places = c.slice_known-7-1.given; lost = c.shared_slice_known-5-1.given; received = c.shared_slice_known-4-1.given; wiring = c.shared_slice_known-3-1.given; right = c.shared_slice_known-2-1.given; left = c.shared_slice_known-1.given } })))
 
   ones-sized : length (take (length c.args.received.now) c.finish_trial-second.new.room) ≡ length c.args.received.now
   ones-sized = ones-tried.kept ∙ length-filled 1 c.args.lost.now c.args.received.now

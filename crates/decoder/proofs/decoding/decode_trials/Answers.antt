@@ -4,17 +4,15 @@ use mathlib.Core.List.{List, ◌++◌}
 use mathlib.Core.Path.{◌≡◌, refl, ap, ap₂, ◌∙◌, subst}
 use Prim.Native.Nat.{ℕ, ◌-◌}
 use native.Mathlib.Omega.{arith}
-use borrow.Author.Rules.{rules}
 use lib.ListN.{length, take, drop}
 use Rattle.bits.specs.Bit.{written}
 use Rattle.bits.proofs.Fronts.{length-written}
-use Rattle.wiring.specs.Plan.{Plan, plan_of}
+use Rattle.wiring.specs.Plan.{plan_of}
 use Rattle.spans.specs.Spans.{filled}
 use Rattle.spans.proofs.Filling.{length-filled}
 use Rattle.decoder.specs.Answer.{decode_check, Decodes}
 use Rattle.decoder.specs.declared.decoding.Decoding.{Decoding}
 use Rattle.decoder.specs.Turns.{Passed, Opened}
-use Rattle.decoder.specs.declared.settle.Opening.{Opening}
 use Rattle.decoder.proofs.Trials.{check-means, passed-filled, laid-part, laid-whole, laid-opened, by-settled, twice-none}
 use Rattle.decoder.proofs.Trials.{over-check, over-answers}
 use Rattle.decoder.proofs.decoding.decode_trials.Goals as goal
@@ -23,7 +21,6 @@ use Rattle.decoder.proofs.decoding.decode_trials.Goals.{After-lay_out, After-ope
 -- ---- the call
 
 module _ (c : Start) where
-
   passed : Passed (plan_of c.args.left.now c.args.right.now c.args.nl c.args.nr c.args.wiring.now) c.args.received.now c.args.lost.now c.args.output.now c.args.limit
   passed = check-means _ _ _ _ _ c.requires.limit_value
 
@@ -33,7 +30,6 @@ module _ (c : Start) where
 -- ---- the trial with zeros is laid out
 
 module _ (c : After-lay_out) where
-
   put : c.lay_out.new.room ≡ written (filled 0 c.args.lost.now c.args.received.now) c.args.output.now
   put = c.lay_out.ensures
 
@@ -43,26 +39,25 @@ module _ (c : After-lay_out) where
 -- ---- its first two sweeps are made
 
 module _ (c : After-open-opening) where
-
   swept_kept : length c.open-opening.new.block ≡ length (take (length c.args.received.now - 0) c.lay_out.new.room)
   swept_kept = c.open-opening.auto.block
 
   swept-sized : length c.open-opening.new.block ≡ length c.args.received.now
-  swept-sized = swept_kept ∙ ap length (part (record { before = c.before.before.before.before.before.before.before.before; type_inv = record { lost = c.shared_slice_known-5-1.given; received = c.shared_slice_known-4-1.given; right_finder = c.slice_known-2-1.given; left_finder = c.slice_known-1.given; wiring = c.shared_slice_known-3-1.given; right = c.shared_slice_known-2-1.given; left = c.shared_slice_known-1.given; } })) ∙ length-filled 0 c.args.lost.now c.args.received.now
+  swept-sized = swept_kept ∙ ap length (part (record { before = c.before.before.before.before.before.before.before.before; type_inv = record { lost = c.shared_slice_known-5-1.given; received = c.shared_slice_known-4-1.given; right_finder = c.slice_known-2-1.given; left_finder = c.slice_known-1.given; wiring = c.shared_slice_known-3-1.given; right = c.shared_slice_known-2-1.given; left = c.shared_slice_known-1.given } })) ∙ length-filled 0 c.args.lost.now c.args.received.now
 
   whole : (c.open-opening.new.block ++ drop (length c.args.received.now - 0) c.lay_out.new.room) ≡ written c.open-opening.new.block c.args.output.now
-  whole = laid-whole (filled 0 c.args.lost.now c.args.received.now) c.args.output.now (length c.args.received.now - 0) (put (record { before = c.before.before.before.before.before.before.before.before; type_inv = record { lost = c.shared_slice_known-5-1.given; received = c.shared_slice_known-4-1.given; right_finder = c.slice_known-2-1.given; left_finder = c.slice_known-1.given; wiring = c.shared_slice_known-3-1.given; right = c.shared_slice_known-2-1.given; left = c.shared_slice_known-1.given; } })) (sized c.before.before.before.before.before.before.before.before.before.before.before.before.before.before.before.before.before.before) c.open-opening.new.block swept_kept
+  whole = laid-whole (filled 0 c.args.lost.now c.args.received.now) c.args.output.now (length c.args.received.now - 0) (put (record { before = c.before.before.before.before.before.before.before.before; type_inv = record { lost = c.shared_slice_known-5-1.given; received = c.shared_slice_known-4-1.given; right_finder = c.slice_known-2-1.given; left_finder = c.slice_known-1.given; wiring = c.shared_slice_known-3-1.given; right = c.shared_slice_known-2-1.given; left = c.shared_slice_known-1.given } })) (sized c.before.before.before.before.before.before.before.before.before.before.before.before.before.before.before.before.before.before) c.open-opening.new.block swept_kept
 
   after-sized : length (c.open-opening.new.block ++ drop (length c.args.received.now - 0) c.lay_out.new.room) ≡ length c.args.output.now
   after-sized = ap length whole ∙ length-written c.open-opening.new.block c.args.output.now (omega (arith, swept-sized, (passed c.before.before.before.before.before.before.before.before.before.before.before.before.before.before.before.before.before.before).fits))
 
   opened : Opened (plan_of c.args.left.now c.args.right.now c.args.nl c.args.nr c.args.wiring.now) (filled 0 c.args.lost.now c.args.received.now) c.args.limit c.open-opening.result c.open-opening.new.kept c.open-opening.new.block
   opened =
-      subst (λ (b : List ℕ). Opened (plan_of c.args.left.now c.args.right.now c.args.nl c.args.nr c.args.wiring.now) b c.args.limit c.open-opening.result c.open-opening.new.kept c.open-opening.new.block) (part (record { before = c.before.before.before.before.before.before.before.before; type_inv = record { lost = c.shared_slice_known-5-1.given; received = c.shared_slice_known-4-1.given; right_finder = c.slice_known-2-1.given; left_finder = c.slice_known-1.given; wiring = c.shared_slice_known-3-1.given; right = c.shared_slice_known-2-1.given; left = c.shared_slice_known-1.given; } })) c.open-opening.ensures.opened
+      subst (λ (b : List ℕ). Opened (plan_of c.args.left.now c.args.right.now c.args.nl c.args.nr c.args.wiring.now) b c.args.limit c.open-opening.result c.open-opening.new.kept c.open-opening.new.block) (part (record { before = c.before.before.before.before.before.before.before.before; type_inv = record { lost = c.shared_slice_known-5-1.given; received = c.shared_slice_known-4-1.given; right_finder = c.slice_known-2-1.given; left_finder = c.slice_known-1.given; wiring = c.shared_slice_known-3-1.given; right = c.shared_slice_known-2-1.given; left = c.shared_slice_known-1.given } })) c.open-opening.ensures.opened
 
   opened-here : Opened (plan_of c.args.left.now c.args.right.now c.args.nl c.args.nr c.args.wiring.now) (filled 0 c.args.lost.now c.args.received.now) c.open-opening.result.limit c.open-opening.result c.open-opening.new.kept (take (length c.args.received.now) (c.open-opening.new.block ++ drop (length c.args.received.now - 0) c.lay_out.new.room))
   opened-here =
-      laid-opened (filled 0 c.args.lost.now c.args.received.now) c.args.output.now (length c.args.received.now - 0) (put (record { before = c.before.before.before.before.before.before.before.before; type_inv = record { lost = c.shared_slice_known-5-1.given; received = c.shared_slice_known-4-1.given; right_finder = c.slice_known-2-1.given; left_finder = c.slice_known-1.given; wiring = c.shared_slice_known-3-1.given; right = c.shared_slice_known-2-1.given; left = c.shared_slice_known-1.given; } })) (sized c.before.before.before.before.before.before.before.before.before.before.before.before.before.before.before.before.before.before) c.open-opening.new.block swept_kept c.open-opening.ensures.opened
+      laid-opened (filled 0 c.args.lost.now c.args.received.now) c.args.output.now (length c.args.received.now - 0) (put (record { before = c.before.before.before.before.before.before.before.before; type_inv = record { lost = c.shared_slice_known-5-1.given; received = c.shared_slice_known-4-1.given; right_finder = c.slice_known-2-1.given; left_finder = c.slice_known-1.given; wiring = c.shared_slice_known-3-1.given; right = c.shared_slice_known-2-1.given; left = c.shared_slice_known-1.given } })) (sized c.before.before.before.before.before.before.before.before.before.before.before.before.before.before.before.before.before.before) c.open-opening.new.block swept_kept c.open-opening.ensures.opened
       (length c.args.received.now) (omega arith)
 
   -- what a decoding ensures that goes on from there

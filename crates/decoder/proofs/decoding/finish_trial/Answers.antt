@@ -3,15 +3,13 @@ use mathlib.Core.List.{List, ◌++◌}
 use mathlib.Core.Path.{◌≡◌, sym, ap, ◌∙◌, subst}
 use Prim.Native.Nat.{ℕ, ◌-◌, ◌/◌, ◌≤◌}
 use native.Mathlib.Omega.{arith}
-use borrow.Author.Rules.{rules}
 use lib.ListN.{length, take, drop}
 use Rattle.bits.specs.Bit.{written}
 use Rattle.bits.proofs.Fronts.{length-written}
-use Rattle.wiring.specs.Plan.{Plan, plan_of}
+use Rattle.wiring.specs.Plan.{plan_of}
 use Rattle.wiring.proofs.Plans.{plan-few, plan-entries, plan-permuted}
 use Rattle.spans.specs.Walking.{flips_around}
 use Rattle.decoder.specs.Turns.{Tried, Opened, OpenedSome}
-use Rattle.decoder.specs.declared.settle.Settling.{Settling}
 use Rattle.decoder.proofs.Trials.{part-lent, part-sized, part-whole, part-front}
 use Rattle.decoder.proofs.decoding.finish_trial.Goals as goal
 use Rattle.decoder.proofs.decoding.finish_trial.Goals.{After-finish-settling, Start}
@@ -19,14 +17,12 @@ use Rattle.decoder.proofs.decoding.finish_trial.Goals.{After-finish-settling, St
 -- ---- the call
 
 module _ (c : Start) where
-
   fits : (length c.args.received.now) ≤ length c.args.room.now
   fits = c.requires.received_in_bounds
 
 -- ---- the trial is swept on
 
 module _ (c : After-finish-settling) where
-
   kept : length c.finish-settling.new.block ≡ length (take ((length c.args.received.now) - 0) c.args.room.now)
   kept = c.finish-settling.auto.block
 

@@ -4,7 +4,6 @@ use mathlib.Core.Bool.{true≢false}
 use mathlib.Core.Path.{sym, ap, ◌∙◌}
 use Rattle.wiring.specs.Answer.{locate_reply}
 use Rattle.wiring.proofs.Locating.{located-zero}
-use borrow.Author.Rules.{rules}
 use Rattle.decoder.proofs.decoding.is_codeword_at_sight.Goals as goal
 
 pub returns-then-is_zero : goal.returns-then-is_zero

@@ -2,14 +2,13 @@
 use mathlib.Core.Bool.{true≢false}
 use mathlib.Core.Path.{sym}
 use native.Mathlib.Omega.{arith}
-use borrow.Author.Rules.{rules}
 use Rattle.decoder.proofs.decoding.keeps_ones.Goals as goal
 
 pub returns-then-limit-ones : goal.returns-then-limit-ones
 returns-then-limit-ones c = record {
-      when_true = (λ e. absurd (true≢false (sym e)));
-      when_false = (λ e l. absurd (omega (arith, c.if-limit-ones.true)));
-    }
+  when_true = (λ e. absurd (true≢false (sym e)));
+  when_false = (λ e l. absurd (omega (arith, c.if-limit-ones.true)));
+}
 
 pub returns-then-limit-zeros : goal.returns-then-limit-zeros
 returns-then-limit-zeros c =

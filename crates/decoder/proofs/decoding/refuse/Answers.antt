@@ -4,7 +4,7 @@ use Rattle.decoder.proofs.decoding.refuse.Goals as goal
 
 pub returns : goal.returns
 returns c = record {
-      outcome_value = refl;
-      sums_value = refl;
-      visits_value = refl;
-    }
+  outcome_value = refl;
+  sums_value = refl;
+  visits_value = refl;
+}

@@ -1,5 +1,4 @@
 -- `decoder::add_visits` meets its contract: the number of the sweep is compared with the limit.
-use borrow.Author.Rules.{rules}
 use borrow.Author.Tests.{lt-ltb, le-ltb}
 use Rattle.decoder.specs.Turns.{added_visits}
 use Rattle.decoder.proofs.settle.add_visits.Goals as goal

@@ -2,11 +2,10 @@
 -- The loop is left at the first sweep that changes nothing, where the block is tested, or past the limit.
 use mathlib.Core.List.{List}
 use mathlib.Core.Path.{◌≡◌, refl, sym, ◌∙◌}
-use Prim.Native.Nat.{ℕ, ◌+◌, ◌-◌, ◌≤◌, ◌<◌, min}
+use Prim.Native.Nat.{ℕ, ◌+◌, ◌≤◌, ◌<◌, min}
 use native.Mathlib.Omega.{arith}
-use borrow.Author.Rules.{rules}
 use lib.ListN.{length}
-use Rattle.wiring.specs.Plan.{Plan, plan_of, count_of}
+use Rattle.wiring.specs.Plan.{plan_of, count_of}
 use Rattle.wiring.specs.declared.side.SideName.{SideName}
 use Rattle.sweeps.specs.Sweep.{turn}
 use Rattle.sweeps.specs.Sweeping.{Ready, NewsSwept}
@@ -68,22 +67,22 @@ block-length c = c.sweep_turn-here.auto.block ∙ c.loop-count.invariant.5
 -- the visits so far, and those of one sweep more, are few
 visits-fit : (c : After-sweep_turn-here) → c.loop-count.visits + c.sweep_turn-here.result.visits < 18446744073709551616
 visits-fit c =
-    let m = one (record { before = c.before.before.before.before.before.before.before; type_inv = record { places = c.shared_slice_known-4-1.given; wiring = c.shared_slice_known-3-1.given; right = c.shared_slice_known-2-1.given; left = c.shared_slice_known-1.given; } }) in
+    let m = one (record { before = c.before.before.before.before.before.before.before; type_inv = record { places = c.shared_slice_known-4-1.given; wiring = c.shared_slice_known-3-1.given; right = c.shared_slice_known-2-1.given; left = c.shared_slice_known-1.given } }) in
     let plan = (plan_of c.args.left.now c.args.right.now c.args.nl c.args.nr c.args.wiring.now) in
     omega (
       arith,
       m.visited,
-      visits-few plan c.requires.opened_some.received (few (record { before = c.before.before.before.before.before.before.before; type_inv = record { places = c.shared_slice_known-4-1.given; wiring = c.shared_slice_known-3-1.given; right = c.shared_slice_known-2-1.given; left = c.shared_slice_known-1.given; } })) (min c.loop-count.count c.args.opening.limit),
+      visits-few plan c.requires.opened_some.received (few (record { before = c.before.before.before.before.before.before.before; type_inv = record { places = c.shared_slice_known-4-1.given; wiring = c.shared_slice_known-3-1.given; right = c.shared_slice_known-2-1.given; left = c.shared_slice_known-1.given } })) (min c.loop-count.count c.args.opening.limit),
       limited c.before.before.before.before.before.before.before.before.before.before.before.before.before.before.before.before.before,
-      midway-visits (begun (record { before = c.before.before.before.before.before.before.before; type_inv = record { places = c.shared_slice_known-4-1.given; wiring = c.shared_slice_known-3-1.given; right = c.shared_slice_known-2-1.given; left = c.shared_slice_known-1.given; } }) m) m (swept c),
-      visits-in-few plan c.requires.opened_some.received (few (record { before = c.before.before.before.before.before.before.before; type_inv = record { places = c.shared_slice_known-4-1.given; wiring = c.shared_slice_known-3-1.given; right = c.shared_slice_known-2-1.given; left = c.shared_slice_known-1.given; } })) c.loop-count.count,
+      midway-visits (begun (record { before = c.before.before.before.before.before.before.before; type_inv = record { places = c.shared_slice_known-4-1.given; wiring = c.shared_slice_known-3-1.given; right = c.shared_slice_known-2-1.given; left = c.shared_slice_known-1.given } }) m) m (swept c),
+      visits-in-few plan c.requires.opened_some.received (few (record { before = c.before.before.before.before.before.before.before; type_inv = record { places = c.shared_slice_known-4-1.given; wiring = c.shared_slice_known-3-1.given; right = c.shared_slice_known-2-1.given; left = c.shared_slice_known-1.given } })) c.loop-count.count,
     )
 
 pub returns-then-opening : goal.returns-then-opening
 returns-then-opening c = record {
-      still_ready = c.requires.ready;
-      settles = λ received opened. opened.closed c.if-opening.true;
-    }
+  still_ready = c.requires.ready;
+  settles = λ received opened. opened.closed c.if-opening.true;
+}
 
 pub loop-count-init : goal.loop-count-init
 loop-count-init c = (turn_two, λ received m. m, λ r. r, refl, refl, refl)
@@ -170,17 +169,16 @@ pub loop-count-smaller : goal.loop-count-smaller
 loop-count-smaller c = omega (arith, within (goal.at.loop-count-smaller c).After-sweep_turn-here)
 
 pub loop-count-preserved : goal.loop-count-preserved
-loop-count-preserved c =
-    (
-      c.other_side-side.ensures ∙ turn_more c.loop-count.count c.loop-count.invariant.0,
-      λ received first.
-          let m = c.loop-count.invariant.1 received first in
-          midway-more (begun (goal.at.loop-count-preserved c).At-loop-count m) m (swept (goal.at.loop-count-preserved c).After-sweep_turn-here) c.if-here-eq0.false c.note.ensures c.add_visits-visits.ensures,
-      λ first. c.sweep_turn-here.ensures.still_ready,
-      left-length (goal.at.loop-count-preserved c).After-sweep_turn-here,
-      right-length (goal.at.loop-count-preserved c).After-sweep_turn-here,
-      block-length (goal.at.loop-count-preserved c).After-sweep_turn-here,
-    )
+loop-count-preserved c = (
+  c.other_side-side.ensures ∙ turn_more c.loop-count.count c.loop-count.invariant.0,
+  λ received first.
+      let m = c.loop-count.invariant.1 received first in
+      midway-more (begun (goal.at.loop-count-preserved c).At-loop-count m) m (swept (goal.at.loop-count-preserved c).After-sweep_turn-here) c.if-here-eq0.false c.note.ensures c.add_visits-visits.ensures,
+  λ first. c.sweep_turn-here.ensures.still_ready,
+  left-length (goal.at.loop-count-preserved c).After-sweep_turn-here,
+  right-length (goal.at.loop-count-preserved c).After-sweep_turn-here,
+  block-length (goal.at.loop-count-preserved c).After-sweep_turn-here,
+)
 
 pub overflow_add-result-2 : goal.overflow_add-result-2
 overflow_add-result-2 c = omega (arith, limited (goal.at.overflow_add-result-2 c).Start)

@@ -1,18 +1,11 @@
 use mathlib.Core.List.{List}
-use mathlib.Core.Path.{◌≡◌, refl, sym, ◌∙◌}
-use Prim.Native.Nat.{ℕ, ◌+◌, ◌-◌, ◌≤◌, ◌<◌, min}
-use native.Mathlib.Omega.{arith}
-use borrow.Author.Rules.{rules}
+use mathlib.Core.Path.{◌≡◌}
+use Prim.Native.Nat.{ℕ, ◌+◌, ◌-◌}
 use lib.ListN.{length}
-use Rattle.wiring.specs.Plan.{Plan, plan_of, count_of}
-use Rattle.wiring.specs.declared.side.SideName.{SideName}
+use Rattle.wiring.specs.Plan.{Plan, plan_of}
 use Rattle.sweeps.specs.Sweep.{turn}
-use Rattle.sweeps.specs.Sweeping.{Ready, NewsSwept}
-use Rattle.decoder.specs.Turns.{Midway, Opened}
-use Rattle.wiring.proofs.Plans.{plan-fits}
-use Rattle.decoder.proofs.VisitCounts.{visits-few, visits-in-few}
-use Rattle.decoder.proofs.Passes.{Begun, turn_two, turn_more, told-sized, midway-told, midway-hears, midway-visits, midway-few, midway-more}
-use Rattle.decoder.proofs.Passes.{midway-settled, midway-lost, midway-never}
+use Rattle.sweeps.specs.Sweeping.{Ready}
+use Rattle.decoder.specs.Turns.{Midway}
 use Rattle.decoder.proofs.settle.finish.Given as goal
 
 abbrev pub invariant-loop-count : goal.invariant-loop-count

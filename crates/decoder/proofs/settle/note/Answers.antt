@@ -1,7 +1,6 @@
 -- `decoder::note` meets its contract: the sum is put in its place where both tests hold, and else nothing is.
 use mathlib.Core.Path.{sym}
 use native.Mathlib.Omega.{arith}
-use borrow.Author.Rules.{rules}
 use Rattle.decoder.proofs.SweepSums.{noted-told, noted-untold}
 use Rattle.decoder.proofs.settle.note.Goals as goal
 

@@ -1,12 +1,11 @@
 -- `decoder::open` meets its contract: each sweep of the code is a sweep of the definition, its count of changed bits is noted as its sum, and with
 -- the ties of both tells whether the block was settled before the second. Where the second changes something, the left side is tested for it.
 use mathlib.Core.Bool.{true≢false}
-use mathlib.Core.List.{List}
 use mathlib.Core.Path.{◌≡◌, refl, sym}
-use Prim.Native.Nat.{ℕ, ◌+◌, ◌≤◌, min}
+use Prim.Native.Nat.{◌+◌, ◌≤◌, min}
 use native.Mathlib.Omega.{arith}
 use lib.ListN.{replicate}
-use Rattle.wiring.specs.Plan.{Plan, plan_of, count_of, side_of, left, right, other}
+use Rattle.wiring.specs.Plan.{plan_of, count_of, side_of, left, right, other}
 use Rattle.wiring.specs.declared.side.SideName.{SideName}
 use Rattle.sweeps.specs.Sweep.{turn}
 use Rattle.decoder.specs.Decode.{visits_in, visits_made}
@@ -17,7 +16,6 @@ use Rattle.sweeps.proofs.Visiting.{ties-le}
 use Rattle.decoder.proofs.VisitCounts.{visits-full, visits-added, visits-few}
 use Rattle.decoder.proofs.Passes.{Begun, Pass, Told, Swept, turn-zero, turn_one, pass, pass-few, told-start, told_more, told-sized, swept-two}
 use Rattle.decoder.proofs.Passes.{open-first, open-second, open-limit, open-settled, open-going}
-use borrow.Author.Rules.{rules}
 use Rattle.decoder.proofs.settle.open.Goals as goal
 use Rattle.decoder.proofs.settle.open.Goals.{After-note, After-note-2, After-sweep_firsts-firsts, Start}
 
@@ -71,7 +69,7 @@ right-visits c = sym (visits-full (plan_of c.args.left.now c.args.right.now c.ar
 told-one : (c : After-note)
     → Told (plan_of c.args.left.now c.args.right.now c.args.nl c.args.nr c.args.wiring.now) c.args.block.now c.args.limit 1 c.note.new.sums c.add_visits-one.result
 told-one c =
-    told_more (begun c.before.before.before.before.before.before.before.before.before.before.before.before.before.before.before.before.before.before.before.before.before.before.before.before) (told_none c.before.before.before.before.before.before.before.before.before.before.before.before.before.before.before.before.before.before.before.before.before.before.before.before) (first-pass (record { before = c.before.before.before.before.before.before.before.before.before.before.before.before.before; type_inv = record { wiring = c.shared_slice_known-3-1.given; right = c.shared_slice_known-2-1.given; left = c.shared_slice_known-1.given; } })) c.note.ensures (left-visits c.before.before.before.before.before.before.before.before.before.before.before.before.before.before.before.before.before.before.before.before.before.before.before.before) c.add_visits-one.ensures
+    told_more (begun c.before.before.before.before.before.before.before.before.before.before.before.before.before.before.before.before.before.before.before.before.before.before.before.before) (told_none c.before.before.before.before.before.before.before.before.before.before.before.before.before.before.before.before.before.before.before.before.before.before.before.before) (first-pass (record { before = c.before.before.before.before.before.before.before.before.before.before.before.before.before; type_inv = record { wiring = c.shared_slice_known-3-1.given; right = c.shared_slice_known-2-1.given; left = c.shared_slice_known-1.given } })) c.note.ensures (left-visits c.before.before.before.before.before.before.before.before.before.before.before.before.before.before.before.before.before.before.before.before.before.before.before.before) c.add_visits-one.ensures
 
 both-visits : (c : After-note)
     → c.add_visits-two.result ≡ visits_made (plan_of c.args.left.now c.args.right.now c.args.nl c.args.nr c.args.wiring.now) c.args.block.now (min 2 c.args.limit)
@@ -85,8 +83,8 @@ swept : (c : After-note-2)
     → Swept (plan_of c.args.left.now c.args.right.now c.args.nl c.args.nr c.args.wiring.now) c.args.block.now c.args.limit 2 c.sweep_firsts-firsts.new.block c.note-2.new.sums
     c.add_visits-two.result
 swept c one =
-    swept-two (begun c.before.before.before.before.before.before.before.before.before.before.before.before.before.before.before.before.before.before.before.before.before.before.before.before.before.before.before.before) (second-pass (record { before = c.before.before.before.before.before.before.before.before.before.before.before.before.before.before.before.before.before; type_inv = record { wiring = c.shared_slice_known-3-1.given; right = c.shared_slice_known-2-1.given; left = c.shared_slice_known-1.given; } })) c.if-second-eq0.false
-    (told_more (begun c.before.before.before.before.before.before.before.before.before.before.before.before.before.before.before.before.before.before.before.before.before.before.before.before.before.before.before.before) one (second-pass (record { before = c.before.before.before.before.before.before.before.before.before.before.before.before.before.before.before.before.before; type_inv = record { wiring = c.shared_slice_known-3-1.given; right = c.shared_slice_known-2-1.given; left = c.shared_slice_known-1.given; } })) c.note-2.ensures (right-visits c.before.before.before.before.before.before.before.before.before.before.before.before.before.before.before.before.before.before.before.before.before.before.before.before.before.before.before.before) c.add_visits-two.ensures)
+    swept-two (begun c.before.before.before.before.before.before.before.before.before.before.before.before.before.before.before.before.before.before.before.before.before.before.before.before.before.before.before.before) (second-pass (record { before = c.before.before.before.before.before.before.before.before.before.before.before.before.before.before.before.before.before; type_inv = record { wiring = c.shared_slice_known-3-1.given; right = c.shared_slice_known-2-1.given; left = c.shared_slice_known-1.given } })) c.if-second-eq0.false
+    (told_more (begun c.before.before.before.before.before.before.before.before.before.before.before.before.before.before.before.before.before.before.before.before.before.before.before.before.before.before.before.before) one (second-pass (record { before = c.before.before.before.before.before.before.before.before.before.before.before.before.before.before.before.before.before; type_inv = record { wiring = c.shared_slice_known-3-1.given; right = c.shared_slice_known-2-1.given; left = c.shared_slice_known-1.given } })) c.note-2.ensures (right-visits c.before.before.before.before.before.before.before.before.before.before.before.before.before.before.before.before.before.before.before.before.before.before.before.before.before.before.before.before) c.add_visits-two.ensures)
 
 -- a third sweep is made
 going : (c : After-note-2)
@@ -94,7 +92,7 @@ going : (c : After-note-2)
     → Midway (plan_of c.args.left.now c.args.right.now c.args.nl c.args.nr c.args.wiring.now) c.args.block.now c.args.limit 2 c.note-2.new.sums c.add_visits-two.result
     c.sweep_firsts-firsts.new.kept c.sweep_firsts-firsts.new.block
 going c one =
-    open-going (begun c.before.before.before.before.before.before.before.before.before.before.before.before.before.before.before.before.before.before.before.before.before.before.before.before.before.before.before.before) (swept c one) (first-pass (record { before = c.before.before.before.before.before.before.before.before.before.before.before.before.before.before.before.before.before; type_inv = record { wiring = c.shared_slice_known-3-1.given; right = c.shared_slice_known-2-1.given; left = c.shared_slice_known-1.given; } })).leaves c.sweep_firsts-firsts.ensures.both_swept.listening
+    open-going (begun c.before.before.before.before.before.before.before.before.before.before.before.before.before.before.before.before.before.before.before.before.before.before.before.before.before.before.before.before) (swept c one) (first-pass (record { before = c.before.before.before.before.before.before.before.before.before.before.before.before.before.before.before.before.before; type_inv = record { wiring = c.shared_slice_known-3-1.given; right = c.shared_slice_known-2-1.given; left = c.shared_slice_known-1.given } })).leaves c.sweep_firsts-firsts.ensures.both_swept.listening
 
 pub add_visits-two-requires : goal.add_visits-two-requires
 add_visits-two-requires c =
@@ -103,9 +101,9 @@ add_visits-two-requires c =
 
 pub note-requires : goal.note-requires
 note-requires c = record {
-      sums_len = refl;
-      changed_bound = pass-few (begun (goal.at.note-requires c).Start) (first-pass (goal.at.note-requires c).After-sweep_firsts-firsts);
-    }
+  sums_len = refl;
+  changed_bound = pass-few (begun (goal.at.note-requires c).Start) (first-pass (goal.at.note-requires c).After-sweep_firsts-firsts);
+}
 
 pub overflow_add-first : goal.overflow_add-first
 overflow_add-first c = omega (arith, ties-few (goal.at.overflow_add-first c).After-sweep_firsts-firsts)

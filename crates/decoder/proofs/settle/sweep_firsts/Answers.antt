@@ -4,12 +4,11 @@ use mathlib.Core.List.{[]}
 use mathlib.Core.Path.{◌≡◌, ap, ◌∙◌}
 use Rattle.inner_code.specs.Reply.{done}
 use Rattle.wiring.specs.Block.{block_check}
-use Rattle.wiring.specs.Plan.{Plan, plan_of, edge_count, left, right}
+use Rattle.wiring.specs.Plan.{plan_of, edge_count, left, right}
 use Rattle.words.proofs.Marks.{cleared-listening}
 use Rattle.wiring.proofs.Plans.{plan-whole}
 use Rattle.sweeps.proofs.Sweeping.{sweep-block}
 use Rattle.sweeps.proofs.Visiting.{ready-side, ready-left-swept}
-use borrow.Author.Rules.{rules}
 use Rattle.decoder.proofs.settle.sweep_firsts.Goals as goal
 use Rattle.decoder.proofs.settle.sweep_firsts.Goals.{After-sweep_first-first}
 

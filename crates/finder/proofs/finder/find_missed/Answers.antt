@@ -4,7 +4,6 @@ use native.Mathlib.Omega.{arith}
 use lib.ListN.{length-set}
 use Rattle.finder.specs.Finding.{slot_of}
 use Rattle.finder.proofs.Finding.{finds-formed, pays-room, room-few, found-sought}
-use borrow.Author.Rules.{rules}
 use Rattle.finder.proofs.finder.find_missed.Goals as goal
 
 pub single_pattern-single-requires : goal.single_pattern-single-requires

@@ -2,7 +2,6 @@
 use mathlib.Core.Path.{sym, ◌∙◌}
 use Rattle.finder.specs.Finding.{slot_of}
 use Rattle.finder.proofs.Finding.{entry_lt, found-codeword, found-entry, found-kept}
-use borrow.Author.Rules.{rules}
 use Rattle.finder.proofs.finder.find_nearest.Goals as goal
 
 pub returns-then-left-eq0 : goal.returns-then-left-eq0

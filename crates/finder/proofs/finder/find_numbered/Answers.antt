@@ -2,7 +2,6 @@
 use mathlib.Core.Path.{subst⁻¹}
 use Rattle.finder.specs.Finding.{Fewer, Renumbered}
 use Rattle.finder.proofs.Finding.{checked-echelon, renumbered, renumbered-finds, entry_lt, found-numbered}
-use borrow.Author.Rules.{rules}
 use Rattle.finder.proofs.finder.find_numbered.Goals as goal
 use Rattle.finder.proofs.finder.find_numbered.Goals.{After-check_into, After-number_classes}
 
@@ -15,9 +14,9 @@ fewer c =
 
 pub number_classes-requires : goal.number_classes-requires
 number_classes-requires c = record {
-      finder_len = c.requires.finds.sized;
-      fewer = fewer (goal.at.number_classes-requires c).After-check_into;
-    }
+  finder_len = c.requires.finds.sized;
+  fewer = fewer (goal.at.number_classes-requires c).After-check_into;
+}
 
 numbered : (c : After-number_classes)
     → Renumbered c.args.sheet.now c.args.finder.now c.number_classes.new.finder

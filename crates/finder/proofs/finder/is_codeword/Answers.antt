@@ -1,7 +1,6 @@
 -- `finder::is_codeword` meets its contract: what the rows leave is compared with 0.
 use mathlib.Core.Path.{ap}
 use Prim.Native.Nat.{ℕ}
-use borrow.Author.Rules.{rules}
 use lib.Dec.{eqb}
 use Rattle.finder.specs.Finding.{codeword_by}
 use Rattle.finder.proofs.finder.is_codeword.Goals as goal

@@ -8,7 +8,6 @@ use Rattle.inner_code.specs.Sheet.{degree}
 use Rattle.inner_code.proofs.SheetChecks.{Sound, sound}
 use Rattle.finder.specs.Finding.{entries_of, sheet_entries}
 use Rattle.tables.proofs.Tables.{table-length}
-use borrow.Author.Rules.{rules}
 use Rattle.finder.proofs.finder.make_entries.Goals as goal
 use Rattle.finder.proofs.finder.make_entries.Goals.{Start}
 

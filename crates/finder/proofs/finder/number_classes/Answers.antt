@@ -1,7 +1,7 @@
 -- `finder::number_classes` meets its contract: the parts of the finder are put anew one after the other.
 use mathlib.Core.Path.{◌≡◌, sym, ap, ap₂, ◌∙◌, subst}
 use mathlib.Core.List.{List, [], ◌++◌}
-use Prim.Native.Nat.{ℕ, ◌+◌, ◌-◌, ◌*◌, ◌%◌, ◌^◌, ◌≤◌}
+use Prim.Native.Nat.{ℕ, ◌-◌, ◌*◌, ◌%◌, ◌^◌, ◌≤◌}
 use native.Mathlib.Omega.{arith}
 use lib.ListN.{length, get_or, take, drop, set, replicate, length-replicate, length-set}
 use lib.Pow.{pow_mono}
@@ -13,7 +13,6 @@ use Rattle.tables.specs.Answer.{table_bytes}
 use Rattle.finder.specs.Finding.{with_part, power_number, sheet_entries, renumbered_finder}
 use Rattle.tables.proofs.Tables.{size_is}
 use Rattle.finder.proofs.Finding.{part-sized, placed-length}
-use borrow.Author.Rules.{rules}
 use Rattle.finder.proofs.finder.number_classes.Goals as goal
 use Rattle.finder.proofs.finder.number_classes.Goals.{After-make_entries, After-shared_slice_known-3-1, After-tabulate_numbers, After-tabulate_numbers-2, Start}
 
@@ -72,7 +71,7 @@ make_entries-requires c =
     let finder = c.args.finder.now in record {
       sized = record { accepted = c.requires.fewer.accepted; echelon = c.requires.fewer.echelon; sized = part-size (goal.at.make_entries-requires c).After-shared_slice_known-3-1 ∙ size (goal.at.make_entries-requires c).After-shared_slice_known-3-1 };
       costs_room = subst (λ (m : ℕ). length (take (sized (goal.at.make_entries-requires c).After-shared_slice_known-3-1 - 0) (replicate {A = ℕ} 4096 0)) ≤ 2 * m) (sym (length-replicate {A = ℕ} 2048 0))
-            (omega (arith, part-size (goal.at.make_entries-requires c).After-shared_slice_known-3-1, few (goal.at.make_entries-requires c).After-shared_slice_known-3-1));
+          (omega (arith, part-size (goal.at.make_entries-requires c).After-shared_slice_known-3-1, few (goal.at.make_entries-requires c).After-shared_slice_known-3-1));
       entries_room = omega (arith, part-size (goal.at.make_entries-requires c).After-shared_slice_known-3-1, few (goal.at.make_entries-requires c).After-shared_slice_known-3-1, part-sized 544 2048 finder (omega arith));
     }
 
@@ -100,50 +99,50 @@ entries-is c =
 
 abbrev low : After-tabulate_numbers → List ℕ
 low c =
-    let l = entries (record { before = c.before.before.before.before.before.before.before; type_inv = record { sheet = c.shared_slice_known-3-1.given; } }) in
+    let l = entries (record { before = c.before.before.before.before.before.before.before; type_inv = record { sheet = c.shared_slice_known-3-1.given } }) in
     take 32 l ++ (c.tabulate_numbers.new.table ++ drop 256 (drop 32 l))
 
 low-sized : (c : After-tabulate_numbers) → length (low c) ≡ 4640
 low-sized c =
-    let l = entries (record { before = c.before.before.before.before.before.before.before; type_inv = record { sheet = c.shared_slice_known-3-1.given; } }) in
-    let enough : 288 ≤ length l = omega (arith, entries-sized (record { before = c.before.before.before.before.before.before.before; type_inv = record { sheet = c.shared_slice_known-3-1.given; } })) in
+    let l = entries (record { before = c.before.before.before.before.before.before.before; type_inv = record { sheet = c.shared_slice_known-3-1.given } }) in
+    let enough : 288 ≤ length l = omega (arith, entries-sized (record { before = c.before.before.before.before.before.before.before; type_inv = record { sheet = c.shared_slice_known-3-1.given } })) in
     placed-length 32 256 c.tabulate_numbers.new.table l enough
     (c.tabulate_numbers.auto.table ∙ part-sized 32 256 l enough)
-    ∙ entries-sized (record { before = c.before.before.before.before.before.before.before; type_inv = record { sheet = c.shared_slice_known-3-1.given; } })
+    ∙ entries-sized (record { before = c.before.before.before.before.before.before.before; type_inv = record { sheet = c.shared_slice_known-3-1.given } })
 
 low-is : (c : After-tabulate_numbers)
     → let args = c.args in
-    low c ≡ with_part 32 256 (listed (power_number args.basis.now (row_count args.sheet.now) 0) 8) (entries (record { before = c.before.before.before.before.before.before.before; type_inv = record { sheet = c.shared_slice_known-3-1.given; } }))
+    low c ≡ with_part 32 256 (listed (power_number args.basis.now (row_count args.sheet.now) 0) 8) (entries (record { before = c.before.before.before.before.before.before.before; type_inv = record { sheet = c.shared_slice_known-3-1.given } }))
 unfolding with_part
 low-is c =
     let args = c.args in
-    let l = entries (record { before = c.before.before.before.before.before.before.before; type_inv = record { sheet = c.shared_slice_known-3-1.given; } }) in
+    let l = entries (record { before = c.before.before.before.before.before.before.before; type_inv = record { sheet = c.shared_slice_known-3-1.given } }) in
     ap (λ (part : List ℕ). take 32 l ++ (part ++ drop 256 (drop 32 l)))
     (c.tabulate_numbers.ensures
     ∙ ap (λ (k : ℕ). listed (power_number args.basis.now k 0) 8 (take 256 (drop 32 l))) (count-byte args.sheet.now))
 
 abbrev high : After-tabulate_numbers-2 → List ℕ
 high c =
-    let l = low (record { before = c.before.before.before.before.before.before; type_inv = record { sheet = c.shared_slice_known-3-1.given; } }) in
+    let l = low (record { before = c.before.before.before.before.before.before; type_inv = record { sheet = c.shared_slice_known-3-1.given } }) in
     take 288 l ++ (c.tabulate_numbers-2.new.table ++ drop 256 (drop 288 l))
 
 high-sized : (c : After-tabulate_numbers-2) → length (high c) ≡ 4640
 high-sized c =
-    let l = low (record { before = c.before.before.before.before.before.before; type_inv = record { sheet = c.shared_slice_known-3-1.given; } }) in
-    let enough : 544 ≤ length l = omega (arith, low-sized (record { before = c.before.before.before.before.before.before; type_inv = record { sheet = c.shared_slice_known-3-1.given; } })) in
+    let l = low (record { before = c.before.before.before.before.before.before; type_inv = record { sheet = c.shared_slice_known-3-1.given } }) in
+    let enough : 544 ≤ length l = omega (arith, low-sized (record { before = c.before.before.before.before.before.before; type_inv = record { sheet = c.shared_slice_known-3-1.given } })) in
     placed-length 288 256 c.tabulate_numbers-2.new.table l enough
     (c.tabulate_numbers-2.auto.table ∙ part-sized 288 256 l enough)
-    ∙ low-sized (record { before = c.before.before.before.before.before.before; type_inv = record { sheet = c.shared_slice_known-3-1.given; } })
+    ∙ low-sized (record { before = c.before.before.before.before.before.before; type_inv = record { sheet = c.shared_slice_known-3-1.given } })
 
 high_is : (c : After-tabulate_numbers-2)
     → let args = c.args in
     let sheet = args.sheet.now in
-    high c ≡ with_part 288 256 (listed (power_number args.basis.now (row_count sheet) 8) (degree sheet - 8)) (low (record { before = c.before.before.before.before.before.before; type_inv = record { sheet = c.shared_slice_known-3-1.given; } }))
+    high c ≡ with_part 288 256 (listed (power_number args.basis.now (row_count sheet) 8) (degree sheet - 8)) (low (record { before = c.before.before.before.before.before.before; type_inv = record { sheet = c.shared_slice_known-3-1.given } }))
 unfolding with_part
 high_is c =
     let args = c.args in
     let sheet = args.sheet.now in
-    let l = low (record { before = c.before.before.before.before.before.before; type_inv = record { sheet = c.shared_slice_known-3-1.given; } }) in
+    let l = low (record { before = c.before.before.before.before.before.before; type_inv = record { sheet = c.shared_slice_known-3-1.given } }) in
     let digits = c.above_eight.ensures ∙ ap (λ (n : ℕ). n - 8) (degree-byte sheet) in
     ap (λ (part : List ℕ). take 288 l ++ (part ++ drop 256 (drop 288 l)))
     (c.tabulate_numbers-2.ensures

@@ -7,7 +7,6 @@ use lib.Dec.{leb}
 use lib.ListN.{get_or}
 use lib.Pow.{pow_mono}
 use Rattle.bits.proofs.Windows.{shifted_one}
-use borrow.Author.Rules.{rules}
 use Rattle.finder.specs.Finding.{digits_in}
 use Rattle.finder.proofs.Finding.{pays-short, pays-long}
 use Rattle.finder.proofs.finder.numbers_pay.Goals as goal

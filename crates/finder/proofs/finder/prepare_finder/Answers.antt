@@ -3,7 +3,6 @@ use mathlib.Core.Path.{◌≡◌, sym, ap, ◌∙◌, subst⁻¹}
 use mathlib.Core.List.{List, [], ◌++◌}
 use Prim.Native.Nat.{ℕ, ◌-◌, ◌^◌, ◌≤◌, min}
 use native.Mathlib.Omega.{arith}
-use borrow.Author.Rules.{rules}
 use lib.ListN.{length, set, take, drop, length-set}
 use Rattle.finder.specs.Finding.{Finds, power_left, with_part}
 use Rattle.inner_code.specs.Reduction.{listed}
@@ -64,22 +63,22 @@ tabulate-requires-2 c =
 
 abbrev high : After-tabulate-2 → List ℕ
 high c =
-    let l = low (record { before = c.before.before.before.before.before.before; type_inv = record { sheet = c.shared_slice_known-2-1.given; } }) in
+    let l = low (record { before = c.before.before.before.before.before.before; type_inv = record { sheet = c.shared_slice_known-2-1.given } }) in
     take 288 l ++ (c.tabulate-2.new.table ++ drop 256 (drop 288 l))
 
 high-sized : (c : After-tabulate-2) → length (high c) ≡ 4640
 high-sized c =
-    let l = low (record { before = c.before.before.before.before.before.before; type_inv = record { sheet = c.shared_slice_known-2-1.given; } }) in
-    let room : 544 ≤ length l = omega (arith, low-sized (record { before = c.before.before.before.before.before.before; type_inv = record { sheet = c.shared_slice_known-2-1.given; } })) in
-    placed-length 288 256 c.tabulate-2.new.table l room (c.tabulate-2.auto.table ∙ part-sized 288 256 l room) ∙ low-sized (record { before = c.before.before.before.before.before.before; type_inv = record { sheet = c.shared_slice_known-2-1.given; } })
+    let l = low (record { before = c.before.before.before.before.before.before; type_inv = record { sheet = c.shared_slice_known-2-1.given } }) in
+    let room : 544 ≤ length l = omega (arith, low-sized (record { before = c.before.before.before.before.before.before; type_inv = record { sheet = c.shared_slice_known-2-1.given } })) in
+    placed-length 288 256 c.tabulate-2.new.table l room (c.tabulate-2.auto.table ∙ part-sized 288 256 l room) ∙ low-sized (record { before = c.before.before.before.before.before.before; type_inv = record { sheet = c.shared_slice_known-2-1.given } })
 
 high_is : (c : After-tabulate-2)
     → let args = c.args in
-    high c ≡ with_part 288 256 (listed (power_left args.basis.now args.k 8) (degree args.sheet.now - 8)) (low (record { before = c.before.before.before.before.before.before; type_inv = record { sheet = c.shared_slice_known-2-1.given; } }))
+    high c ≡ with_part 288 256 (listed (power_left args.basis.now args.k 8) (degree args.sheet.now - 8)) (low (record { before = c.before.before.before.before.before.before; type_inv = record { sheet = c.shared_slice_known-2-1.given } }))
 unfolding with_part degree
 high_is c =
     let args = c.args in
-    let l = low (record { before = c.before.before.before.before.before.before; type_inv = record { sheet = c.shared_slice_known-2-1.given; } }) in
+    let l = low (record { before = c.before.before.before.before.before.before; type_inv = record { sheet = c.shared_slice_known-2-1.given } }) in
     ap (λ (part : List ℕ). take 288 l ++ (part ++ drop 256 (drop 288 l)))
     (c.tabulate-2.ensures
     ∙ ap (λ (n : ℕ). listed (power_left args.basis.now args.k 8) n (take 256 (drop 288 l))) c.above_eight.ensures)
@@ -89,27 +88,27 @@ slice_bounds-list_codewords-end c = omega (arith, high-sized (goal.at.slice_boun
 
 abbrev words : After-list_codewords-count → List ℕ
 words c =
-    let l = high (record { before = c.before.before.before.before.before; type_inv = record { sheet = c.shared_slice_known-2-1.given; } }) in
+    let l = high (record { before = c.before.before.before.before.before; type_inv = record { sheet = c.shared_slice_known-2-1.given } }) in
     take 2592 l ++ (c.list_codewords-count.new.words ++ drop 2048 (drop 2592 l))
 
 -- the last part has room for every code
-part-all : (c : After-list_codewords-count) → length (take 2048 (drop 2592 (high (record { before = c.before.before.before.before.before; type_inv = record { sheet = c.shared_slice_known-2-1.given; } })))) ≡ 2048
-part-all c = part-sized 2592 2048 (high (record { before = c.before.before.before.before.before; type_inv = record { sheet = c.shared_slice_known-2-1.given; } })) (omega (arith, high-sized (record { before = c.before.before.before.before.before; type_inv = record { sheet = c.shared_slice_known-2-1.given; } })))
+part-all : (c : After-list_codewords-count) → length (take 2048 (drop 2592 (high (record { before = c.before.before.before.before.before; type_inv = record { sheet = c.shared_slice_known-2-1.given } })))) ≡ 2048
+part-all c = part-sized 2592 2048 (high (record { before = c.before.before.before.before.before; type_inv = record { sheet = c.shared_slice_known-2-1.given } })) (omega (arith, high-sized (record { before = c.before.before.before.before.before; type_inv = record { sheet = c.shared_slice_known-2-1.given } })))
 
-room : (c : After-list_codewords-count) → 2 ^ min c.args.k 11 ≤ length (take 2048 (drop 2592 (high (record { before = c.before.before.before.before.before; type_inv = record { sheet = c.shared_slice_known-2-1.given; } }))))
+room : (c : After-list_codewords-count) → 2 ^ min c.args.k 11 ≤ length (take 2048 (drop 2592 (high (record { before = c.before.before.before.before.before; type_inv = record { sheet = c.shared_slice_known-2-1.given } }))))
 room c = omega (arith, part-all c, words-most c.args.k)
 
 words-sized : (c : After-list_codewords-count) → length (words c) ≡ 4640
 words-sized c =
-    let l = high (record { before = c.before.before.before.before.before; type_inv = record { sheet = c.shared_slice_known-2-1.given; } }) in
-    placed-length 2592 2048 c.list_codewords-count.new.words l (omega (arith, high-sized (record { before = c.before.before.before.before.before; type_inv = record { sheet = c.shared_slice_known-2-1.given; } }))) (c.list_codewords-count.auto.words ∙ part-all c) ∙ high-sized (record { before = c.before.before.before.before.before; type_inv = record { sheet = c.shared_slice_known-2-1.given; } })
+    let l = high (record { before = c.before.before.before.before.before; type_inv = record { sheet = c.shared_slice_known-2-1.given } }) in
+    placed-length 2592 2048 c.list_codewords-count.new.words l (omega (arith, high-sized (record { before = c.before.before.before.before.before; type_inv = record { sheet = c.shared_slice_known-2-1.given } }))) (c.list_codewords-count.auto.words ∙ part-all c) ∙ high-sized (record { before = c.before.before.before.before.before; type_inv = record { sheet = c.shared_slice_known-2-1.given } })
 
 words-is : (c : After-list_codewords-count)
     → let args = c.args in
-    words c ≡ with_part 2592 2048 (listed (row_of args.sheet.now) (min args.k 11)) (high (record { before = c.before.before.before.before.before; type_inv = record { sheet = c.shared_slice_known-2-1.given; } }))
+    words c ≡ with_part 2592 2048 (listed (row_of args.sheet.now) (min args.k 11)) (high (record { before = c.before.before.before.before.before; type_inv = record { sheet = c.shared_slice_known-2-1.given } }))
 unfolding with_part
 words-is c =
-    let l = high (record { before = c.before.before.before.before.before; type_inv = record { sheet = c.shared_slice_known-2-1.given; } }) in
+    let l = high (record { before = c.before.before.before.before.before; type_inv = record { sheet = c.shared_slice_known-2-1.given } }) in
     ap (λ (part : List ℕ). take 2592 l ++ (part ++ drop 2048 (drop 2592 l))) (c.list_codewords-count.ensures.room (room c)).1
 
 pub overflow_cast-finder : goal.overflow_cast-finder

@@ -1,7 +1,5 @@
 -- `finder::single_pattern` meets its contract: after b turns `found` tells of the powers of 2 below 2^b.
-use mathlib.Core.Logic.{⊎_elim}
 use mathlib.Core.Path.{◌≡◌, sym, ap, ap₂, ◌∙◌}
-use Prim.Native.Nat.{◌-◌, ◌≤◌}
 use borrow.Author.Rules.{rules}
 use native.Mathlib.Omega.{arith}
 use Rattle.finder.specs.Finding.{left_in, single_more, single_below}
@@ -25,10 +23,10 @@ loop-b-preserved c =
     let left = c.left_of.ensures ∙ ap (left_in args.finder.now) is in (
       search rules,
       (elim c.if-left_of-left.branch [
-          | then-left_of-left w ↦ w.found-is ∙ w.single_more-found.ensures ∙ ap₂ single_more c.loop-b.invariant.1 is
-          ∙ single-met args.finder.now args.left c.loop-b.b (sym left ∙ w.if-left_of-left.true)
-          | else-left_of-left w ↦ w.found-is ∙ c.loop-b.invariant.1 ∙ single-missed args.finder.now args.left c.loop-b.b (λ e. w.if-left_of-left.false (left ∙ e))
-        ]),
+        | then-left_of-left w ↦ w.found-is ∙ w.single_more-found.ensures ∙ ap₂ single_more c.loop-b.invariant.1 is
+            ∙ single-met args.finder.now args.left c.loop-b.b (sym left ∙ w.if-left_of-left.true)
+        | else-left_of-left w ↦ w.found-is ∙ c.loop-b.invariant.1 ∙ single-missed args.finder.now args.left c.loop-b.b (λ e. w.if-left_of-left.false (left ∙ e))
+      ]),
     )
 
 pub returns : goal.returns

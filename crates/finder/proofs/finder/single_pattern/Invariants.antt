@@ -1,11 +1,6 @@
-use mathlib.Core.Logic.{⊎_elim}
-use mathlib.Core.Path.{◌≡◌, sym, ap, ap₂, ◌∙◌}
+use mathlib.Core.Path.{◌≡◌}
 use Prim.Native.Nat.{◌-◌, ◌≤◌}
-use borrow.Author.Rules.{rules}
-use native.Mathlib.Omega.{arith}
-use Rattle.finder.specs.Finding.{left_in, single_more, single_below}
-use Rattle.bits.proofs.Windows.{shifted_one}
-use Rattle.finder.proofs.Finding.{single-few, single-all, single-start, single-met, single-missed}
+use Rattle.finder.specs.Finding.{single_below}
 use Rattle.finder.proofs.finder.single_pattern.Given as goal
 
 abbrev pub invariant-loop-b : goal.invariant-loop-b

@@ -2,7 +2,6 @@
 use mathlib.Core.Path.{ap, ◌∙◌}
 use Rattle.inner_code.specs.Reduction.{step_to}
 use Rattle.finder.proofs.Finding.{sought-searched, sought-single}
-use borrow.Author.Rules.{rules}
 use Rattle.finder.proofs.finder.sought.Goals as goal
 
 pub returns-then-single-eq0 : goal.returns-then-single-eq0

@@ -1,18 +1,8 @@
-use mathlib.Core.Path.{◌≡◌, refl, sym, ap, ap₂, ◌∙◌}
-use mathlib.Core.List.{List}
-use Prim.Native.Nat.{ℕ, ◌+◌, ◌-◌, ◌^◌, ◌≤◌, min}
-use borrow.Author.Rules.{rules}
-use native.Mathlib.Omega.{arith}
-use native.Mathlib.Nat.{pow-suc}
-use native.Mathlib.Numerals.{add-one}
-use lib.ListN.{length, set, length-set}
-use lib.Seq.{set-set}
-use Rattle.bits.specs.Window.{at}
-use Rattle.inner_code.specs.Reduction.{reduced_by, doubled, listed}
+use mathlib.Core.Path.{◌≡◌}
+use Prim.Native.Nat.{◌-◌, ◌^◌, ◌≤◌}
+use lib.ListN.{length}
+use Rattle.inner_code.specs.Reduction.{listed}
 use Rattle.finder.specs.Finding.{power_left}
-use Rattle.bits.proofs.Windows.{shifted_one}
-use Rattle.inner_code.proofs.Listings.{length-doubled, listed-one-more, listed-again}
-use Rattle.finder.proofs.Finding.{count_fits}
 use Rattle.finder.proofs.finder.tabulate.Given as goal
 
 abbrev pub invariant-loop-b : goal.invariant-loop-b

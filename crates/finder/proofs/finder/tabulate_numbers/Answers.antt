@@ -1,7 +1,7 @@
 -- `finder::tabulate_numbers` meets its contract: after b turns the classes' numbers of the numbers of b digits are listed.
 use mathlib.Core.Path.{◌≡◌, refl, sym, ap, ap₂, ◌∙◌}
 use mathlib.Core.List.{List}
-use Prim.Native.Nat.{ℕ, ◌+◌, ◌-◌, ◌^◌, ◌≤◌, min}
+use Prim.Native.Nat.{ℕ, ◌+◌, ◌^◌, min}
 use borrow.Author.Rules.{rules}
 use native.Mathlib.Omega.{arith}
 use native.Mathlib.Nat.{pow-suc}
@@ -11,7 +11,7 @@ use lib.Seq.{set-set}
 use Rattle.bits.specs.Window.{at}
 use Rattle.inner_code.specs.Reduction.{reduced_by, doubled, listed}
 use Rattle.finder.specs.Finding.{power_left, power_number}
-use Rattle.tables.specs.Numbering.{free_mask, squeezed_by}
+use Rattle.tables.specs.Numbering.{squeezed_by}
 use Rattle.bits.proofs.Windows.{shifted_one}
 use Rattle.inner_code.proofs.Listings.{length-doubled, listed-one-more, listed-again}
 use Rattle.finder.proofs.Finding.{count_fits}

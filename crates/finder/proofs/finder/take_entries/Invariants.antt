@@ -1,11 +1,7 @@
-use mathlib.Core.Path.{◌≡◌, refl, sym, ap, ap₂, ◌∙◌}
-use mathlib.Core.List.{List}
-use Prim.Native.Nat.{ℕ, ◌-◌, ◌/◌, ◌≤◌}
-use native.Mathlib.Omega.{arith}
-use lib.ListN.{length, set, length-set}
-use Rattle.finder.specs.Finding.{entry_pattern, entries_of}
-use Rattle.finder.proofs.Finding.{entries-one-more}
-use borrow.Author.Rules.{rules}
+use mathlib.Core.Path.{◌≡◌}
+use Prim.Native.Nat.{◌-◌, ◌≤◌}
+use lib.ListN.{length}
+use Rattle.finder.specs.Finding.{entries_of}
 use Rattle.finder.proofs.finder.take_entries.Given as goal
 
 abbrev pub invariant-loop-c : goal.invariant-loop-c

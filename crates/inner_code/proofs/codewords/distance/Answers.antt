@@ -1,12 +1,9 @@
 -- `inner_code::distance` meets its contract: after m turns `fewest` is the fewest ones of the first m words.
 use mathlib.Core.Path.{◌≡◌, ap, ◌∙◌}
-use mathlib.Core.Logic.{⊎_elim}
-use Prim.Native.Nat.{◌≤◌, ◌-◌}
 use borrow.Author.Rules.{rules}
 use native.Mathlib.Omega.{arith}
 use lib.ListN.{length}
 use Rattle.bits.specs.Window.{at}
-use Rattle.bits.specs.Search.{least}
 use Rattle.inner_code.specs.Reduction.{fewest_ones}
 use Rattle.inner_code.proofs.InnerDistance.{fewest-lower, fewest-kept, fewest-zero}
 use Rattle.inner_code.proofs.codewords.distance.Goals as goal

@@ -1,13 +1,8 @@
-use mathlib.Core.Path.{◌≡◌, ap, ◌∙◌}
-use mathlib.Core.Logic.{⊎_elim}
+use mathlib.Core.Path.{◌≡◌}
 use Prim.Native.Nat.{◌≤◌, ◌-◌}
-use borrow.Author.Rules.{rules}
-use native.Mathlib.Omega.{arith}
 use lib.ListN.{length}
 use Rattle.bits.specs.Window.{at}
-use Rattle.bits.specs.Search.{least}
 use Rattle.inner_code.specs.Reduction.{fewest_ones}
-use Rattle.inner_code.proofs.InnerDistance.{fewest-lower, fewest-kept, fewest-zero}
 use Rattle.inner_code.proofs.codewords.distance.Given as goal
 
 abbrev pub invariant-loop-m : goal.invariant-loop-m

@@ -1,12 +1,7 @@
-use mathlib.Core.Path.{◌≡◌, refl, sym, ap, ◌∙◌}
-use Prim.Native.Nat.{ℕ, ◌+◌, ◌≤◌, ◌-◌}
-use borrow.Author.Rules.{rules}
-use native.Mathlib.Omega.{arith}
-use mathlib.Core.List.{List}
-use lib.ListN.{length, get_or, set, length-set}
-use lib.Bits.{bit_xor}
+use mathlib.Core.Path.{◌≡◌}
+use Prim.Native.Nat.{◌≤◌, ◌-◌}
+use lib.ListN.{length}
 use Rattle.inner_code.specs.Reduction.{doubled}
-use Rattle.inner_code.proofs.Listings.{doubled-one-more}
 use Rattle.inner_code.proofs.codewords.double.Given as goal
 
 abbrev pub invariant-loop-m : goal.invariant-loop-m

@@ -1,7 +1,7 @@
 -- `inner_code::list_codewords` meets its contract: after i turns the codewords of the first i rows are listed.
 use mathlib.Core.Path.{◌≡◌, refl, sym, ap, ap₂, ◌∙◌}
 use mathlib.Core.List.{List}
-use Prim.Native.Nat.{ℕ, suc, ◌*◌, ◌≤◌, ◌-◌, ◌%◌, ◌^◌, min}
+use Prim.Native.Nat.{ℕ, suc, ◌*◌, ◌≤◌, ◌%◌, ◌^◌, min}
 use borrow.Author.Rules.{rules}
 use native.Mathlib.Omega.{arith}
 use native.Mathlib.Nat.{pow-suc}
@@ -29,7 +29,7 @@ returns-then-words-rows c = record { room = λ h. absurd (omega (arith, limit (g
 -- past the test they have room
 room : (c : Else-words-rows)
     → 2 ^ min c.args.k 11 ≤ length c.args.words.now
-room c = omega (arith, limit (record { before = c.before.before; type_inv = record { words = c.slice_known-1.given; sheet = c.shared_slice_known-1.given; } }))
+room c = omega (arith, limit (record { before = c.before.before; type_inv = record { words = c.slice_known-1.given; sheet = c.shared_slice_known-1.given } }))
 
 pub bounds-words-0 : goal.bounds-words-0
 bounds-words-0 c = omega (arith, room c, pow_pos (min c.args.k 11))

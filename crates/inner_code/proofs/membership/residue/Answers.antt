@@ -1,7 +1,6 @@
 -- `inner_code::residue` meets its contract: after i turns `left` is the word reduced by the first i rows.
 use mathlib.Core.Path.{◌≡◌, ap, ◌∙◌}
-use mathlib.Core.Logic.{⊎_elim}
-use Prim.Native.Nat.{ℕ, ◌≤◌, ◌-◌, min}
+use Prim.Native.Nat.{ℕ, min}
 use borrow.Author.Rules.{rules}
 use native.Mathlib.Omega.{arith}
 use Rattle.bits.specs.Window.{at}
@@ -29,9 +28,9 @@ loop-i-preserved c =
       search rules,
       search rules,
       (elim c.if-put-left.branch [
-          | then-put-left w ↦ w.left-is ∙ reduced_by-put basis before.i args.word before.left before.invariant.2 w.if-put-left.true
-          | else-put-left w ↦ w.left-is ∙ reduced_by-kept basis before.i args.word before.left before.invariant.2 w.if-put-left.false
-        ]),
+        | then-put-left w ↦ w.left-is ∙ reduced_by-put basis before.i args.word before.left before.invariant.2 w.if-put-left.true
+        | else-put-left w ↦ w.left-is ∙ reduced_by-kept basis before.i args.word before.left before.invariant.2 w.if-put-left.false
+      ]),
     )
 
 pub returns : goal.returns

@@ -1,11 +1,7 @@
-use mathlib.Core.Path.{◌≡◌, ap, ◌∙◌}
-use mathlib.Core.Logic.{⊎_elim}
-use Prim.Native.Nat.{ℕ, ◌≤◌, ◌-◌, min}
-use borrow.Author.Rules.{rules}
-use native.Mathlib.Omega.{arith}
+use mathlib.Core.Path.{◌≡◌}
+use Prim.Native.Nat.{◌≤◌, ◌-◌}
 use Rattle.bits.specs.Window.{at}
 use Rattle.inner_code.specs.Reduction.{reduced_by}
-use Rattle.inner_code.proofs.EchelonForm.{reduced_by-put, reduced_by-kept}
 use Rattle.inner_code.proofs.membership.residue.Given as goal
 
 abbrev pub invariant-loop-i : goal.invariant-loop-i

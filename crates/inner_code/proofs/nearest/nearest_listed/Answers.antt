@@ -1,13 +1,12 @@
 -- `inner_code::nearest_listed` meets its contract: after m turns `least` and `back` are the least keys of the patterns to the first m words.
 use mathlib.Core.Path.{◌≡◌, sym, ap, ap₂, ◌∙◌}
-use Prim.Native.Nat.{ℕ, ◌≤◌, ◌<◌, ◌-◌, ◌^◌, ◌%◌, min}
+use Prim.Native.Nat.{ℕ, ◌<◌, ◌-◌, ◌^◌, ◌%◌, min}
 use borrow.Author.Rules.{rules}
 use native.Mathlib.Omega.{arith}
 use lib.ListN.{length, get_or}
 use lib.Bits.{bit_xor, xor_lt}
 use lib.Count.{ones-le}
 use Rattle.bits.specs.Window.{at}
-use Rattle.bits.specs.Search.{least}
 use Rattle.bits.proofs.Searches.{least-one-more}
 use Rattle.inner_code.specs.Code.{key, no_key}
 use Rattle.inner_code.specs.Reduction.{least_key, back_key, least_back, sole, searched, step_to}

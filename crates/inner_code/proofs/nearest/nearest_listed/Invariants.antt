@@ -1,15 +1,8 @@
-use mathlib.Core.Path.{◌≡◌, sym, ap, ap₂, ◌∙◌}
-use Prim.Native.Nat.{ℕ, ◌≤◌, ◌<◌, ◌-◌, ◌^◌, ◌%◌, min}
-use borrow.Author.Rules.{rules}
-use native.Mathlib.Omega.{arith}
-use lib.ListN.{length, get_or}
-use lib.Bits.{bit_xor, xor_lt}
-use lib.Count.{ones-le}
+use mathlib.Core.Path.{◌≡◌}
+use Prim.Native.Nat.{◌≤◌, ◌-◌}
+use lib.ListN.{length}
 use Rattle.bits.specs.Window.{at}
-use Rattle.bits.specs.Search.{least}
-use Rattle.bits.proofs.Searches.{least-one-more}
-use Rattle.inner_code.specs.Code.{key, no_key}
-use Rattle.inner_code.specs.Reduction.{least_key, back_key, least_back, sole, searched, step_to}
+use Rattle.inner_code.specs.Reduction.{least_key, least_back}
 use Rattle.inner_code.proofs.nearest.nearest_listed.Given as goal
 
 abbrev pub invariant-loop-m : goal.invariant-loop-m

@@ -1,5 +1,4 @@
 -- `inner_code::nearest_of_rows` meets its contract: either array has room for the codewords that are listed there.
-use borrow.Author.Rules.{rules}
 use native.Mathlib.Omega.{arith}
 use lib.Pow.{pow_mono}
 use Rattle.inner_code.proofs.Listings.{words-most}

@@ -2,8 +2,7 @@
 -- listed codewords finds the nearest word.
 use mathlib.Core.Path.{◌≡◌, refl, sym, ap, ap₂, ◌∙◌}
 use mathlib.Core.List.{[], ◌∷◌}
-use Prim.Native.Nat.{ℕ, ◌*◌, ◌-◌, ◌%◌, ◌^◌, ◌≤◌, ◌<◌, min}
-use borrow.Author.Rules.{rules}
+use Prim.Native.Nat.{ℕ, ◌*◌, ◌%◌, ◌^◌, ◌≤◌, ◌<◌, min}
 use native.Mathlib.Omega.{arith}
 use native.Mathlib.Nat.{min-eq_left, one-mul}
 use lib.Pow.{pow_mono}
@@ -40,7 +39,7 @@ returns-then-d-word c =
 
 low : (c : Else-d-word) → let args = c.args in args.word < 2 ^ degree args.sheet.now
 low c =
-    let p = plan (record { before = c.before.before; type_inv = record { sheet = c.shared_slice_known-1.given; } }) in
+    let p = plan (record { before = c.before.before; type_inv = record { sheet = c.shared_slice_known-1.given } }) in
     omega
     (arith, power _ p.sheet-sound.degree-high, ap (λ (d : ℕ). (1 * 2 ^ d) % 18446744073709551616) p.d-is, c.if-d-word.false)
 

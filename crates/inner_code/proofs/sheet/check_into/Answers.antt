@@ -1,7 +1,6 @@
 -- `inner_code::check_into` meets its contract: each return is the outcome of the first test that holds.
 use mathlib.Core.Path.{sym, ◌∙◌}
 use mathlib.Core.Logic.{inl, inr}
-use borrow.Author.Rules.{rules}
 use native.Mathlib.Omega.{arith}
 use Rattle.inner_code.specs.Sheet.{degree, row_count}
 use Rattle.inner_code.proofs.SheetChecks.{refused-into, sheet-short, sheet-degree, sheet-count, sheet-length, sheet-rows-answer}

@@ -1,14 +1,13 @@
 -- `inner_code::check_rows` meets its contract: after i turns the rows below i are sound, and their echelon form stands in `basis`.
 use mathlib.Core.Path.{◌≡◌, refl, sym, ap, ap₂, ◌∙◌}
-use mathlib.Core.List.{List, []}
-use Prim.Native.Nat.{ℕ, ◌≤◌, ◌<◌, ◌-◌, ◌^◌, min}
+use mathlib.Core.List.{List}
+use Prim.Native.Nat.{ℕ, ◌≤◌, ◌<◌, ◌^◌, min}
 use borrow.Author.Rules.{rules}
 use native.Mathlib.Omega.{arith}
 use native.Mathlib.Nat.{min-eq_left}
 use lib.ListN.{length, set}
 use Rattle.bits.specs.Window.{at}
 use Rattle.bits.proofs.Windows.{shifted_one}
-use Rattle.inner_code.specs.Reply.{done}
 use Rattle.inner_code.specs.Sheet.{row_of, rows_check}
 use Rattle.inner_code.specs.Reduction.{with_echelon, echelon, reduced_by}
 use Rattle.inner_code.proofs.EchelonForm.{length-with_echelon, with_echelon-one-more, reduced_by-stored}

@@ -1,5 +1,4 @@
 -- `inner_code::check_sheet` meets its contract: the check is made over zeros.
-use borrow.Author.Rules.{rules}
 use Rattle.inner_code.proofs.sheet.check_sheet.Goals as goal
 
 pub returns : goal.returns

@@ -3,7 +3,6 @@ use mathlib.Core.Path.{sym}
 use Prim.Native.Nat.{◌+◌}
 use native.Mathlib.Nat.{le_refl}
 use native.Mathlib.Omega.{arith}
-use borrow.Author.Rules.{rules}
 use Rattle.margin.proofs.MarginInputs.{sheet-cut, sheet-whole}
 use Rattle.margin.proofs.margin_input.sheet_end.Goals as goal
 

@@ -2,7 +2,6 @@
 use mathlib.Core.Path.{sym}
 use native.Mathlib.Nat.{min-eq_left, min-eq_right}
 use native.Mathlib.Omega.{arith}
-use borrow.Author.Rules.{rules}
 use Rattle.margin.proofs.MarginInputs.{parts_are}
 use Rattle.margin.proofs.margin_input.split_input.Goals as goal
 

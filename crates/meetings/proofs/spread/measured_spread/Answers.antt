@@ -1,12 +1,11 @@
 -- `meetings::measured_spread` meets its contract: the vertices that are noted are those of the wiring, and the walks over them count the
 -- meeting numbers.
-use mathlib.Core.Path.{◌≡◌, sym, ap, subst, ◌∙◌}
+use mathlib.Core.Path.{sym, subst}
 use Prim.Native.Nat.{ℕ, ◌≤◌}
 use native.Mathlib.Omega.{arith}
 use lib.ListN.{length, replicate, length-replicate}
 use Rattle.inner_code.specs.Sheet.{degree}
-use Rattle.wiring.specs.Plan.{Plan, plan_of, edge_count, side_of}
-use Rattle.meetings.specs.Spread.{spread}
+use Rattle.wiring.specs.Plan.{Plan, plan_of, edge_count}
 use Rattle.wiring.specs.Checking.{WiredPlan}
 use Rattle.wiring.proofs.EdgeEnds.{wired-notable}
 use Rattle.wiring.proofs.Permutation.{fitted-edges}

@@ -1,6 +1,6 @@
 -- `meetings::plan_spread` meets its contract: a refusal of the plan's check is handed on, and of an accepted plan the measure gives the
 -- spread.
-use mathlib.Core.Path.{refl, sym}
+use mathlib.Core.Path.{sym}
 use Rattle.wiring.specs.Plan.{plan_of}
 use Rattle.wiring.proofs.Plans.{PlanAccepted, plan-accepted, plan-refused}
 use Rattle.meetings.proofs.Answers.{spread-refused, spread-done}

@@ -1,12 +1,10 @@
 -- `panel::load_state` meets its contract: a block whose vertices are not counted, or that finds no room, is turned back, and any other is put
 -- behind its count.
-use mathlib.Core.List.{List, [], ◌∷◌}
+use mathlib.Core.List.{[], ◌∷◌}
 use mathlib.Core.Path.{◌≡◌, ap}
-use Prim.Native.Nat.{ℕ}
 use native.Mathlib.Omega.{arith}
-use borrow.Author.Rules.{rules}
 use Rattle.inner_code.specs.Reply.{done}
-use Rattle.wiring.specs.Plan.{Plan, plan_of}
+use Rattle.wiring.specs.Plan.{plan_of}
 use Rattle.unsatisfied.specs.Answer.{counted_reply}
 use Rattle.panel.proofs.Returns.{load-block-refused, load-no-room, load_low, load-put}
 use Rattle.panel.proofs.load.load_state.Goals as goal
@@ -15,7 +13,6 @@ use Rattle.panel.proofs.load.load_state.Goals.{After-count_unsatisfied, In-Told}
 -- ---- the block is counted
 
 module _ (c : In-Told) where
-
   told : counted_reply c.count_unsatisfied.result ≡ done (c.in-Told.count ∷ [])
   told = ap counted_reply c.in-Told.is
 

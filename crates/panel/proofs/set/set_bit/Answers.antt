@@ -1,12 +1,10 @@
 -- `panel::set_bit` meets its contract: the block is lent on with the bit to set, and where the bit is set the count moves by the change that is
 -- told.
-use mathlib.Core.List.{List, [], ◌∷◌}
+use mathlib.Core.List.{[], ◌∷◌}
 use mathlib.Core.Path.{◌≡◌, ap}
 use native.Mathlib.Omega.{arith}
-use Prim.Native.Nat.{ℕ}
-use borrow.Author.Rules.{rules}
 use Rattle.inner_code.specs.Reply.{done}
-use Rattle.wiring.specs.Plan.{Plan, plan_of}
+use Rattle.wiring.specs.Plan.{plan_of}
 use Rattle.unsatisfied.specs.Answer.{counted_reply}
 use Rattle.panel.proofs.Returns.{SetLent, set-lent, set-too-short, set-block-refused, set-low, set-put}
 use Rattle.panel.proofs.set.set_bit.Goals as goal
@@ -19,14 +17,12 @@ returns-then-state-lt-HEAD c =
 -- ---- the block is lent on
 
 module _ (c : After-set_bit) where
-
   lent : SetLent (plan_of c.args.left.now c.args.right.now c.args.nl c.args.nr c.args.wiring.now) c.args.bit c.args.value (c.args.state.now) (counted_reply c.set_bit.result) c.set_bit.new.block
   lent =
       set-lent (plan_of c.args.left.now c.args.right.now c.args.nl c.args.nr c.args.wiring.now) c.args.bit c.args.value (c.args.state.now) c.if-state-lt-HEAD.false c.one_or_zero.ensures
       c.set_bit.ensures.result_value c.set_bit.ensures.block_after
 
 module _ (c : In-Told) where
-
   told : counted_reply c.set_bit.result ≡ done (c.in-Told.change ∷ [])
   told = ap counted_reply c.in-Told.is
 

@@ -1,10 +1,9 @@
 -- `panel::check_state` meets its contract: a state that has the bytes before a block is refused or passes as its plan and then its block are.
 use mathlib.Core.Path.{sym, ap₂, ◌∙◌}
 use native.Mathlib.Omega.{arith}
-use borrow.Author.Rules.{rules}
 use Rattle.inner_code.proofs.Replies.{and_then-passed, and_then-refused}
 use Rattle.wiring.specs.Block.{block_check}
-use Rattle.wiring.specs.Plan.{Plan, plan_of}
+use Rattle.wiring.specs.Plan.{plan_of}
 use Rattle.wiring.proofs.Permutation.{fitted-edges}
 use Rattle.wiring.proofs.Plans.{PlanAccepted, plan-accepted, plan-refused, accepted-edges}
 use Rattle.panel.proofs.States.{block-lent}

@@ -1,5 +1,4 @@
 -- `panel::put_head` meets its contract: its four stores are those of the bytes before a block.
-use borrow.Author.Rules.{rules}
 use native.Mathlib.Omega.{arith}
 use lib.ListN.{length-set}
 use Rattle.panel.proofs.States.{head-stored}

@@ -1,6 +1,5 @@
 -- `panel::refuse_short` meets its contract: it answers with the plan's refusal, and with 11 where there is none.
 use mathlib.Core.Path.{sym}
-use borrow.Author.Rules.{rules}
 use Rattle.inner_code.proofs.Replies.{and_then-passed, and_then-refused}
 use Rattle.wiring.proofs.Plans.{plan-accepted, plan-refused}
 use Rattle.panel.proofs.state.refuse_short.Goals as goal

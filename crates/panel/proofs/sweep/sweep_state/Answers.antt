@@ -1,13 +1,11 @@
 -- `panel::sweep_state` meets its contract: a settled state is kept, one that has made all its sweeps is turned back, and any other lends its
 -- block on to one sweep, by whose change its count moves. All of them follow the check of the state.
-use mathlib.Core.List.{List, [], ◌∷◌}
+use mathlib.Core.List.{[], ◌∷◌}
 use mathlib.Core.Path.{◌≡◌, ap}
-use Prim.Native.Nat.{ℕ}
 use native.Mathlib.Omega.{arith}
-use borrow.Author.Rules.{rules}
 use Rattle.inner_code.specs.Reply.{done}
 use Rattle.wiring.specs.Checking.{check_reply}
-use Rattle.wiring.specs.Plan.{Plan, plan_of}
+use Rattle.wiring.specs.Plan.{plan_of}
 use Rattle.unsatisfied.specs.Answer.{counted_reply}
 use Rattle.panel.proofs.Returns.{SweptLent, sweep-lent, sweep-too-short, sweep-state-refused, sweep-block-refused}
 use Rattle.panel.proofs.Returns.{sweep-settled, sweep-over, sweep-low, sweep-put}
@@ -41,14 +39,12 @@ returns-in-Passed-check_state c =
 -- ---- the block is lent on
 
 module _ (c : After-sweep_once) where
-
   lent : SweptLent (plan_of c.args.left.now c.args.right.now c.args.nl c.args.nr c.args.wiring.now) (c.args.state.now) (counted_reply c.sweep_once.result) c.sweep_once.new.block
   lent =
       sweep-lent (plan_of c.args.left.now c.args.right.now c.args.nl c.args.nr c.args.wiring.now) (c.args.state.now) c.read_head-head.ensures.sweeps_value.0 c.if-state-lt-HEAD.false
       c.side_at-side.ensures c.sweep_once.ensures.result_value c.sweep_once.ensures.block_after
 
 module _ (c : In-Told) where
-
   told : counted_reply c.sweep_once.result ≡ done (c.in-Told.change ∷ [])
   told = ap counted_reply c.in-Told.is
 

@@ -8,7 +8,6 @@ use native.Mathlib.Omega.{arith}
 use borrow.Author.Rules.{rules}
 use Rattle.radius.specs.Margin.{slack, step_covered, next_bound}
 use Rattle.radius.specs.Ranges.{measures_by}
-use Rattle.radius.specs.declared.numbers.PlanNumbers.{PlanNumbers}
 use Rattle.wiring.specs.Plan.{right}
 use Rattle.wiring.specs.declared.side.SideName.{SideName}
 use Rattle.radius.proofs.MarginChain.{sweeps_from, covered-slack, next-falls, slack-covered}

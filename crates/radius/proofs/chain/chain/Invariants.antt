@@ -1,16 +1,9 @@
-use Prim.Native.Nat.{ℕ, ◌+◌, ◌-◌, ◌*◌, ◌/◌, ◌^◌, ◌≤◌, ◌<◌}
-use mathlib.Core.Bool.{true}
-use mathlib.Core.Path.{◌≡◌, sym, ap, ap₂, ◌∙◌}
-use native.Mathlib.Nat.{mul-le-mul, mul-pos}
-use native.Mathlib.Omega.{arith}
-use borrow.Author.Rules.{rules}
-use Rattle.radius.specs.Margin.{slack, step_covered, next_bound}
+use Prim.Native.Nat.{◌+◌, ◌≤◌}
+use mathlib.Core.Path.{◌≡◌}
 use Rattle.radius.specs.Ranges.{measures_by}
-use Rattle.radius.specs.declared.numbers.PlanNumbers.{PlanNumbers}
 use Rattle.wiring.specs.Plan.{right}
-use Rattle.wiring.specs.declared.side.SideName.{SideName}
-use Rattle.radius.proofs.MarginChain.{sweeps_from, covered-slack, next-falls, slack-covered}
-use Rattle.radius.proofs.ChainWalk.{counted, walk-starts, walk_steps, walk-stops, walk_ends}
+use Rattle.radius.proofs.MarginChain.{sweeps_from}
+use Rattle.radius.proofs.ChainWalk.{counted}
 use Rattle.radius.proofs.chain.chain.Given as goal
 
 abbrev pub invariant-loop-b : goal.invariant-loop-b

@@ -1,10 +1,9 @@
 -- `radius::first_uncovered` meets its contract: each F passed is covered, so it is at most N, which ends the loop.
-use Prim.Native.Nat.{ℕ, ◌+◌, ◌-◌, ◌*◌, ◌≤◌, ◌<◌}
+use Prim.Native.Nat.{◌*◌, ◌≤◌, ◌<◌}
 use mathlib.Core.Path.{sym, ◌∙◌}
 use native.Mathlib.Nat.{not-suc-le-zero}
 use native.Mathlib.Omega.{arith}
 use borrow.Author.Count.{below_more}
-use borrow.Author.Rules.{rules}
 use Rattle.wiring.proofs.Permutation.{edges_le}
 use Rattle.radius.specs.Margin.{sweeps_named}
 use Rattle.radius.specs.Ranges.{measures_by}

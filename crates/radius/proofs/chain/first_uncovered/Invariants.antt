@@ -1,14 +1,6 @@
-use Prim.Native.Nat.{ℕ, ◌+◌, ◌-◌, ◌*◌, ◌≤◌, ◌<◌}
-use mathlib.Core.Path.{sym, ◌∙◌}
-use native.Mathlib.Nat.{not-suc-le-zero}
-use native.Mathlib.Omega.{arith}
-use borrow.Author.Count.{below_more}
-use borrow.Author.Rules.{rules}
-use Rattle.wiring.proofs.Permutation.{edges_le}
+use Prim.Native.Nat.{ℕ, ◌+◌, ◌-◌, ◌*◌, ◌<◌}
 use Rattle.radius.specs.Margin.{sweeps_named}
 use Rattle.radius.specs.Ranges.{measures_by}
-use Rattle.radius.proofs.MarginChain.{named_small}
-use Rattle.radius.proofs.Uncovered.{beyond-is}
 use Rattle.radius.proofs.chain.first_uncovered.Given as goal
 
 abbrev pub invariant-loop-plan : goal.invariant-loop-plan

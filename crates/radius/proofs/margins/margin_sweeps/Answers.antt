@@ -3,10 +3,9 @@
 use mathlib.Core.Path.{sym, ap, ◌∙◌}
 use mathlib.Core.List.{[], ◌∷◌}
 use Prim.Native.Nat.{ℕ, ◌≤◌}
-use borrow.Author.Rules.{rules}
 use native.Mathlib.Omega.{arith}
 use Rattle.inner_code.specs.Reply.{done}
-use Rattle.wiring.specs.Plan.{Plan, plan_of, edge_count}
+use Rattle.wiring.specs.Plan.{plan_of, edge_count}
 use Rattle.wiring.proofs.Permutation.{fitted-edges}
 use Rattle.wiring.proofs.Plans.{PlanAccepted, plan-accepted, plan-refused, accepted-edges}
 use Rattle.radius.proofs.Answers.{margin-plan, margin-over, margin-uncovered, margin-covered}
@@ -25,13 +24,13 @@ pub returns-then-edges-flips : goal.returns-then-edges-flips
 returns-then-edges-flips c = sym (margin-over _ _ (plan (goal.at.returns-then-edges-flips c).After-struct_known-1).plan-done (rw (← accepted-edges (plan (goal.at.returns-then-edges-flips c).After-struct_known-1)) c.if-edges-flips.true))
 
 within : (c : Else-edges-flips) → c.args.flips ≤ edge_count (plan_of c.args.left.now c.args.right.now c.args.nl c.args.nr c.args.wiring.now)
-within c = rw (← accepted-edges (plan (record { before = c.before.before; type_inv = record { wiring = c.shared_slice_known-3-1.given; right = c.shared_slice_known-2-1.given; left = c.shared_slice_known-1.given; } }))) c.if-edges-flips.false
+within c = rw (← accepted-edges (plan (record { before = c.before.before; type_inv = record { wiring = c.shared_slice_known-3-1.given; right = c.shared_slice_known-2-1.given; left = c.shared_slice_known-1.given } }))) c.if-edges-flips.false
 
 pub measured_sweeps-sweeps-requires : goal.measured_sweeps-sweeps-requires
 measured_sweeps-sweeps-requires c = record {
-      plan_value = (plan (goal.at.measured_sweeps-sweeps-requires c).After-struct_known-1).plan-done;
-      flips_bound = within c;
-    }
+  plan_value = (plan (goal.at.measured_sweeps-sweeps-requires c).After-struct_known-1).plan-done;
+  flips_bound = within c;
+}
 
 pub returns-then-sweeps-eq0 : goal.returns-then-sweeps-eq0
 returns-then-sweeps-eq0 c =

@@ -1,11 +1,10 @@
 -- `radius::measured_sweeps` meets its contract: where the first b is 0 one sweep is named, and else the sweeps named for an accepted plan's
 -- numbers are the margin's.
 use mathlib.Core.Path.{◌≡◌, sym, ap, ◌∙◌}
-use borrow.Author.Rules.{rules}
 use native.Mathlib.Omega.{arith}
 use Rattle.inner_code.specs.Sheet.{row_count}
 use Rattle.inner_code.proofs.InnerDistance.{distance-pos}
-use Rattle.wiring.specs.Plan.{Plan, plan_of, side_of, left}
+use Rattle.wiring.specs.Plan.{plan_of, side_of, left}
 use Rattle.wiring.proofs.Permutation.{fitted-edges}
 use Rattle.wiring.proofs.Plans.{plan-sound}
 use Rattle.radius.specs.Answer.{distance_of, measures_of}

@@ -1,7 +1,6 @@
 -- `radius::measured_distance` meets its contract: the listed words are the codewords, and the fewest ones of these are the distance.
 use mathlib.Core.Path.{◌≡◌, ap, ◌∙◌}
 use Prim.Native.Nat.{ℕ, ◌-◌}
-use borrow.Author.Rules.{rules}
 use native.Mathlib.Omega.{arith}
 use lib.ListN.{length, take}
 use Rattle.bits.specs.Window.{at}

@@ -1,9 +1,8 @@
 -- `radius::measured_numbers` meets its contract: an accepted sheet has its d and k, and the measures give the distances and the spread.
-use borrow.Author.Rules.{rules}
 use native.Mathlib.Omega.{arith}
 use Rattle.inner_code.specs.Sheet.{degree, row_count}
 use Rattle.inner_code.proofs.SheetChecks.{Sound}
-use Rattle.wiring.specs.Plan.{Plan, plan_of, sheet_of, left, right}
+use Rattle.wiring.specs.Plan.{plan_of, sheet_of, left, right}
 use Rattle.wiring.specs.declared.side.SideName.{SideName}
 use Rattle.wiring.proofs.Plans.{plan-sound}
 use Rattle.radius.proofs.MeasuredNumbers.{distance_is}

@@ -1,6 +1,5 @@
 -- `radius::plan_numbers` meets its contract: a refusal of the plan's check is handed on, and an accepted plan's numbers are measured.
 use mathlib.Core.Path.{sym}
-use borrow.Author.Rules.{rules}
 use Rattle.wiring.specs.Plan.{Plan, plan_of}
 use Rattle.wiring.proofs.Plans.{PlanAccepted, plan-accepted, plan-refused}
 use Rattle.radius.proofs.MeasuredNumbers.{numbers-refused, numbers-answered}
@@ -12,7 +11,7 @@ plan_in c =
     let args = c.args in
     plan_of args.left.now args.right.now args.nl args.nr args.wiring.now
 
-plan : (c : In-Passed) → PlanAccepted (plan_in (record { before = c.before.before; type_inv = record { wiring = c.shared_slice_known-3-1.given; right = c.shared_slice_known-2-1.given; left = c.shared_slice_known-1.given; } })) c.check_plan-plan.result
+plan : (c : In-Passed) → PlanAccepted (plan_in (record { before = c.before.before; type_inv = record { wiring = c.shared_slice_known-3-1.given; right = c.shared_slice_known-2-1.given; left = c.shared_slice_known-1.given } })) c.check_plan-plan.result
 plan c = plan-accepted _ _ c.check_plan-plan.ensures c.in-Passed.is
 
 pub measured_numbers-requires : goal.measured_numbers-requires

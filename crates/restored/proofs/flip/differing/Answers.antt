@@ -1,9 +1,9 @@
 -- `restored::flip::differing` meets its contract: each turn adds one term of the sum, which is at most 1.
-use Prim.Native.Nat.{◌+◌, ◌-◌, ◌≤◌, ◌<◌}
+use Prim.Native.Nat.{◌+◌, ◌<◌}
 use mathlib.Core.Path.{◌≡◌, sym, ap₂, ◌∙◌}
 use native.Mathlib.Omega.{arith}
 use lib.Bits.{bit_xor}
-use Rattle.bits.specs.Bit.{bit_at, flips}
+use Rattle.bits.specs.Bit.{bit_at}
 use borrow.Author.Rules.{rules}
 use Rattle.bits.proofs.Flips.{flips-zero, flips-one-more, flips-bit}
 use Rattle.restored.proofs.flip.differing.Goals as goal

@@ -1,10 +1,6 @@
-use Prim.Native.Nat.{◌+◌, ◌-◌, ◌≤◌, ◌<◌}
-use mathlib.Core.Path.{◌≡◌, sym, ap₂, ◌∙◌}
-use native.Mathlib.Omega.{arith}
-use lib.Bits.{bit_xor}
-use Rattle.bits.specs.Bit.{bit_at, flips}
-use borrow.Author.Rules.{rules}
-use Rattle.bits.proofs.Flips.{flips-zero, flips-one-more, flips-bit}
+use Prim.Native.Nat.{◌-◌, ◌≤◌}
+use mathlib.Core.Path.{◌≡◌}
+use Rattle.bits.specs.Bit.{flips}
 use Rattle.restored.proofs.flip.differing.Given as goal
 
 abbrev pub invariant-loop-i : goal.invariant-loop-i

@@ -19,6 +19,6 @@ returns-then-bit c =
 
 pub returns : goal.returns
 returns c = record {
-      at_most_one = search rules;
-      flipped = flipped-none _ _;
-    }
+  at_most_one = search rules;
+  flipped = flipped-none _ _;
+}

@@ -1,11 +1,7 @@
 use Prim.Native.Nat.{◌≤◌, ◌-◌}
 use mathlib.Core.Path.{◌≡◌}
-use mathlib.Core.Logic.{⊎_elim}
-use native.Mathlib.Omega.{arith}
-use borrow.Author.Rules.{rules}
 use lib.ListN.{length}
 use Rattle.restored.specs.Flip.{Flipped}
-use Rattle.restored.proofs.Flips.{flipped-none, flipped-then, flipped-most}
 use Rattle.restored.proofs.flip.flip_some.Given as goal
 
 abbrev pub invariant-loop-i : goal.invariant-loop-i

@@ -4,7 +4,6 @@ use mathlib.Core.List.{List}
 use mathlib.Core.Path.{◌≡◌, ap₂}
 use Rattle.wiring.specs.Plan.{plan_of}
 use Rattle.wiring.specs.Square.{square_plan}
-use borrow.Author.Rules.{rules}
 use Rattle.restored.proofs.plan.decode.Goals as goal
 
 pub returns : goal.returns

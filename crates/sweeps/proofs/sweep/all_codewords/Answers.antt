@@ -1,19 +1,17 @@
 -- `sweeps::all_codewords` meets its contract: the words so far are codewords, or one is found that is none.
-use mathlib.Core.Bool.{true, true≢false}
+use mathlib.Core.Bool.{true≢false}
 use mathlib.Core.List.{List, []}
 use mathlib.Core.Path.{◌≡◌, refl, sym, ◌∙◌}
-use Prim.Native.Nat.{ℕ, ◌-◌, ◌≤◌, ◌<◌}
+use Prim.Native.Nat.{ℕ}
 use native.Mathlib.Omega.{arith}
 use borrow.Author.Count.{below_more}
 use borrow.Author.Rules.{rules}
-use borrow.Author.Tests.{not-true, not-false}
 use Rattle.inner_code.specs.Sheet.{degree}
 use Rattle.inner_code.proofs.SheetChecks.{sound}
 use Rattle.finder.proofs.Finding.{member-means}
 use Rattle.wiring.proofs.Plans.{sheet-some}
 use Rattle.wiring.specs.Block.{satisfied}
 use Rattle.wiring.specs.Plan.{side_by, left}
-use Rattle.wiring.specs.declared.side.SideName.{SideName}
 use Rattle.sweeps.proofs.Visiting.{left-tells}
 use Rattle.sweeps.proofs.sweep.all_codewords.Goals as goal
 use Rattle.sweeps.proofs.sweep.all_codewords.Goals.{After-is_codeword}
@@ -48,9 +46,9 @@ tells c wiring =
 
 pub returns-then-not-is_codeword : goal.returns-then-not-is_codeword
 returns-then-not-is_codeword c = record {
-      when_true = λ e. absurd (true≢false (sym e));
-      when_false = λ _ wiring. (c.loop-v.v, omega arith, sym (tells (goal.at.returns-then-not-is_codeword c).After-is_codeword wiring) ∙ c.if-not-is_codeword.true);
-    }
+  when_true = λ e. absurd (true≢false (sym e));
+  when_false = λ _ wiring. (c.loop-v.v, omega arith, sym (tells (goal.at.returns-then-not-is_codeword c).After-is_codeword wiring) ∙ c.if-not-is_codeword.true);
+}
 
 pub loop-v-preserved : goal.loop-v-preserved
 loop-v-preserved c =
@@ -59,6 +57,6 @@ loop-v-preserved c =
 
 pub returns : goal.returns
 returns c = record {
-      when_true = λ _ wiring v l. c.loop-v.invariant.1 wiring v (omega arith);
-      when_false = λ e. absurd (true≢false e);
-    }
+  when_true = λ _ wiring v l. c.loop-v.invariant.1 wiring v (omega arith);
+  when_false = λ e. absurd (true≢false e);
+}

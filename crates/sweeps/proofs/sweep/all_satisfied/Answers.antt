@@ -2,9 +2,8 @@
 use mathlib.Core.Bool.{true}
 use mathlib.Core.Path.{◌≡◌, sym}
 use Prim.Native.Nat.{ℕ, ◌<◌}
-use borrow.Author.Tests.{not-true, not-false}
 use Rattle.wiring.specs.Block.{satisfied}
-use Rattle.wiring.specs.Plan.{Plan, plan_of, side_of, left, right}
+use Rattle.wiring.specs.Plan.{plan_of, side_of, left, right}
 use Rattle.wiring.proofs.Plans.{plan-fits}
 use Rattle.sweeps.proofs.Visiting.{ready-shared}
 use Rattle.sweeps.proofs.Rounds.{satisfied-not, satisfied-both}

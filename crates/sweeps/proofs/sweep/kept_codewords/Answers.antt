@@ -1,13 +1,10 @@
 -- `sweeps::kept_codewords` meets its contract: the words so far are codewords, or one is found that is none.
-use mathlib.Core.Bool.{true, true≢false}
-use mathlib.Core.Path.{◌≡◌, sym, ◌∙◌}
-use Prim.Native.Nat.{ℕ, ◌-◌, ◌≤◌, ◌<◌}
+use mathlib.Core.Bool.{true≢false}
+use mathlib.Core.Path.{sym, ◌∙◌}
 use native.Mathlib.Omega.{arith}
 use borrow.Author.Count.{below_more}
 use borrow.Author.Rules.{rules}
-use borrow.Author.Tests.{not-true, not-false}
 use Rattle.bits.specs.Window.{at}
-use Rattle.finder.specs.Finding.{codeword_by}
 use Rattle.sweeps.proofs.sweep.kept_codewords.Goals as goal
 
 pub loop-v-init : goal.loop-v-init
@@ -29,6 +26,6 @@ loop-v-preserved c =
 
 pub returns : goal.returns
 returns c = record {
-      when_true = λ _ v l. c.loop-v.invariant.1 v (omega arith);
-      when_false = λ e. absurd (true≢false e);
-    }
+  when_true = λ _ v l. c.loop-v.invariant.1 v (omega arith);
+  when_false = λ e. absurd (true≢false e);
+}

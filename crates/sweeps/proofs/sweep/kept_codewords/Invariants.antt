@@ -1,10 +1,6 @@
-use mathlib.Core.Bool.{true, true≢false}
-use mathlib.Core.Path.{◌≡◌, sym, ◌∙◌}
+use mathlib.Core.Bool.{true}
+use mathlib.Core.Path.{◌≡◌}
 use Prim.Native.Nat.{ℕ, ◌-◌, ◌≤◌, ◌<◌}
-use native.Mathlib.Omega.{arith}
-use borrow.Author.Count.{below_more}
-use borrow.Author.Rules.{rules}
-use borrow.Author.Tests.{not-true, not-false}
 use Rattle.bits.specs.Window.{at}
 use Rattle.finder.specs.Finding.{codeword_by}
 use Rattle.sweeps.proofs.sweep.kept_codewords.Given as goal

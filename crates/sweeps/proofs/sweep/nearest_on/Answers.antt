@@ -1,5 +1,4 @@
 -- `sweeps::nearest_on` meets its contract: each arm finds by the sheet of its side.
-use borrow.Author.Rules.{rules}
 use Rattle.wiring.specs.Access.{sheet_for}
 use Rattle.sweeps.proofs.sweep.nearest_on.Goals as goal
 

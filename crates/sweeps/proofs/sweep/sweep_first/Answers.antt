@@ -1,8 +1,8 @@
 -- `sweeps::sweep_first` meets its contract: after v vertices the block is the one with the first v visited, `changed` counts the bits that
 -- changed and `ties` the vertices that wait. A codeword stays, and of any other word the step tells how many bits it changes.
 use mathlib.Core.Bool.{false}
-use mathlib.Core.Path.{◌≡◌, sym, ◌∙◌}
-use Prim.Native.Nat.{◌-◌, ◌≤◌, ◌<◌}
+use mathlib.Core.Path.{◌≡◌}
+use Prim.Native.Nat.{◌<◌}
 use native.Mathlib.Omega.{arith}
 use borrow.Author.Rules.{rules}
 use lib.Dec.{eqb}
@@ -11,11 +11,9 @@ use Rattle.finder.specs.Finding.{Found}
 use Rattle.finder.proofs.Finding.{Member, member-means}
 use Rattle.bits.specs.Window.{word_at}
 use Rattle.wiring.specs.Block.{vertex_word}
-use Rattle.wiring.specs.Plan.{Side, side_bit, side_by, left}
-use Rattle.wiring.specs.declared.side.SideName.{SideName}
+use Rattle.wiring.specs.Plan.{side_bit, side_by, left}
 use Rattle.wiring.proofs.Permutation.{fitted-vertex}
-use Rattle.sweeps.specs.Sweeping.{SideReady}
-use Rattle.sweeps.proofs.Visiting.{Visits, visits-none, visits-le, visits-few, visits-changed, visits-kept, visits-sweep, visits-length}
+use Rattle.sweeps.proofs.Visiting.{visits-none, visits-le, visits-few, visits-changed, visits-kept, visits-sweep}
 use Rattle.sweeps.proofs.Visiting.{word-stays, word-untied, word-found, word-counted, word-waits, word-put, tie-le}
 use Rattle.sweeps.proofs.Visiting.{pattern_lt, ready-sheet, ready-whole, ready-vertex}
 use Rattle.sweeps.proofs.Visiting.{word_lt, word-stays, word-untied, word-found, word-counted, word-waits, word-put, tie-le}

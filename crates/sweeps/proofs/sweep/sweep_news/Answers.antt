@@ -2,7 +2,7 @@
 -- sixteen vertices are taken off the list at once, and from a number of their own one by one, the highest first.
 use mathlib.Core.List.{List}
 use mathlib.Core.Path.{◌≡◌, refl, sym, ap, ◌∙◌}
-use Prim.Native.Nat.{ℕ, ◌+◌, ◌-◌, ◌*◌, ◌≤◌, ◌<◌}
+use Prim.Native.Nat.{ℕ, ◌+◌, ◌*◌, ◌≤◌, ◌<◌}
 use native.Mathlib.Decide.{ℕ_discrete}
 use native.Mathlib.Nat.{le_refl, le_trans, le_of_eq}
 use native.Mathlib.Omega.{arith}
@@ -11,16 +11,15 @@ use lib.ListN.{length, get_or, set}
 use lib.Pow.{pow_pos}
 use Rattle.bits.specs.Window.{at}
 use Rattle.finder.specs.Finding.{Finds}
-use Rattle.wiring.specs.Plan.{Plan, plan_of, sheet_of, count_of}
+use Rattle.wiring.specs.Plan.{plan_of, sheet_of, count_of}
 use Rattle.bits.proofs.Lists.{at_set_same, at_set_other}
 use Rattle.words.specs.Marks.{news_of}
 use Rattle.sweeps.specs.Sweeping.{Hears}
 use Rattle.words.proofs.Marks.{marks-high}
 use Rattle.wiring.proofs.Plans.{plan-fits}
 use Rattle.wiring.proofs.Sides.{count-for}
-use Rattle.sweeps.proofs.Rounds.{NewsRound, news-round-start, news-round-changed, news-round-few, news-round-end, news-round-clear}
+use Rattle.sweeps.proofs.Rounds.{news-round-start, news-round-changed, news-round-few, news-round-end, news-round-clear}
 use Rattle.sweeps.proofs.Rounds.{NewsScan, news-scan-start, news-scan-end, news-scan-vertex, news-scan-more}
-use Rattle.sweeps.proofs.Visiting.{visits-length}
 use Rattle.sweeps.proofs.sweep.sweep_news.Goals as goal
 use Rattle.sweeps.proofs.sweep.sweep_news.Goals.{After-news_of-from, After-rest-1, At-loop-rest, Start}
 
@@ -52,7 +51,7 @@ scanned c =
 state : (c : At-loop-rest)
     → NewsScan (plan_of c.args.left.now c.args.right.now c.args.nl c.args.nr c.args.wiring.now) c.args.side c.args.block.now c.args.kept.now c.loop-i.i c.loop-rest.changed c.loop-rest.visits
     c.loop-rest.block c.loop-rest.kept c.loop-rest.rest
-state c = c.loop-rest.invariant.0 _ _ (hears c.before.before.before.before.before.before.before.before.before.before.before.before.before.before.before) (scanned (record { before = c.before.before; type_inv = record { places = c.shared_slice_known-4-1.given; wiring = c.shared_slice_known-3-1.given; right = c.shared_slice_known-2-1.given; left = c.shared_slice_known-1.given; } }))
+state c = c.loop-rest.invariant.0 _ _ (hears c.before.before.before.before.before.before.before.before.before.before.before.before.before.before.before) (scanned (record { before = c.before.before; type_inv = record { places = c.shared_slice_known-4-1.given; wiring = c.shared_slice_known-3-1.given; right = c.shared_slice_known-2-1.given; left = c.shared_slice_known-1.given } }))
 
 finds : (c : At-loop-rest)
     → Finds (sheet_of (plan_of c.args.left.now c.args.right.now c.args.nl c.args.nr c.args.wiring.now) c.args.side) c.loop-rest.finder
@@ -101,7 +100,7 @@ visit-bits-requires c =
     let so_far = state (goal.at.visit-bits-requires c).At-loop-rest in record {
       plan_value = c.requires.plan_value;
       v_bound = news-scan-vertex c.requires.plan_value (hears (goal.at.visit-bits-requires c).Start) (few (goal.at.visit-bits-requires c).After-rest-1) so_far _ c.highest-high.ensures.power_low c.highest-high.ensures.power_high
-            c.highest-high.ensures.fits_word;
+          c.highest-high.ensures.fits_word;
       finds = finds (goal.at.visit-bits-requires c).At-loop-rest;
       across = c.requires.across;
       words_read = so_far.round.so_far.reads;

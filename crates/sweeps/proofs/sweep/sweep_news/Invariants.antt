@@ -1,24 +1,13 @@
 use mathlib.Core.List.{List}
-use mathlib.Core.Path.{◌≡◌, refl, sym, ap, ◌∙◌}
+use mathlib.Core.Path.{◌≡◌}
 use Prim.Native.Nat.{ℕ, ◌+◌, ◌-◌, ◌*◌, ◌≤◌, ◌<◌}
-use native.Mathlib.Decide.{ℕ_discrete}
-use native.Mathlib.Nat.{le_refl, le_trans, le_of_eq}
-use native.Mathlib.Omega.{arith}
-use borrow.Author.Rules.{rules}
-use lib.ListN.{length, get_or, set}
-use lib.Pow.{pow_pos}
 use Rattle.bits.specs.Window.{at}
 use Rattle.finder.specs.Finding.{Finds}
-use Rattle.wiring.specs.Plan.{Plan, plan_of, sheet_of, count_of}
-use Rattle.bits.proofs.Lists.{at_set_same, at_set_other}
+use Rattle.wiring.specs.Plan.{Plan, plan_of, sheet_of}
 use Rattle.words.specs.Marks.{news_of}
 use Rattle.sweeps.specs.Sweeping.{Hears}
-use Rattle.words.proofs.Marks.{marks-high}
-use Rattle.wiring.proofs.Plans.{plan-fits}
-use Rattle.wiring.proofs.Sides.{count-for}
-use Rattle.sweeps.proofs.Rounds.{NewsRound, news-round-start, news-round-changed, news-round-few, news-round-end, news-round-clear}
-use Rattle.sweeps.proofs.Rounds.{NewsScan, news-scan-start, news-scan-end, news-scan-vertex, news-scan-more}
-use Rattle.sweeps.proofs.Visiting.{visits-length}
+use Rattle.sweeps.proofs.Rounds.{NewsRound}
+use Rattle.sweeps.proofs.Rounds.{NewsScan}
 use Rattle.sweeps.proofs.sweep.sweep_news.Given as goal
 
 abbrev pub invariant-loop-rest : goal.invariant-loop-rest

@@ -1,5 +1,4 @@
 -- `sweeps::sweep_right` meets its contract: the right side is swept with a finder that finds its sheet's nearest words.
-use borrow.Author.Rules.{rules}
 use Rattle.sweeps.proofs.Visiting.{ready-shared, ready-right-swept, ready-shared-swept}
 use Rattle.sweeps.proofs.sweep.sweep_right.Goals as goal
 

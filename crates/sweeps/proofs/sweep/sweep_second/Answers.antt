@@ -1,27 +1,23 @@
 -- `sweeps::sweep_second` meets its contract: after v vertices the block is the one with the first v visited, `changed` counts the bits that changed and
 -- `ties` the vertices that wait, and what is kept goes with the block. No mark of the right side is set.
 use mathlib.Core.List.{[]}
-use mathlib.Core.Path.{◌≡◌, refl, sym, ◌∙◌}
-use Prim.Native.Nat.{ℕ, ◌+◌, ◌-◌, ◌≤◌, ◌<◌}
+use mathlib.Core.Path.{◌≡◌, refl, ◌∙◌}
+use Prim.Native.Nat.{◌≤◌, ◌<◌}
 use native.Mathlib.Omega.{arith}
 use borrow.Author.Rules.{rules}
 use lib.Dec.{eqb}
 use lib.ListN.{get_or}
 use Rattle.bits.specs.Window.{at}
 use Rattle.inner_code.specs.Reply.{done}
-use Rattle.finder.specs.Finding.{Finds}
 use Rattle.finder.proofs.Finding.{Member, member-means}
 use Rattle.wiring.specs.Block.{vertex_word}
-use Rattle.wiring.specs.Plan.{Plan, plan_of, side_of, right, other}
+use Rattle.wiring.specs.Plan.{plan_of, side_of, right, other}
 use Rattle.wiring.specs.Wiring.{plan_check}
-use Rattle.wiring.specs.declared.side.SideName.{SideName}
-use Rattle.sweeps.specs.Sweeping.{SideReady}
-use Rattle.words.specs.Marks.{news_of}
 use Rattle.words.proofs.Marks.{news-ext, silent-clear}
 use Rattle.wiring.proofs.Plans.{plan-fits}
-use Rattle.sweeps.proofs.Rounds.{Round, round-start, round-kept, round-visited, round-listening}
+use Rattle.sweeps.proofs.Rounds.{round-start, round-kept, round-visited, round-listening}
 use Rattle.wiring.proofs.Sides.{right-left}
-use Rattle.sweeps.proofs.Visiting.{ready-side, word-stays, word-untied, visit-waits, visits-le, visits-few, visits-length, visits-sweep, tie-le}
+use Rattle.sweeps.proofs.Visiting.{ready-side, word-stays, word-untied, visit-waits, visits-le, visits-few, visits-sweep, tie-le}
 use Rattle.sweeps.proofs.sweep.sweep_second.Goals as goal
 use Rattle.sweeps.proofs.sweep.sweep_second.Goals.{After-is_codeword, At-loop-v, Start}
 

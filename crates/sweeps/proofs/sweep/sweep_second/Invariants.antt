@@ -1,25 +1,11 @@
-use mathlib.Core.List.{[]}
-use mathlib.Core.Path.{◌≡◌, refl, sym, ◌∙◌}
+use mathlib.Core.Path.{◌≡◌}
 use Prim.Native.Nat.{ℕ, ◌+◌, ◌-◌, ◌≤◌, ◌<◌}
-use native.Mathlib.Omega.{arith}
-use borrow.Author.Rules.{rules}
-use lib.Dec.{eqb}
-use lib.ListN.{get_or}
 use Rattle.bits.specs.Window.{at}
-use Rattle.inner_code.specs.Reply.{done}
 use Rattle.finder.specs.Finding.{Finds}
-use Rattle.finder.proofs.Finding.{Member, member-means}
-use Rattle.wiring.specs.Block.{vertex_word}
-use Rattle.wiring.specs.Plan.{Plan, plan_of, side_of, right, other}
-use Rattle.wiring.specs.Wiring.{plan_check}
+use Rattle.wiring.specs.Plan.{Plan, plan_of}
 use Rattle.wiring.specs.declared.side.SideName.{SideName}
-use Rattle.sweeps.specs.Sweeping.{SideReady}
 use Rattle.words.specs.Marks.{news_of}
-use Rattle.words.proofs.Marks.{news-ext, silent-clear}
-use Rattle.wiring.proofs.Plans.{plan-fits}
-use Rattle.sweeps.proofs.Rounds.{Round, round-start, round-kept, round-visited, round-listening}
-use Rattle.wiring.proofs.Sides.{right-left}
-use Rattle.sweeps.proofs.Visiting.{ready-side, word-stays, word-untied, visit-waits, visits-le, visits-few, visits-length, visits-sweep, tie-le}
+use Rattle.sweeps.proofs.Rounds.{Round}
 use Rattle.sweeps.proofs.sweep.sweep_second.Given as goal
 
 abbrev pub invariant-loop-v : goal.invariant-loop-v

@@ -1,10 +1,9 @@
 -- `sweeps::visit` meets its contract: a codeword stays, and any other word takes the one that the finder finds.
 use Rattle.finder.specs.Finding.{Found}
 use Rattle.finder.proofs.Finding.{member-means}
-use Rattle.wiring.specs.Plan.{Plan, plan_of, sheet_of}
+use Rattle.wiring.specs.Plan.{plan_of, sheet_of}
 use Rattle.wiring.proofs.Sides.{sheet-for}
 use Rattle.sweeps.proofs.Rounds.{visit-codeword, visit-low, visit-put, nearest-asked}
-use borrow.Author.Rules.{rules}
 use Rattle.sweeps.proofs.sweep.visit.Goals as goal
 use Rattle.sweeps.proofs.sweep.visit.Goals.{After-nearest_on-step}
 
@@ -36,7 +35,7 @@ put_told-requires c =
       plan_value = c.requires.plan_value;
       v_bound = c.requires.v_bound;
       pattern_bound = visit-low (plan_of c.args.left.now c.args.right.now c.args.nl c.args.nr c.args.wiring.now) c.requires.plan_value c.args.vertex.side c.requires.finds _ c.args.kept.now c.requires.v_bound c.word_of-word.ensures
-              (found (goal.at.put_told-requires c).After-nearest_on-step);
+          (found (goal.at.put_told-requires c).After-nearest_on-step);
       across = c.requires.across;
       words_read = c.requires.words_read;
     }

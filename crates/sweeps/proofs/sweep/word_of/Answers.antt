@@ -4,10 +4,9 @@ use Prim.Native.Nat.{◌<◌}
 use native.Mathlib.Omega.{arith}
 use Rattle.bits.specs.Window.{at}
 use Rattle.inner_code.specs.Sheet.{degree}
-use Rattle.wiring.specs.Plan.{Plan, plan_of, left}
+use Rattle.wiring.specs.Plan.{plan_of, left}
 use Rattle.wiring.proofs.Plans.{fitted-sheet, plan-fits}
 use Rattle.sweeps.proofs.Visiting.{left-read}
-use borrow.Author.Rules.{rules}
 use Rattle.sweeps.proofs.sweep.word_of.Goals as goal
 use Rattle.sweeps.proofs.sweep.word_of.Goals.{Start}
 

@@ -10,7 +10,6 @@ use Rattle.inner_code.proofs.SheetChecks.{Accepted, accepted, turned-back}
 use Rattle.tables.specs.Answer.{table_bytes}
 use Rattle.tables.proofs.Tables.{size_is, table-length}
 use Rattle.tables.proofs.LookUps.{build-refused, build-short, build-done, build-left, build-written}
-use borrow.Author.Rules.{rules}
 use Rattle.tables.proofs.building.build_table.Goals as goal
 use Rattle.tables.proofs.building.build_table.Goals.{In-Accepted}
 

@@ -1,13 +1,5 @@
-use borrow.Author.Rules.{rules}
-use mathlib.Core.Path.{◌≡◌, refl, ap, subst}
-use Prim.Native.Nat.{ℕ, ◌+◌, ◌-◌, ◌*◌, ◌%◌, ◌≤◌}
-use native.Mathlib.Omega.{arith}
-use lib.Bits.{bit_xor}
-use lib.ListN.{length-set}
-use lib.Seq.{get_or-set_other}
-use Rattle.bits.specs.Window.{at}
+use Prim.Native.Nat.{◌-◌, ◌≤◌}
 use Rattle.tables.specs.Folding.{Copied}
-use Rattle.tables.proofs.Keys.{copied-start, copied_more}
 use Rattle.tables.proofs.building.copy_with.Given as goal
 
 abbrev pub invariant-loop-c : goal.invariant-loop-c

@@ -1,6 +1,5 @@
 -- `tables::fill` meets its contract: after b turns every class that a pattern below 2^b reaches has its lightest one.
 use borrow.Author.Rules.{rules}
-use mathlib.Core.Logic.{⊎_elim}
 use mathlib.Core.Path.{◌≡◌, refl, sym, ap, ap₂, ◌∙◌, subst, subst⁻¹}
 use mathlib.Core.List.{List, []}
 use Prim.Native.Nat.{ℕ, ◌-◌, ◌*◌, ◌%◌, ◌^◌, ◌≤◌, ◌<◌, min}
@@ -111,7 +110,7 @@ left : (c : After-residue-left)
 left c =
     let args = c.args in
     c.residue-left.ensures
-    ∙ ap₂ (λ (k w : ℕ). reduced_by (at args.basis.now) (min k 11) w) (count-byte args.sheet.now) (digit-is (record { before = c.before.before; type_inv = record { sheet = c.shared_slice_known-3-1.given; } }))
+    ∙ ap₂ (λ (k w : ℕ). reduced_by (at args.basis.now) (min k 11) w) (count-byte args.sheet.now) (digit-is (record { before = c.before.before; type_inv = record { sheet = c.shared_slice_known-3-1.given } }))
 
 left-is-reduced : (c : After-residue-left)
     → let sheet = c.args.sheet.now in
@@ -123,12 +122,12 @@ left-is-reduced c =
 free : (c : After-residue-left)
     → let sheet = c.args.sheet.now in
     c.residue-left.result ≡ (1 * 2 ^ c.loop-b.b) % 2 ^ 16 → reduced (row_of sheet) (row_count sheet) (2 ^ c.loop-b.b) ≡ 2 ^ c.loop-b.b
-free c e = sym (left-is-reduced c) ∙ e ∙ digit-is (record { before = c.before.before; type_inv = record { sheet = c.shared_slice_known-3-1.given; } })
+free c e = sym (left-is-reduced c) ∙ e ∙ digit-is (record { before = c.before.before; type_inv = record { sheet = c.shared_slice_known-3-1.given } })
 
 taken : (c : After-residue-left)
     → let sheet = c.args.sheet.now in
     (c.residue-left.result ≡ (1 * 2 ^ c.loop-b.b) % 2 ^ 16 → ⊥) → reduced (row_of sheet) (row_count sheet) (2 ^ c.loop-b.b) ≡ 2 ^ c.loop-b.b → ⊥
-taken c differ e = differ (left-is-reduced c ∙ e ∙ sym (digit-is (record { before = c.before.before; type_inv = record { sheet = c.shared_slice_known-3-1.given; } })))
+taken c differ e = differ (left-is-reduced c ∙ e ∙ sym (digit-is (record { before = c.before.before; type_inv = record { sheet = c.shared_slice_known-3-1.given } })))
 
 -- the number of its class
 apart : (c : After-residue-left) (r : ℕ)
@@ -144,8 +143,8 @@ apart c r e =
 doubled : (c : Then-left-digit) → 2 * c.loop-b.count ≤ classes c.before.before.before.before.before.before.before.before.before.before.before.before.before.before.before.before.before.before
 unfolding classes
 doubled c =
-    doubled-room c.args.sheet.now (fine c.before.before.before.before.before.before.before.before.before.before.before.before.before.before.before.before.before.before) c.loop-b.b c.loop-b.count (b_lt (record { before = c.before.before.before; type_inv = record { sheet = c.shared_slice_known-3-1.given; } }))
-    c.loop-b.table c.loop-b.costs c.loop-b.invariant.4 (free (record { before = c.before.before; type_inv = record { sheet = c.shared_slice_known-3-1.given; } }) c.if-left-digit.true)
+    doubled-room c.args.sheet.now (fine c.before.before.before.before.before.before.before.before.before.before.before.before.before.before.before.before.before.before) c.loop-b.b c.loop-b.count (b_lt (record { before = c.before.before.before; type_inv = record { sheet = c.shared_slice_known-3-1.given } }))
+    c.loop-b.table c.loop-b.costs c.loop-b.invariant.4 (free (record { before = c.before.before; type_inv = record { sheet = c.shared_slice_known-3-1.given } }) c.if-left-digit.true)
 
 pub copy_with-requires : goal.copy_with-requires
 copy_with-requires c =
@@ -184,26 +183,26 @@ loop-b-preserved c =
       omega arith,
       c.loop-b.invariant.1,
       (elim c.if-left-digit.branch [
-          | then-left-digit w ↦ ap length w.table-is ∙ w.copy_with.ensures.sized ∙ c.loop-b.invariant.2
-          | else-left-digit w ↦ ap length w.table-is ∙ w.fold.ensures.sized ∙ c.loop-b.invariant.2
-        ]),
+        | then-left-digit w ↦ ap length w.table-is ∙ w.copy_with.ensures.sized ∙ c.loop-b.invariant.2
+        | else-left-digit w ↦ ap length w.table-is ∙ w.fold.ensures.sized ∙ c.loop-b.invariant.2
+      ]),
       (elim c.if-left-digit.branch [
-          | then-left-digit w ↦ ap length w.costs-is ∙ w.copy_with.ensures.costed ∙ c.loop-b.invariant.3
-          | else-left-digit w ↦ ap length w.costs-is ∙ w.fold.ensures.costed ∙ c.loop-b.invariant.3
-        ]),
+        | then-left-digit w ↦ ap length w.costs-is ∙ w.copy_with.ensures.costed ∙ c.loop-b.invariant.3
+        | else-left-digit w ↦ ap length w.costs-is ∙ w.fold.ensures.costed ∙ c.loop-b.invariant.3
+      ]),
       (elim c.if-left-digit.branch [
-          | then-left-digit w ↦ filled-same sheet (fine (goal.at.loop-b-preserved c).Start) _ _ _ _ _ _ w.count-is w.table-is w.costs-is
-          (filled-copied sheet (fine (goal.at.loop-b-preserved c).Start) c.loop-b.b c.loop-b.count (b_lt (goal.at.loop-b-preserved c).In-loop-b) c.loop-b.table c.loop-b.costs
-          c.loop-b.invariant.4 (free (goal.at.loop-b-preserved c).After-residue-left w.if-left-digit.true) _ _ _ (digit-is (goal.at.loop-b-preserved c).In-loop-b) c.loop-b.invariant.5 w.copy_with.ensures)
-          | else-left-digit w ↦ filled-same sheet (fine (goal.at.loop-b-preserved c).Start) _ _ _ _ _ _ w.count-is w.table-is w.costs-is
-          (filled-folded sheet (fine (goal.at.loop-b-preserved c).Start) c.loop-b.b c.loop-b.count (b_lt (goal.at.loop-b-preserved c).In-loop-b) c.loop-b.table c.loop-b.costs
-          c.loop-b.invariant.4 (taken (goal.at.loop-b-preserved c).After-residue-left w.if-left-digit.false) _ (apart (goal.at.loop-b-preserved c).After-residue-left _ w.squeeze.ensures) _ _ _
-          (digit-is (goal.at.loop-b-preserved c).In-loop-b) w.fold.ensures)
-        ]),
+        | then-left-digit w ↦ filled-same sheet (fine (goal.at.loop-b-preserved c).Start) _ _ _ _ _ _ w.count-is w.table-is w.costs-is
+            (filled-copied sheet (fine (goal.at.loop-b-preserved c).Start) c.loop-b.b c.loop-b.count (b_lt (goal.at.loop-b-preserved c).In-loop-b) c.loop-b.table c.loop-b.costs
+            c.loop-b.invariant.4 (free (goal.at.loop-b-preserved c).After-residue-left w.if-left-digit.true) _ _ _ (digit-is (goal.at.loop-b-preserved c).In-loop-b) c.loop-b.invariant.5 w.copy_with.ensures)
+        | else-left-digit w ↦ filled-same sheet (fine (goal.at.loop-b-preserved c).Start) _ _ _ _ _ _ w.count-is w.table-is w.costs-is
+            (filled-folded sheet (fine (goal.at.loop-b-preserved c).Start) c.loop-b.b c.loop-b.count (b_lt (goal.at.loop-b-preserved c).In-loop-b) c.loop-b.table c.loop-b.costs
+            c.loop-b.invariant.4 (taken (goal.at.loop-b-preserved c).After-residue-left w.if-left-digit.false) _ (apart (goal.at.loop-b-preserved c).After-residue-left _ w.squeeze.ensures) _ _ _
+            (digit-is (goal.at.loop-b-preserved c).In-loop-b) w.fold.ensures)
+      ]),
       (elim c.if-left-digit.branch [
-          | then-left-digit w ↦ λ i. subst⁻¹ (λ (l : List ℕ). get_or l i 0 < 256) w.table-is (w.slice_known-then-left-digit-1.given i).fits
-          | else-left-digit w ↦ λ i. subst⁻¹ (λ (l : List ℕ). get_or l i 0 < 256) w.table-is (w.slice_known-else-left-digit-1.given i).fits
-        ]),
+        | then-left-digit w ↦ λ i. subst⁻¹ (λ (l : List ℕ). get_or l i 0 < 256) w.table-is (w.slice_known-then-left-digit-1.given i).fits
+        | else-left-digit w ↦ λ i. subst⁻¹ (λ (l : List ℕ). get_or l i 0 < 256) w.table-is (w.slice_known-else-left-digit-1.given i).fits
+      ]),
     )
 
 pub mark_ties-requires : goal.mark_ties-requires

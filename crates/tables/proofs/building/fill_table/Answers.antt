@@ -8,7 +8,6 @@ use Rattle.inner_code.proofs.SheetChecks.{sound}
 use Rattle.tables.specs.Answer.{table_bytes}
 use Rattle.tables.specs.Folding.{Sized}
 use Rattle.tables.proofs.Tables.{classes-few}
-use borrow.Author.Rules.{rules}
 use Rattle.tables.proofs.building.fill_table.Goals as goal
 
 -- no table has more than 32,768 entries

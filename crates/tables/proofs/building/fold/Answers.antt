@@ -1,8 +1,7 @@
 -- `tables::fold` meets its contract: after c turns the first c classes, and those apart from them, are folded.
 use borrow.Author.Rules.{rules}
-use mathlib.Core.Logic.{⊎_elim}
 use mathlib.Core.Path.{◌≡◌, subst}
-use Prim.Native.Nat.{ℕ, ◌-◌, ◌≤◌}
+use Prim.Native.Nat.{ℕ}
 use native.Mathlib.Omega.{arith}
 use Rattle.tables.specs.Folding.{Folded}
 use Rattle.tables.proofs.Keys.{folded_start, folded-passed, folded_both, folded-same}
@@ -32,11 +31,11 @@ loop-c-preserved c =
     let turn = c.loop-c.c in (
       search rules,
       (elim c.if-c-other.branch [
-          | then-c-other w ↦ folded-same _ _ _ _ w.table-is w.costs-is
-          (folded_both args.count args.apart args.digit _ _ turn _ _ (omega arith) so _ _ w.if-c-other.true w.fold_pair.ensures)
-          | else-c-other w ↦ folded-same _ _ _ _ w.table-is w.costs-is
-          (folded-passed args.count args.apart args.digit _ _ turn _ _ (omega arith) so w.if-c-other.false)
-        ]),
+        | then-c-other w ↦ folded-same _ _ _ _ w.table-is w.costs-is
+            (folded_both args.count args.apart args.digit _ _ turn _ _ (omega arith) so _ _ w.if-c-other.true w.fold_pair.ensures)
+        | else-c-other w ↦ folded-same _ _ _ _ w.table-is w.costs-is
+            (folded-passed args.count args.apart args.digit _ _ turn _ _ (omega arith) so w.if-c-other.false)
+      ]),
     )
 
 pub returns : goal.returns

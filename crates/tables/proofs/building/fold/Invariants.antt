@@ -1,10 +1,5 @@
-use borrow.Author.Rules.{rules}
-use mathlib.Core.Logic.{⊎_elim}
-use mathlib.Core.Path.{◌≡◌, subst}
-use Prim.Native.Nat.{ℕ, ◌-◌, ◌≤◌}
-use native.Mathlib.Omega.{arith}
+use Prim.Native.Nat.{◌-◌, ◌≤◌}
 use Rattle.tables.specs.Folding.{Folded}
-use Rattle.tables.proofs.Keys.{folded_start, folded-passed, folded_both, folded-same}
 use Rattle.tables.proofs.building.fold.Given as goal
 
 abbrev pub invariant-loop-c : goal.invariant-loop-c

@@ -1,10 +1,9 @@
 -- `tables::fold_pair` meets its contract: both keys are read before either is put.
 use mathlib.Core.Path.{ap₂, ◌∙◌}
-use Prim.Native.Nat.{ℕ, ◌+◌, ◌-◌}
+use Prim.Native.Nat.{ℕ, ◌+◌}
 use native.Mathlib.Omega.{arith}
 use Rattle.tables.specs.Folding.{lighter}
 use Rattle.tables.proofs.Keys.{lighter-lt, paired}
-use borrow.Author.Rules.{rules}
 use Rattle.tables.proofs.building.fold_pair.Goals as goal
 
 pub put_key-requires : goal.put_key-requires

@@ -1,8 +1,7 @@
 -- `tables::key_at` meets its contract.
-use Prim.Native.Nat.{◌+◌, ◌-◌, ◌*◌, ◌<◌}
+use Prim.Native.Nat.{◌+◌, ◌*◌, ◌<◌}
 use native.Mathlib.Omega.{arith}
 use lib.ListN.{get_or}
-use borrow.Author.Rules.{rules}
 use Rattle.bits.specs.Bit.{pair_at}
 use Rattle.tables.specs.Folding.{key_at}
 use Rattle.tables.proofs.building.key_at.Goals as goal

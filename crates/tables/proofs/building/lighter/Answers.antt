@@ -1,6 +1,4 @@
 -- `tables::lighter` meets its contract.
-use Prim.Native.Nat.{◌-◌}
-use borrow.Author.Rules.{rules}
 use Rattle.tables.proofs.Keys.{lighter-tie, lighter-other, lighter-here}
 use Rattle.tables.proofs.building.lighter.Goals as goal
 

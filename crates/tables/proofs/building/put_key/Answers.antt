@@ -1,7 +1,5 @@
 -- `tables::put_key` meets its contract: its three stores are those of the key's parts.
-use Prim.Native.Nat.{◌-◌}
 use native.Mathlib.Omega.{arith}
-use borrow.Author.Rules.{rules}
 use lib.ListN.{length-set}
 use Rattle.tables.proofs.Keys.{puts-key}
 use Rattle.tables.proofs.building.put_key.Goals as goal

@@ -48,10 +48,10 @@ returns-then-d-word c =
     look-high args.sheet.now args.word args.table.now (plan (goal.at.returns-then-d-word c).In-Accepted).sheet-done (omega (arith, limit (goal.at.returns-then-d-word c).In-Accepted, c.if-d-word.true))
 
 low : (c : Else-d-word) → let args = c.args in args.word < 2 ^ degree args.sheet.now
-low c = omega (arith, limit (record { before = c.before.before; type_inv = record { basis = c.type_inv.basis; table = c.shared_slice_known-2-1.given; sheet = c.shared_slice_known-1.given; } }), c.if-d-word.false)
+low c = omega (arith, limit (record { before = c.before.before; type_inv = record { basis = c.type_inv.basis; table = c.shared_slice_known-2-1.given; sheet = c.shared_slice_known-1.given } }), c.if-d-word.false)
 
 short : (c : Else-d-word) → c.args.word < 65536
-short c = omega (arith, low c, pow_mono {j = 16} (plan (record { before = c.before.before; type_inv = record { basis = c.type_inv.basis; table = c.shared_slice_known-2-1.given; sheet = c.shared_slice_known-1.given; } })).sheet-sound.degree-high)
+short c = omega (arith, low c, pow_mono {j = 16} (plan (record { before = c.before.before; type_inv = record { basis = c.type_inv.basis; table = c.shared_slice_known-2-1.given; sheet = c.shared_slice_known-1.given } })).sheet-sound.degree-high)
 
 pub overflow_sub-d : goal.overflow_sub-d
 overflow_sub-d c = omega (arith, (plan (goal.at.overflow_sub-d c).In-Accepted).d-is, (plan (goal.at.overflow_sub-d c).In-Accepted).k-is, (plan (goal.at.overflow_sub-d c).In-Accepted).sheet-sound.count-degree)

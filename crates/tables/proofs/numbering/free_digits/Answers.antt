@@ -1,7 +1,7 @@
 -- `tables::free_digits` meets its contract: after i turns the highest digits of the first i rows are taken out.
 use borrow.Author.Rules.{rules}
 use mathlib.Core.Path.{◌≡◌, refl, sym, ap, ap₂, ◌∙◌}
-use Prim.Native.Nat.{◌-◌, ◌≤◌, min}
+use Prim.Native.Nat.{min}
 use native.Mathlib.Omega.{arith}
 use Rattle.bits.specs.Window.{at}
 use Rattle.tables.specs.Numbering.{free_mask}

@@ -1,11 +1,7 @@
-use borrow.Author.Rules.{rules}
-use mathlib.Core.Path.{◌≡◌, refl, sym, ap, ap₂, ◌∙◌}
-use Prim.Native.Nat.{◌-◌, ◌≤◌, min}
-use native.Mathlib.Omega.{arith}
+use mathlib.Core.Path.{◌≡◌}
+use Prim.Native.Nat.{◌-◌, ◌≤◌}
 use Rattle.bits.specs.Window.{at}
 use Rattle.tables.specs.Numbering.{free_mask}
-use lib.Bits.{bit_xor}
-use Rattle.tables.proofs.Numbers.{mask-one-more}
 use Rattle.tables.proofs.numbering.free_digits.Given as goal
 
 abbrev pub invariant-loop-i : goal.invariant-loop-i

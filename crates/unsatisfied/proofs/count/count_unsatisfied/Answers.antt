@@ -3,10 +3,9 @@
 use mathlib.Core.Path.{sym, ap, ◌∙◌}
 use Prim.Native.Nat.{ℕ, ◌≤◌, ◌<◌}
 use native.Mathlib.Omega.{arith}
-use borrow.Author.Rules.{rules}
 use Rattle.wiring.specs.Access.{Readable}
 use Rattle.wiring.specs.Checking.{check_reply, code_in}
-use Rattle.wiring.specs.Plan.{Plan, plan_of, left, right}
+use Rattle.wiring.specs.Plan.{plan_of, left, right}
 use Rattle.wiring.specs.declared.side.SideName.{SideName}
 use Rattle.wiring.proofs.Permutation.{side-fits, fitted-edges}
 use Rattle.wiring.proofs.Plans.{PlanAccepted, plan-accepted, plan-refused, accepted-edges}
@@ -29,7 +28,7 @@ readable : (c : In-Passed-check_block) (name : SideName) (v : ℕ)
     → v < (code_in c.check_plan-plan.result name).n
     → Readable name c.args.wiring.now (code_in c.check_plan-plan.result name).d c.args.block.now v
 readable c name v below =
-    let p = plan (record { before = c.before.before.before.before; type_inv = record { block = c.shared_slice_known-4-1.given; wiring = c.shared_slice_known-3-1.given; right = c.shared_slice_known-2-1.given; left = c.shared_slice_known-1.given; } }) in
+    let p = plan (record { before = c.before.before.before.before; type_inv = record { block = c.shared_slice_known-4-1.given; wiring = c.shared_slice_known-3-1.given; right = c.shared_slice_known-2-1.given; left = c.shared_slice_known-1.given } }) in
     let pass = sym c.check_block.ensures ∙ ap check_reply c.in-Passed-check_block.is in
     rw (p.code_is name) (plan-readable _ p.plan-done _ (rw (accepted-edges p) at (block_room _ _ pass)) name v (rw (p.code_is name) at below))
 

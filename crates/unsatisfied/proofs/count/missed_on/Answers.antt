@@ -1,9 +1,7 @@
 -- `unsatisfied::missed_on` meets its contract: after v turns the vertices before v that fail the test are counted.
 use mathlib.Core.Path.{◌≡◌}
-use Prim.Native.Nat.{◌-◌, ◌≤◌}
 use native.Mathlib.Omega.{arith}
 use borrow.Author.Rules.{rules}
-use Rattle.unsatisfied.specs.Answer.{missed_up_to}
 use Rattle.unsatisfied.proofs.VertexTests.{up-to-none, up-to-one-more}
 use Rattle.unsatisfied.proofs.count.missed_on.Goals as goal
 

@@ -1,9 +1,6 @@
 use mathlib.Core.Path.{◌≡◌}
 use Prim.Native.Nat.{◌-◌, ◌≤◌}
-use native.Mathlib.Omega.{arith}
-use borrow.Author.Rules.{rules}
 use Rattle.unsatisfied.specs.Answer.{missed_up_to}
-use Rattle.unsatisfied.proofs.VertexTests.{up-to-none, up-to-one-more}
 use Rattle.unsatisfied.proofs.count.missed_on.Given as goal
 
 abbrev pub invariant-loop-v : goal.invariant-loop-v

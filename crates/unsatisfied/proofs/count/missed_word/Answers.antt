@@ -1,6 +1,5 @@
 -- `unsatisfied::missed_word` meets its contract: the word passes exactly if its side's basis leaves nothing of it.
 use native.Mathlib.Omega.{arith}
-use borrow.Author.Rules.{rules}
 use Rattle.unsatisfied.proofs.VertexTests.{word-passed, word-failed}
 use Rattle.unsatisfied.proofs.count.missed_word.Goals as goal
 

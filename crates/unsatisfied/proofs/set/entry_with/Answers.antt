@@ -1,11 +1,10 @@
 -- `unsatisfied::entry_with` meets its contract: at no entry before i does the edge stand.
 use mathlib.Core.Path.{◌≡◌, sym, ◌∙◌}
-use Prim.Native.Nat.{ℕ, ◌-◌, ◌/◌, ◌≤◌, ◌<◌}
+use Prim.Native.Nat.{◌/◌}
 use native.Mathlib.Omega.{arith}
 use borrow.Author.Count.{below_more}
 use borrow.Author.Rules.{rules}
 use lib.ListN.{length}
-use Rattle.wiring.specs.Plan.{edge_of}
 use Rattle.unsatisfied.proofs.BitChange.{entry_found, entry-nowhere}
 use Rattle.unsatisfied.proofs.set.entry_with.Goals as goal
 

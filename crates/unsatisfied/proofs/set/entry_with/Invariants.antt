@@ -1,11 +1,6 @@
-use mathlib.Core.Path.{◌≡◌, sym, ◌∙◌}
-use Prim.Native.Nat.{ℕ, ◌-◌, ◌/◌, ◌≤◌, ◌<◌}
-use native.Mathlib.Omega.{arith}
-use borrow.Author.Count.{below_more}
-use borrow.Author.Rules.{rules}
-use lib.ListN.{length}
+use mathlib.Core.Path.{◌≡◌}
+use Prim.Native.Nat.{ℕ, ◌-◌, ◌≤◌, ◌<◌}
 use Rattle.wiring.specs.Plan.{edge_of}
-use Rattle.unsatisfied.proofs.BitChange.{entry_found, entry-nowhere}
 use Rattle.unsatisfied.proofs.set.entry_with.Given as goal
 
 abbrev pub invariant-loop-i : goal.invariant-loop-i

@@ -4,12 +4,10 @@ use mathlib.Core.List.{[]}
 use mathlib.Core.Path.{◌≡◌, sym, ap, ◌∙◌}
 use Prim.Native.Nat.{◌*◌}
 use native.Mathlib.Omega.{arith}
-use borrow.Author.Rules.{rules}
 use Rattle.inner_code.specs.Reply.{done}
 use Rattle.wiring.specs.Block.{block_check}
 use Rattle.wiring.specs.Checking.{check_reply}
-use Rattle.wiring.specs.Plan.{Plan, plan_of}
-use Rattle.wiring.specs.declared.plan.CheckedPlan.{CheckedPlan}
+use Rattle.wiring.specs.Plan.{plan_of}
 use Rattle.wiring.proofs.Permutation.{fitted-edges}
 use Rattle.wiring.proofs.Plans.{PlanAccepted, plan-accepted, plan-refused, accepted-edges}
 use Rattle.unsatisfied.proofs.Answers.{bit-plan-refused, bit-block-refused, bit_past, bit-checked, bit_kept, bit-turned}

@@ -1,5 +1,4 @@
 -- `wiring::bit_of` meets its contract: on the right it reads entry i, on the left the bit is i itself.
-use borrow.Author.Rules.{rules}
 use Rattle.wiring.specs.Plan.{side_bit}
 use Rattle.wiring.proofs.access.bit_of.Goals as goal
 

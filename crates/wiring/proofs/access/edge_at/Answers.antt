@@ -2,7 +2,6 @@
 use Prim.Native.Nat.{◌*◌, ◌+◌}
 use mathlib.Core.Path.{refl}
 use native.Mathlib.Omega.{arith}
-use borrow.Author.Rules.{rules}
 use Rattle.bits.specs.Bit.{pair_at}
 use Rattle.wiring.specs.Plan.{edge_of}
 use Rattle.wiring.proofs.access.edge_at.Goals as goal

@@ -1,5 +1,4 @@
 -- `wiring::vertex_at` meets its contract: each arm divides by d.
-use borrow.Author.Rules.{rules}
 use mathlib.Core.Path.{sym, ap}
 use Prim.Native.Nat.{ℕ, ◌/◌}
 use Rattle.wiring.proofs.access.vertex_at.Goals as goal

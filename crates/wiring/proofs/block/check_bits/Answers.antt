@@ -4,7 +4,6 @@ use mathlib.Core.Path.{◌≡◌, sym, ◌∙◌}
 use Prim.Native.Nat.{ℕ, ◌*◌, ◌%◌, ◌^◌, ◌<◌}
 use native.Mathlib.Nat.{one-mul}
 use native.Mathlib.Omega.{arith}
-use borrow.Author.Rules.{rules}
 use lib.Pow.{pow_pos, shl_exact}
 use Rattle.wiring.specs.Block.{block_bytes}
 use Rattle.wiring.proofs.Blocks.{bits-unsized, bits-whole, bits-low-clear, bits-low-set}

@@ -1,15 +1,12 @@
 -- `wiring::note_ends` meets its contract: after i turns the ends that the first i entries name are noted, and since no edge stands twice no
 -- later turn writes over one of them.
 use mathlib.Core.Path.{◌≡◌}
-use Prim.Native.Nat.{◌-◌, ◌≤◌, ◌<◌}
+use Prim.Native.Nat.{◌<◌}
 use borrow.Author.Rules.{rules}
 use native.Mathlib.Nat.{div-le_self}
 use native.Mathlib.Omega.{arith}
-use lib.ListN.{length, length-set}
-use Rattle.bits.specs.Window.{KeptFrom}
+use lib.ListN.{length-set}
 use Rattle.bits.proofs.Lists.{kept-start, kept_set}
-use Rattle.wiring.specs.Plan.{edge_of}
-use Rattle.wiring.specs.Ends.{Noted}
 use Rattle.wiring.proofs.EdgeEnds.{noted-none, noted-one-more}
 use Rattle.wiring.proofs.ends.note_ends.Goals as goal
 use Rattle.wiring.proofs.ends.note_ends.Goals.{After-edge_at-edge}

@@ -1,14 +1,9 @@
 use mathlib.Core.Path.{◌≡◌}
-use Prim.Native.Nat.{◌-◌, ◌≤◌, ◌<◌}
-use borrow.Author.Rules.{rules}
-use native.Mathlib.Nat.{div-le_self}
-use native.Mathlib.Omega.{arith}
-use lib.ListN.{length, length-set}
+use Prim.Native.Nat.{◌-◌, ◌≤◌}
+use lib.ListN.{length}
 use Rattle.bits.specs.Window.{KeptFrom}
-use Rattle.bits.proofs.Lists.{kept-start, kept_set}
 use Rattle.wiring.specs.Plan.{edge_of}
 use Rattle.wiring.specs.Ends.{Noted}
-use Rattle.wiring.proofs.EdgeEnds.{noted-none, noted-one-more}
 use Rattle.wiring.proofs.ends.note_ends.Given as goal
 
 abbrev pub invariant-loop-i : goal.invariant-loop-i

@@ -1,7 +1,7 @@
 -- `wiring::first_unsatisfied` meets its contract: within a side all vertices before v pass the test, and on the right side all of the left did.
 use mathlib.Core.Path.{◌≡◌, sym, ap, ap₂, ◌∙◌}
 use mathlib.Core.List.{List}
-use Prim.Native.Nat.{ℕ, ◌-◌, ◌≤◌, ◌<◌}
+use Prim.Native.Nat.{ℕ, ◌<◌}
 use native.Mathlib.Omega.{arith}
 use borrow.Author.Rules.{rules}
 use Rattle.inner_code.specs.Reply.{done}
@@ -42,11 +42,10 @@ read_word-word-requires c =
     rw held (c.requires.each side c.loop-v.v below)
 
 pub loop-v-preserved : goal.loop-v-preserved
-loop-v-preserved c =
-    (
-      search rules,
-      by-one-more _ _ _ _ _ _ _ c.loop-v.invariant.1 c.read_word-word.ensures c.residue.ensures c.if-residue-ne0.false,
-    )
+loop-v-preserved c = (
+  search rules,
+  by-one-more _ _ _ _ _ _ _ c.loop-v.invariant.1 c.read_word-word.ensures c.residue.ensures c.if-residue-ne0.false,
+)
 
 pub search-smaller : goal.search-smaller
 search-smaller c = rw c.in-Left.is (omega arith)

@@ -1,14 +1,9 @@
-use mathlib.Core.Path.{◌≡◌, sym, ap, ap₂, ◌∙◌}
-use mathlib.Core.List.{List}
-use Prim.Native.Nat.{ℕ, ◌-◌, ◌≤◌, ◌<◌}
-use native.Mathlib.Omega.{arith}
-use borrow.Author.Rules.{rules}
-use Rattle.inner_code.specs.Reply.{done}
+use mathlib.Core.Path.{◌≡◌}
+use Prim.Native.Nat.{ℕ, ◌-◌, ◌≤◌}
 use Rattle.wiring.specs.Plan.{left, right}
 use Rattle.wiring.specs.Access.{both_codes, unsatisfied_by}
-use Rattle.wiring.specs.declared.side.SideCode.{SideCode}
 use Rattle.wiring.specs.declared.side.SideName.{SideName}
-use Rattle.wiring.proofs.Locating.{found_by, by-none, by-one-more, by-found, located-found, located-nowhere}
+use Rattle.wiring.proofs.Locating.{found_by}
 use Rattle.wiring.proofs.locator.first_unsatisfied.Given as goal
 
 -- the sides still to come

@@ -2,9 +2,8 @@
 -- bases the search finds the definition's vertex.
 use mathlib.Core.Path.{sym, ap, ◌∙◌}
 use native.Mathlib.Omega.{arith}
-use borrow.Author.Rules.{rules}
 use Rattle.wiring.specs.Checking.{check_reply}
-use Rattle.wiring.specs.Plan.{Plan, plan_of, left, right}
+use Rattle.wiring.specs.Plan.{plan_of, left, right}
 use Rattle.wiring.proofs.Permutation.{fitted-edges}
 use Rattle.wiring.proofs.Plans.{PlanAccepted, plan-accepted, plan-refused, accepted-edges}
 use Rattle.wiring.proofs.Locating.{answer-plan-refused, answer-block-refused, answer-located}

@@ -1,13 +1,10 @@
 -- `wiring::note_places` meets its contract: after i turns the places of the first i entries' edges are noted, and no later entry has one of them.
 use mathlib.Core.Path.{◌≡◌, refl, ◌∙◌}
-use Prim.Native.Nat.{ℕ, ◌-◌, ◌/◌, ◌≤◌, ◌<◌}
+use Prim.Native.Nat.{◌/◌, ◌<◌}
 use native.Mathlib.Omega.{arith}
 use borrow.Author.Rules.{rules}
 use lib.ListN.{length, length-set}
-use Rattle.bits.specs.Window.{at, KeptFrom}
 use Rattle.bits.proofs.Lists.{kept-start, kept_set}
-use Rattle.wiring.specs.Plan.{edge_of}
-use Rattle.wiring.specs.Checking.{Permuted}
 use Rattle.wiring.proofs.EdgePlaces.{places-more}
 use Rattle.wiring.proofs.places.note_places.Goals as goal
 use Rattle.wiring.proofs.places.note_places.Goals.{After-edge_at}

@@ -1,13 +1,8 @@
-use mathlib.Core.Path.{◌≡◌, refl, ◌∙◌}
-use Prim.Native.Nat.{ℕ, ◌-◌, ◌/◌, ◌≤◌, ◌<◌}
-use native.Mathlib.Omega.{arith}
-use borrow.Author.Rules.{rules}
-use lib.ListN.{length, length-set}
+use mathlib.Core.Path.{◌≡◌}
+use Prim.Native.Nat.{ℕ, ◌-◌, ◌≤◌, ◌<◌}
+use lib.ListN.{length}
 use Rattle.bits.specs.Window.{at, KeptFrom}
-use Rattle.bits.proofs.Lists.{kept-start, kept_set}
 use Rattle.wiring.specs.Plan.{edge_of}
-use Rattle.wiring.specs.Checking.{Permuted}
-use Rattle.wiring.proofs.EdgePlaces.{places-more}
 use Rattle.wiring.proofs.places.note_places.Given as goal
 
 abbrev pub invariant-loop-i : goal.invariant-loop-i

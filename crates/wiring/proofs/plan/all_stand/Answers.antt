@@ -7,17 +7,17 @@ use Rattle.wiring.proofs.plan.all_stand.Goals as goal
 pub every_edge_stands-requires : goal.every_edge_stands-requires
 unfolding none_marked
 every_edge_stands-requires c = record {
-      edges_bound = search rules;
-      wiring_len = search rules;
-      mask_is_power = (10, refl);
-      marks_value = refl;
-    }
+  edges_bound = search rules;
+  wiring_len = search rules;
+  mask_is_power = (10, refl);
+  marks_value = refl;
+}
 
 pub every_edge_stands-requires-2 : goal.every_edge_stands-requires-2
 unfolding none_marked
 every_edge_stands-requires-2 c = record {
-      edges_bound = search rules;
-      wiring_len = search rules;
-      mask_is_power = (15, refl);
-      marks_value = refl;
-    }
+  edges_bound = search rules;
+  wiring_len = search rules;
+  mask_is_power = (15, refl);
+  marks_value = refl;
+}

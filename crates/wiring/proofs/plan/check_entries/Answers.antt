@@ -1,10 +1,7 @@
 -- `wiring::check_entries` meets its contract: after i turns the first i entries have passed, and `seen` has a bit for each of their edges.
 use mathlib.Core.Path.{◌≡◌, refl, sym, ap, ◌∙◌}
-use mathlib.Core.List.{[]}
-use Prim.Native.Nat.{◌-◌, ◌≤◌}
 use native.Mathlib.Omega.{arith}
 use borrow.Author.Rules.{rules}
-use Rattle.inner_code.specs.Reply.{done}
 use Rattle.wiring.specs.Plan.{edge_of}
 use Rattle.wiring.specs.Wiring.{entries_check}
 use Rattle.wiring.specs.Access.{none_seen, seen_after}

@@ -1,14 +1,10 @@
-use mathlib.Core.Path.{◌≡◌, refl, sym, ap, ◌∙◌}
+use mathlib.Core.Path.{◌≡◌}
 use mathlib.Core.List.{[]}
 use Prim.Native.Nat.{◌-◌, ◌≤◌}
-use native.Mathlib.Omega.{arith}
-use borrow.Author.Rules.{rules}
 use Rattle.inner_code.specs.Reply.{done}
 use Rattle.wiring.specs.Plan.{edge_of}
 use Rattle.wiring.specs.Wiring.{entries_check}
 use Rattle.wiring.specs.Access.{none_seen, seen_after}
-use Rattle.wiring.proofs.Permutation.{entries-refused, entries-one-more}
-use Rattle.wiring.proofs.SeenBits.{entry-high, entry_seen, entry-fresh, seen_stored}
 use Rattle.wiring.proofs.plan.check_entries.Given as goal
 
 abbrev pub invariant-loop-i : goal.invariant-loop-i

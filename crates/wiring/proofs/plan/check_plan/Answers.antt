@@ -1,7 +1,6 @@
 -- `wiring::check_plan` meets its contract: each return is the outcome of the first of both sheets and the wiring that refuses.
 use mathlib.Core.Path.{sym, ap, ◌∙◌}
 use native.Mathlib.Omega.{arith}
-use borrow.Author.Rules.{rules}
 use Rattle.inner_code.proofs.SheetChecks.{accepted}
 use Rattle.wiring.specs.Checking.{check_reply}
 use Rattle.wiring.proofs.Plans.{checked-left-refused, checked-right-refused, checked-wiring-refused, checked-accepted}

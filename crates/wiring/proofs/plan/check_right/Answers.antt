@@ -1,5 +1,4 @@
 -- `wiring::check_right` meets its contract: of sheets that are the same the check is the same.
-use borrow.Author.Rules.{rules}
 use Rattle.wiring.proofs.plan.check_right.Goals as goal
 
 pub returns-then-same : goal.returns-then-same

@@ -3,7 +3,6 @@ use mathlib.Core.Bool.{false}
 use mathlib.Core.Path.{◌≡◌, sym, ◌∙◌}
 use Prim.Native.Nat.{◌*◌, ◌≤◌}
 use native.Mathlib.Omega.{arith}
-use borrow.Author.Rules.{rules}
 use Rattle.wiring.specs.Wiring.{count_faulty}
 use Rattle.wiring.proofs.Permutation.{edges_le, count-range, wiring-left-count, wiring-right-count}
 use Rattle.wiring.proofs.Permutation.{wiring-differing, wiring-unsized, wiring-entries}

@@ -3,8 +3,7 @@
 use mathlib.Core.Path.{◌≡◌, refl, sym, ap, ◌∙◌}
 use mathlib.Core.Bool.{false≢true}
 use mathlib.Core.List.{List}
-use mathlib.Core.Logic.{⊎_elim}
-use Prim.Native.Nat.{ℕ, ◌+◌, ◌-◌, ◌≤◌, ◌<◌}
+use Prim.Native.Nat.{ℕ, ◌+◌}
 use borrow.Author.Rules.{rules}
 use borrow.Author.Tests.{eqb-true}
 use native.Mathlib.Nat.{not-suc-le-zero}
@@ -59,9 +58,9 @@ loop-e-preserved c =
     let marks = at c.loop-i.marks in (
       omega arith,
       (elim c.if-mark-least.branch [
-          | then-mark-least w ↦ w.least-is ∙ least-lowered marks turn.e turn.least turn.invariant.1 w.if-mark-least.true
-          | else-mark-least w ↦ w.least-is ∙ least_kept marks turn.e turn.least turn.invariant.1 w.if-mark-least.false
-        ]),
+        | then-mark-least w ↦ w.least-is ∙ least-lowered marks turn.e turn.least turn.invariant.1 w.if-mark-least.true
+        | else-mark-least w ↦ w.least-is ∙ least_kept marks turn.e turn.least turn.invariant.1 w.if-mark-least.false
+      ]),
     )
 
 pub shape_of-marks : goal.shape_of-marks

@@ -1,19 +1,10 @@
-use mathlib.Core.Path.{◌≡◌, refl, sym, ap, ◌∙◌}
-use mathlib.Core.Bool.{false≢true}
-use mathlib.Core.List.{List}
-use mathlib.Core.Logic.{⊎_elim}
+use mathlib.Core.Path.{◌≡◌}
 use Prim.Native.Nat.{ℕ, ◌+◌, ◌-◌, ◌≤◌, ◌<◌}
-use borrow.Author.Rules.{rules}
-use borrow.Author.Tests.{eqb-true}
-use native.Mathlib.Nat.{not-suc-le-zero}
-use native.Mathlib.Omega.{arith}
-use lib.Bits.{and_le_r}
-use lib.ListN.{length, length-set}
+use lib.ListN.{length}
 use Rattle.bits.specs.Window.{at}
 use Rattle.bits.specs.Search as Search
 use Rattle.wiring.specs.Plan.{edge_of}
 use Rattle.wiring.specs.Access.{none_marked, marked_after}
-use Rattle.wiring.proofs.EdgeMarks.{marked-none-length, entries-marked, marked-one-more, digits-one-more, least-lowered, least_kept}
 use Rattle.wiring.proofs.plan.every_edge_stands.Given as goal
 
 abbrev pub invariant-loop-i : goal.invariant-loop-i

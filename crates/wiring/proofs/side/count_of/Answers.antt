@@ -1,5 +1,4 @@
 -- `wiring::count_of` meets its contract: each arm gives the number of its side.
-use borrow.Author.Rules.{rules}
 use mathlib.Core.Path.{sym, ap}
 use Rattle.wiring.specs.declared.side.SideName.{SideName}
 use Rattle.wiring.specs.Access.{count_for}

@@ -1,5 +1,4 @@
 -- `wiring::other_side` meets its contract: each side gives the other.
-use borrow.Author.Rules.{rules}
 use Rattle.wiring.specs.Plan.{other}
 use Rattle.wiring.proofs.side.other_side.Goals as goal
 

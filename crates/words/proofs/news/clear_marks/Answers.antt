@@ -1,11 +1,9 @@
 -- `words::clear_marks` meets its contract: the numbers behind the words are 0, one after the other.
-use mathlib.Core.Path.{◌≡◌, ◌∙◌}
-use Prim.Native.Nat.{ℕ, ◌-◌, ◌≤◌, ◌<◌}
+use mathlib.Core.Path.{◌∙◌}
 use native.Mathlib.Decide.{ℕ_discrete}
 use native.Mathlib.Omega.{arith}
-use lib.ListN.{length, length-set}
+use lib.ListN.{length-set}
 use borrow.Author.Rules.{rules}
-use Rattle.bits.specs.Window.{at}
 use Rattle.bits.proofs.Lists.{at_set_same, at_set_other}
 use Rattle.words.proofs.news.clear_marks.Goals as goal
 

@@ -1,11 +1,7 @@
-use mathlib.Core.Path.{◌≡◌, ◌∙◌}
+use mathlib.Core.Path.{◌≡◌}
 use Prim.Native.Nat.{ℕ, ◌-◌, ◌≤◌, ◌<◌}
-use native.Mathlib.Decide.{ℕ_discrete}
-use native.Mathlib.Omega.{arith}
-use lib.ListN.{length, length-set}
-use borrow.Author.Rules.{rules}
+use lib.ListN.{length}
 use Rattle.bits.specs.Window.{at}
-use Rattle.bits.proofs.Lists.{at_set_same, at_set_other}
 use Rattle.words.proofs.news.clear_marks.Given as goal
 
 abbrev pub invariant-loop-i : goal.invariant-loop-i

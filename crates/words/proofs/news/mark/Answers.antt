@@ -1,5 +1,4 @@
 -- `words::mark` meets its contract: the digit of the vertex is set where it is not.
-use borrow.Author.Rules.{rules}
 use Rattle.bits.specs.Bit.{digit}
 use Rattle.bits.specs.Window.{at}
 use Rattle.words.proofs.Marks.{marked-once}

@@ -1,6 +1,5 @@
 -- `words::news_of` meets its contract: the marks of the left side stand behind the words, those of the right side behind them.
 use mathlib.Core.Path.{sym, ap}
-use borrow.Author.Rules.{rules}
 use Rattle.words.specs.Marks.{news_of}
 use Rattle.words.proofs.news.news_of.Goals as goal
 

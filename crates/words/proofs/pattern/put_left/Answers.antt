@@ -2,22 +2,20 @@
 -- edge.
 use Prim.Native.Nat.{ℕ, ◌+◌, ◌-◌, ◌*◌, ◌/◌, ◌<◌}
 use mathlib.Core.List.{[]}
-use mathlib.Core.Path.{◌≡◌, refl, ◌∙◌}
+use mathlib.Core.Path.{◌≡◌, refl}
 use native.Mathlib.Nat.{div-lt_iff_lt-mul}
 use native.Mathlib.Omega.{arith}
-use borrow.Author.Rules.{rules}
 use lib.Arith.{digits_lt}
 use lib.Pow.{pow_pos}
 use Rattle.bits.specs.Window.{at}
 use Rattle.inner_code.specs.Reply.{done}
 use Rattle.inner_code.specs.Sheet.{degree}
 use Rattle.wiring.specs.Wiring.{plan_check}
-use Rattle.wiring.specs.Plan.{Plan, plan_of, side_bit, edge_count, left, right, other}
-use Rattle.wiring.specs.declared.side.SideName.{SideName}
+use Rattle.wiring.specs.Plan.{plan_of, side_bit, edge_count, left, right, other}
 use Rattle.wiring.proofs.Plans.{fitted-sheet, plan-fits, plan-whole, plan-few, plan-entries}
 use Rattle.words.specs.Marks.{news_of, told_right}
-use Rattle.words.proofs.Patterns.{rest-sized, rest-high, length-pattern}
-use Rattle.words.proofs.Putting.{Putting, putting-start, putting-done, putting-more}
+use Rattle.words.proofs.Patterns.{rest-high}
+use Rattle.words.proofs.Putting.{putting-start, putting-done, putting-more}
 use Rattle.wiring.proofs.EdgePlaces.{places-lt, places-bit}
 use Rattle.words.proofs.pattern.put_left.Goals as goal
 use Rattle.words.proofs.pattern.put_left.Goals.{After-highest-high, Start}

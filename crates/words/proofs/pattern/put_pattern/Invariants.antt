@@ -1,11 +1,6 @@
-use mathlib.Core.Path.{refl, ◌∙◌}
-use Prim.Native.Nat.{◌<◌}
-use native.Mathlib.Omega.{arith}
-use borrow.Author.Rules.{rules}
-use lib.Pow.{pow_pos}
 use Rattle.wiring.specs.Plan.{side_bit}
 use Rattle.words.specs.Words.{pattern_put}
-use Rattle.words.proofs.Patterns.{Rest, rest-sized, rest-none, rest-high, rest_more, length-pattern}
+use Rattle.words.proofs.Patterns.{Rest}
 use Rattle.words.proofs.pattern.put_pattern.Given as goal
 
 abbrev pub invariant-loop-rest : goal.invariant-loop-rest

@@ -1,5 +1,4 @@
 -- `words::put_told` meets its contract: each arm puts the pattern on a vertex of its side.
-use borrow.Author.Rules.{rules}
 use Rattle.words.proofs.pattern.put_told.Goals as goal
 
 pub put_left-requires : goal.put_left-requires

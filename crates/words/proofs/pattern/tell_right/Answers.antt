@@ -6,7 +6,6 @@ use native.Mathlib.Nat.{div-add-mod', mod-lt}
 use native.Mathlib.Omega.{arith}
 use lib.Bits.{bit_xor}
 use lib.ListN.{get_or, set, length-set}
-use borrow.Author.Rules.{rules}
 use Rattle.bits.specs.Window.{at}
 use Rattle.wiring.specs.declared.side.SideName.{SideName}
 use Rattle.words.specs.Marks.{news_of, marked, told_right}

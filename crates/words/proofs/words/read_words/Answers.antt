@@ -1,24 +1,21 @@
 -- `words::read_words` meets its contract: after v turns the list has the words of the first v right vertices.
 use mathlib.Core.List.{[]}
 use mathlib.Core.Path.{◌≡◌, refl, ◌∙◌}
-use Prim.Native.Nat.{ℕ, ◌+◌, ◌-◌, ◌*◌, ◌≤◌, ◌<◌}
+use Prim.Native.Nat.{◌+◌, ◌*◌, ◌≤◌, ◌<◌}
 use native.Mathlib.Nat.{le_trans}
 use native.Mathlib.Omega.{arith}
 use borrow.Author.Rules.{rules}
 use lib.ListN.{length, length-set}
 use Rattle.wiring.proofs.Blocks.{block_room}
-use Rattle.bits.specs.Window.{at}
 use Rattle.inner_code.specs.Reply.{done}
 use Rattle.inner_code.specs.Sheet.{degree}
 use Rattle.wiring.specs.Access.{word_from}
 use Rattle.wiring.specs.Block.{vertex_word}
-use Rattle.wiring.specs.Plan.{Plan, plan_of, side_of, side_bit, edge_count, right}
+use Rattle.wiring.specs.Plan.{plan_of, side_of, side_bit, edge_count, right}
 use Rattle.wiring.specs.Wiring.{plan_check}
-use Rattle.wiring.specs.declared.side.SideName.{SideName}
 use Rattle.wiring.proofs.Permutation.{entry_lt, fitted-vertex}
 use Rattle.bits.proofs.Lists.{at_set_other}
 use Rattle.wiring.proofs.Plans.{fitted-sheet, plan-fits, plan-whole, plan-few}
-use Rattle.words.specs.Marks.{Cleared}
 use Rattle.words.proofs.RightWords.{words_more}
 use Rattle.words.proofs.words.read_words.Goals as goal
 use Rattle.words.proofs.words.read_words.Goals.{In-loop-v, Start}
@@ -80,8 +77,7 @@ bounds-kept-v c = omega (arith, few (goal.at.bounds-kept-v c).In-loop-v)
 pub loop-v-preserved : goal.loop-v-preserved
 unfolding degree vertex_word word_from side_bit
 loop-v-preserved c =
-    let turn = c.loop-v in
-    (
+    let turn = c.loop-v in (
       omega arith,
       record {
         sized = length-set turn.kept turn.v _ ∙ turn.invariant.1.sized;
