@@ -15,19 +15,21 @@ SANITIZED = -std=c11 -Wall -Wextra -Werror -O1 -g -fsanitize=address,undefined -
 
 BUILD = target/host
 LIBRARY = $(BUILD)/liblembikat.a
-SOURCES = crates.txt $(shell find crates -name '*.rt' -o -name '*.antt')
+MARGIN = crates/margin/out/margin
+VECTORS = crates/vectors/out/vectors
+SOURCES = crates.txt $(shell find crates -name out -prune -o \( -name '*.rt' -o -name '*.antt' \) -print)
 AT = $(DESTDIR)$(PREFIX)
 
 .NOTPARALLEL:
 .PHONY: run test bench host install uninstall clean
 
-run: target/bin/margin $(BUILD)/caption_link $(BUILD)/panel
+run: target/proved $(MARGIN) $(VECTORS) $(BUILD)/caption_link $(BUILD)/panel
 	@echo
 	@echo "16 carriers, 8 time slots: the margin sheet of the example host's plan; up to 5 flipped bits in a block of 128 are mended"
-	@target/bin/margin <tests/carrier-plan.bin
+	@$(MARGIN) <tests/carrier-plan.bin
 	@echo
 	@echo "equal sides: the margin sheet of the square plan with the house code; up to 3 flipped bits in a block of 64 are mended"
-	@target/bin/margin <tests/square-plan.bin
+	@$(MARGIN) <tests/square-plan.bin
 	@echo
 	@$(BUILD)/caption_link
 	@echo
@@ -48,18 +50,26 @@ bench: $(BUILD)/bench
 	$(BUILD)/bench
 endif
 
-# Every crate is proved before anything is built from it. Of what the prover says, a line a crate is shown, and all of it where it fails.
-target/bin/margin: $(SOURCES)
+# Every crate is proved. Of what the prover says, a line a crate is shown, and all of it where it fails.
+SHOWN = { grep --line-buffered '^crate ' || true; }
+target/proved: $(SOURCES)
 	@mkdir -p target
-	@echo "proving and building every crate, which takes some minutes; all that the prover says is in target/prove.log"
-	@rt check 2>&1 | tee target/prove.log | grep --line-buffered '^rt:' || { cat target/prove.log; exit 1; }
+	@echo "proving every crate, which takes some minutes; all that the prover says is in target/prove.log"
+	@rt all check 2>&1 | tee target/prove.log | $(SHOWN) || { cat target/prove.log; exit 1; }
 	@touch $@
 
-# Each function of the archive begins at a multiple of 64, so that its speed does not depend on where a host's linker puts it.
+# A program is built by rt run, which proves it and the crates below it first, and leaves it in its folder out/.
+$(MARGIN) $(VECTORS): $(SOURCES)
+	@mkdir -p target
+	@cd $(@D)/.. && rt run <stdin 2>&1 >/dev/null | tee ../../target/$(@F).log | $(SHOWN) || { cat ../../target/$(@F).log; exit 1; }
+	@touch $@
+
+# The archive is built only of what is proved. Each function in it begins at a multiple of 64, so that its speed does not depend on where a
+# host's linker puts it.
 $(LIBRARY): $(SOURCES)
 	@mkdir -p $(BUILD)
-	@rt staticlib c_api 2>&1 | tee $(BUILD)/prove.log | grep --line-buffered '^rt:' || { cat $(BUILD)/prove.log; exit 1; }
-	objcopy --set-section-alignment '.text*=64' target/staticlib/libc_api.a $@
+	@cd crates/c_api && rt lib 2>&1 | tee ../../$(BUILD)/prove.log | $(SHOWN) || { cat ../../$(BUILD)/prove.log; exit 1; }
+	objcopy --set-section-alignment '.text*=64' crates/c_api/out/libc_api.a $@
 
 $(BUILD)/caption_link: host/caption_link.c host/carriers.h include/lembikat.h $(LIBRARY)
 	$(CC) $(CFLAGS) -Iinclude host/caption_link.c $(LIBRARY) -o $@
@@ -85,17 +95,17 @@ $(BUILD)/bench_expert: bench/bench.c bench/plain.h include/lembikat.h $(BUILD)/p
 	$(CC) -std=gnu11 -O3 -c $(EXPERT) -o $(BUILD)/expert.o
 	$(CC) $(CFLAGS) -DEXPERT -Iinclude bench/bench.c $(BUILD)/plain.o $(BUILD)/expert.o $(LIBRARY) -o $@
 
-install: $(LIBRARY) target/bin/margin
+install: $(LIBRARY) $(MARGIN)
 	install -d $(AT)/lib/pkgconfig $(AT)/include $(AT)/bin $(AT)/share/man/man1
 	install -m 644 $(LIBRARY) $(AT)/lib/liblembikat.a
 	install -m 644 include/lembikat.h $(AT)/include/lembikat.h
 	sed 's|@PREFIX@|$(PREFIX)|' lembikat.pc.in >$(AT)/lib/pkgconfig/lembikat.pc
 	chmod 644 $(AT)/lib/pkgconfig/lembikat.pc
-	install -m 755 target/bin/margin $(AT)/bin/margin
+	install -m 755 $(MARGIN) $(AT)/bin/margin
 	install -m 644 man/margin.1 $(AT)/share/man/man1/margin.1
 
 uninstall:
 	rm -f $(AT)/lib/liblembikat.a $(AT)/include/lembikat.h $(AT)/lib/pkgconfig/lembikat.pc $(AT)/bin/margin $(AT)/share/man/man1/margin.1
 
 clean:
-	rm -rf target
+	rm -rf target crates/*/out

@@ -4,6 +4,7 @@
 # a tie, the word stays and no bit is told to be changed. There are 112 ties: a list without them would not test the second half.
 set -u
 cd "$(dirname "$0")/.." || exit 1
+make -s crates/vectors/out/vectors || exit 1
 
 # one record of service 1 for each word: the sheet's 10 bytes behind their length, the word as 8 bytes
 stream() {
@@ -14,7 +15,7 @@ stream() {
     done
 }
 
-stream | target/bin/vectors | paste - tests/house-words-guava.jsonl | awk '
+stream | crates/vectors/out/vectors | paste - tests/house-words-guava.jsonl | awk '
     # the exclusive-or and the ones of numbers below 256
     function xor(a, b,    r, w) {
         for (w = 1; w < 256; w *= 2) if (int(a / w) % 2 != int(b / w) % 2) r += w

@@ -4,8 +4,9 @@
 # `refused:` names must be refused there, by errors of their own, and no other one may be.
 #
 # An edit has the form of those in crates/*/must-fail, with paths from the top of the repository: a `file:` line holds for the `old:` and `new:`
-# pairs after it. All edits are made at once on a copy of the crates, beside what is proved of them already, since no two are refused by the same
-# part of a promise; with names of edits as arguments only these are made, and what the prover says is shown.
+# pairs after it. All edits are made at once on a copy of the crates, since no two are refused by the same part of a promise; with names of edits
+# as arguments only these are made, and what the prover says is shown. The copy has no out/: a check in it begins with what checks in other
+# folders of this machine have kept of the same crates, where there are such, and else proves them anew.
 set -u
 cd "$(dirname "$0")/.." || exit 1
 user=known_answers
@@ -16,6 +17,13 @@ if [ $# -gt 0 ]; then
     edits=("${@/#/tests/weaker/}")
     edits=("${edits[@]/%/.edit}")
 fi
+
+# nothing REASON: no edit is refused as it must be
+nothing() {
+    echo "FAILED: $1"
+    echo "0 passed, ${#edits[@]} failed"
+    exit 1
+}
 
 # apply EDIT: the edit is made on the copy
 apply() {
@@ -34,31 +42,43 @@ apply() {
                     rest = substr(text, at + length(old))
                     if (old == "" || !at || index(rest, old)) exit 1
                     printf "%s%s%s", substr(text, 1, at - 1), ENVIRON["NEW"], rest
-                }' "$file" >"$copy/edited" || { echo "FAILED: $1: '$old' does not stand exactly once in ${file#"$copy"/}"; return 1; }
+                }' "$file" >"$copy/edited" || nothing "$1: '$old' does not stand exactly once in ${file#"$copy"/}"
             mv "$copy/edited" "$file"
             ;;
         esac
     done <"$1"
 }
 
-mkdir "$copy/target"
-cp -R crates crates.txt "$copy"
-cp -R target/rlib target/stamp "$copy/target"
-for edit in "${edits[@]}"; do apply "$edit" || { echo "0 passed, ${#edits[@]} failed"; exit 1; }; done
-(cd "$copy" && RT_CUT=0 rt check "$user") >"$copy/log" 2>&1
+tar -c --exclude='crates/*/out' crates crates.txt | tar -x -C "$copy"
+for edit in "${edits[@]}"; do apply "$edit"; done
+
+# rt lib builds a library only of a crate that is proved, and `rt check` above takes that library
+for crate in $(sed -n 's,^file: crates/\([a-z_]*\)/.*,\1,p' "${edits[@]}" | sort -u); do
+    (cd "$copy/crates/$crate" && rt lib) >"$copy/log" 2>&1 && continue
+    cat "$copy/log"
+    nothing "$crate itself is refused"
+done
+(cd "$copy/crates/$user" && rt check) >"$copy/log" 2>&1
 [ $# -eq 0 ] || cat "$copy/log"
+# without this line the prover has not come to the statements
+grep -q '^logic=not-proved' "$copy/log" || { cat "$copy/log"; nothing "$user is not refused"; }
 
 failed=0
-for crate in $(sed -n 's,^file: crates/\([a-z_]*\)/.*,\1,p' "${edits[@]}" | sort -u); do
-    grep -q "^rt: $crate proved (" "$copy/log" || { echo "FAILED: $crate itself is refused"; failed=${#edits[@]}; }
-done
-# a statement that only cites a refused one is told apart by the prover
-refused=$(grep -v 'was not admitted' "$copy/log" | sed -n "s,^[^ ]*/crates/$user/proofs/[A-Za-z]*\.antt:[0-9:]* error: \`\([^\`]*\)\`:.*,\1,p" | sort -u)
+# Each error is of a statement by itself, or says that what cites a refused one was not checked. Another one may stand for an error of a
+# statement, so it counts as one that no edit names.
+at='^(\./)?[^ :]+:[0-9]+:[0-9]+: error: '
+refused=$(sed -n -E "s,$at\`([^\`]*)\`:.*,\2,p" "$copy/log" | sort -u)
 named=$(sed -n 's/^refused: //p' "${edits[@]}" | tr ' ' '\n' | sort -u)
 for other in $(comm -23 <(echo "$refused") <(echo "$named")); do
     echo "FAILED: $other is refused, and no edit names it"
     failed=${#edits[@]}
 done
+others=$(grep -E '^([^ ]+:[0-9]+:[0-9]+: )?error|is not admitted' "$copy/log" |
+    grep -v -E "$at(\`[^\`]*\`:|[0-9]+ declarations? that depends? on \`)")
+if [ -n "$others" ]; then
+    echo "FAILED: what is refused here is no statement: $others"
+    failed=${#edits[@]}
+fi
 for edit in "${edits[@]}"; do
     name=$(basename "$edit" .edit)
     statements=$(sed -n 's/^refused: //p' "$edit")
