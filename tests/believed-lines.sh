@@ -36,7 +36,7 @@ done
 for other in "${others[@]}"; do
     crate=${other#crates/} name=$(basename "$other" .antt)
     crate=${crate%%/*}
-    if grep -l "^use Rattle·$crate\(·specs\.specs\|\.specs\)\.$name\." "${believed[@]}"; then
+    if grep -l "^use Rattle\.$crate\.specs\.$name\." "${believed[@]}"; then
         echo "imports $other, which need not be believed"
         wrong=1
     fi
