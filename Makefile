@@ -61,14 +61,14 @@ target/proved: $(SOURCES)
 # A program is built by rt run, which proves it and the crates below it first, and leaves it in its folder out/.
 $(MARGIN) $(VECTORS): $(SOURCES)
 	@mkdir -p target
-	@cd $(@D)/.. && rt run <stdin 2>&1 >/dev/null | tee ../../target/$(@F).log | $(SHOWN) || { cat ../../target/$(@F).log; exit 1; }
+	@(cd crates/$(@F) && rt run <stdin 2>&1 >/dev/null) | tee target/$(@F).log | $(SHOWN) || { cat target/$(@F).log; exit 1; }
 	@touch $@
 
 # The archive is built only of what is proved. Each function in it begins at a multiple of 64, so that its speed does not depend on where a
 # host's linker puts it.
 $(LIBRARY): $(SOURCES)
 	@mkdir -p $(BUILD)
-	@cd crates/c_api && rt lib 2>&1 | tee ../../$(BUILD)/prove.log | $(SHOWN) || { cat ../../$(BUILD)/prove.log; exit 1; }
+	@(cd crates/c_api && rt lib 2>&1) | tee $(BUILD)/prove.log | $(SHOWN) || { cat $(BUILD)/prove.log; exit 1; }
 	objcopy --set-section-alignment '.text*=64' crates/c_api/out/libc_api.a $@
 
 $(BUILD)/caption_link: host/caption_link.c host/carriers.h include/lembikat.h $(LIBRARY)
