@@ -1,8 +1,8 @@
 #!/usr/bin/env bash
 # What the compilers make of the library: the program `vectors` as LLVM builds it and as Rattle's own compiler does at its levels 0, 2 and 3, each
-# held to the stored lines of the stored stream and to the examples of docs/STREAM.md, and then by `rt try`, which compiles the same text with
-# its assumptions checked and also runs it on an interpreter, which compiles nothing. The interpreter ends at twenty million steps: enough
-# for the examples, and the stored stream is too long for it.
+# held to the stored lines of the stored stream and to the examples of docs/STREAM.md, and then by `rt try`, which has LLVM compile the same
+# text with checks and also runs it on an interpreter, which compiles nothing. The interpreter ends at twenty million steps: enough for the
+# examples, and the stored stream is too long for it.
 set -u
 cd "$(dirname "$0")/.." || exit 1
 made=$(mktemp -d)
