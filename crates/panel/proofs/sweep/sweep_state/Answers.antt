@@ -25,7 +25,7 @@ returns-in-Refused c =
 pub returns-in-Passed : goal.returns-in-Passed
 returns-in-Passed c =
     let both = (sweep-settled (plan_of c.args.left.now c.args.right.now c.args.nl c.args.nr c.args.wiring.now) (c.args.state.now) c.read_head-head.ensures.count_value.0 c.read_head-head.ensures.sweeps_value.0
-    c.check_state.ensures (ap check_reply c.in-Passed.is) c.if-count-eq0.true) in record { result_value = both.0; state_after = both.1 }
+    c.check_state.ensures (ap check_reply c.in-Passed.is) (omega arith)) in record { result_value = both.0; state_after = both.1 }
 
 pub returns-in-Refused-check_state : goal.returns-in-Refused-check_state
 returns-in-Refused-check_state c =
@@ -34,7 +34,7 @@ returns-in-Refused-check_state c =
 pub returns-in-Passed-check_state : goal.returns-in-Passed-check_state
 returns-in-Passed-check_state c =
     let both = (sweep-over (plan_of c.args.left.now c.args.right.now c.args.nl c.args.nr c.args.wiring.now) (c.args.state.now) c.read_head-head.ensures.count_value.0 c.read_head-head.ensures.sweeps_value.0
-    c.check_state-then-sweeps-ge-MAX_SWEEPS.ensures (ap check_reply c.in-Passed-check_state.is) c.if-count-eq0.false c.if-sweeps-ge-MAX_SWEEPS.true) in record { result_value = both.0; state_after = both.1 }
+    c.check_state-then-sweeps-ge-MAX_SWEEPS.ensures (ap check_reply c.in-Passed-check_state.is) (λ z. omega arith) c.if-sweeps-ge-MAX_SWEEPS.true) in record { result_value = both.0; state_after = both.1 }
 
 -- ---- the block is lent on
 
@@ -57,5 +57,5 @@ returns-in-Refused-sweep_once c =
 
 pub returns-in-Told : goal.returns-in-Told
 returns-in-Told c =
-    let both = (sweep-put _ _ (lent (goal.at.returns-in-Told c).After-sweep_once) (told (goal.at.returns-in-Told c).In-Told) c.read_head-head.ensures.count_value.0 c.read_head-head.ensures.sweeps_value.0 c.if-state-lt-HEAD.false c.if-count-eq0.false
+    let both = (sweep-put _ _ (lent (goal.at.returns-in-Told c).After-sweep_once) (told (goal.at.returns-in-Told c).In-Told) c.read_head-head.ensures.count_value.0 c.read_head-head.ensures.sweeps_value.0 c.if-state-lt-HEAD.false (λ z. omega arith)
     c.if-sweeps-ge-MAX_SWEEPS.false c.put_head.ensures) in record { result_value = both.0; state_after = both.1 }
