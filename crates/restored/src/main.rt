@@ -9,7 +9,6 @@ mod flip;
 mod outcome;
 mod plan;
 
-ghost use Rattle.std.specs.Prelude.{◌≡◌, true};
 ghost use Rattle.restored.specs.Sent.{Received};
 
 use std::io;
@@ -47,13 +46,13 @@ fn restore(received: &[u8])
     let sent = plan::sent_block();
     let mut output = [0u8; 8];
     let count = outcome::sweeps(plan::decode(received, &mut output, LIMIT));
-    expect(count <= NAMED);
-    expect(output == sent);
+    check::expect(count <= NAMED);
+    check::expect(check::same(&output, &sent));
     let again = plan::decode(received, &mut output, count);
-    expect(outcome::sweeps(again) == count);
+    check::expect(outcome::sweeps(again) == count);
     if 0 < count {
         let sooner = plan::decode(received, &mut output, count - 1);
-        expect(outcome::is_unsettled(sooner));
+        check::expect(outcome::is_unsettled(sooner));
     }
 }
 
@@ -62,12 +61,5 @@ fn tell_apart(received: &[u8])
     requires { Received received.now }
 {
     let other = [0u8; 8];
-    expect(FLIPS < flip::differing(&other, received));
-}
-
-// What is expected is proved.
-fn expect(ok: bool)
-    requires { ok ≡ true }
-{
-    prove!(ok);
+    check::expect(FLIPS < flip::differing(&other, received));
 }

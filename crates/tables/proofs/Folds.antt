@@ -297,7 +297,7 @@ module _ (number : ℕ → ℕ) (linear : (v w : ℕ) → number (bit_xor v w) �
 -- ---- all digits: the key is marked to the entry of the class
 
 module _ (row : ℕ → ℕ) (k d : ℕ) (d-high : d ≤ 16) (rows-lt : (i : ℕ) → i < k → row i < 2 ^ d) (number : ℕ → ℕ)
-    (same_Class : (v w : ℕ) → v < 2 ^ d → w < 2 ^ d → number v ≡ number w → is_codeword row k (bit_xor v w) ≡ true)
+    (same-class : (v w : ℕ) → v < 2 ^ d → w < 2 ^ d → number v ≡ number w → is_codeword row k (bit_xor v w) ≡ true)
     (one_class : (v w : ℕ) → is_codeword row k (bit_xor v w) ≡ true → number v ≡ number w) where
   pub light-entry : {c key : ℕ} (s : ℕ) → s < 2 ^ d → number s ≡ c → Lightest number d c key → marked (key / 65536) (key % 65536) ≡ entry_of row k d s
   unfolding marked entry_of
@@ -313,7 +313,7 @@ module _ (row : ℕ → ℕ) (k d : ℕ) (d-high : d ≤ 16) (rows-lt : (i : ℕ
       below p l = omega (arith, l, pow_mono d-high)
 
       leads : (p : ℕ) → p < 2 ^ d → number p ≡ c → is_codeword row k (bit_xor s p) ≡ true
-      leads p l n = same_Class s p s-lt l (s-is ∙ sym n)
+      leads p l n = same-class s p s-lt l (s-is ∙ sym n)
 
       numbered : (p : ℕ) → is_codeword row k (bit_xor s p) ≡ true → number p ≡ c
       numbered p e = sym (one_class s p e) ∙ s-is

@@ -114,11 +114,11 @@ module _ {plan : Plan} {l r : SideCode} {e : ℕ} {block : List ℕ} (checked : 
         rw (entry-missed name held block place b within before-told, entry-missed name held after place a within after-told)
         (rw there at (at-turned (side_of plan name) (whole name) block room place within))
 
-    pub change-turned : {place : ℕ} → place ≡ entry_with plan.wiring e → {left-before right-before left_After right-after : ℕ}
+    pub change-turned : {place : ℕ} → place ≡ entry_with plan.wiring e → {left-before right-before left-after right-after : ℕ}
         → left-before ≡ missed_by l left plan.wiring block (e / l.d) → right-before ≡ missed_by r right plan.wiring block (place / r.d)
-        → left_After ≡ missed_by l left plan.wiring after (e / l.d) → right-after ≡ missed_by r right plan.wiring after (place / r.d)
+        → left-after ≡ missed_by l left plan.wiring after (e / l.d) → right-after ≡ missed_by r right plan.wiring after (place / r.d)
         → left-before ≤ 1 → right-before ≤ 1
-        → 65536 + left_After + right-after - left-before - right-before ≡ count_change (side_of plan) block (turned block e 1)
+        → 65536 + left-after + right-after - left-before - right-before ≡ count_change (side_of plan) block (turned block e 1)
     unfolding unsatisfied_count
     change-turned {place} is lb rb la ra low-left low-right =
         let accepted = checked.plan-done in

@@ -198,7 +198,7 @@ pub news-turned : (plan : Plan) → plan_check plan ≡ done [] → (name : Side
     → after ≡ turned block e 1 → edge_count plan ≤ length block * 8 → bit_at block e ≡ bit_at since e
     → length words ≡ 2304 → ((i : ℕ) → i < 128 → at words (news_of name + i) ≡ at kept (news_of name + i))
     → told ≡ marked words (news_of name) (entry / (side_of plan name).d) → NewsTold plan name since after told
-news-turned plan accepted name few {since} {block} {kept} {after} {told} words news entry {e} below at_entry_lem turned-once room fresh sized same tells =
+news-turned plan accepted name few {since} {block} {kept} {after} {told} words news entry {e} below at-entry turned-once room fresh sized same tells =
     record {
       each = λ u l. elim (ℕ_discrete u v) [ yes e ↦ rw e here | no apart ↦ there u l apart ];
       none = λ u h l.
@@ -231,7 +231,7 @@ news-turned plan accepted name few {since} {block} {kept} {after} {told} words n
     back = div-add-mod' entry side.d
 
     bit_is : e ≡ side.bit (v * side.d + j)
-    bit_is = at_entry_lem ∙ ap side.bit (sym back)
+    bit_is = at-entry ∙ ap side.bit (sym back)
 
     turned-is : after ≡ turned block (side.bit (v * side.d + j)) 1
     turned-is = turned-once ∙ ap (λ (i : ℕ). turned block i 1) bit_is
@@ -242,7 +242,7 @@ news-turned plan accepted name few {since} {block} {kept} {after} {told} words n
     another : vertex_word side since v ≡ vertex_word side after v → ⊥
     another e' =
         let bits = vertex-bits side since after v e' j j-lt in
-        let within : e < edge_count plan = rw at_entry_lem (w.bit-lt entry below) in
+        let within : e < edge_count plan = rw at-entry (w.bit-lt entry below) in
         let now-is : bit_at after (side.bit (v * side.d + j)) ≡ bit_xor (bit_at block (side.bit (v * side.d + j))) 1 =
         ap (λ (l : List ℕ). bit_at l (side.bit (v * side.d + j))) turned-is
         ∙ bit_at-turned-same block _ 1 (omega arith) (omega (arith, sym bit_is, within, room)) in

@@ -10,7 +10,6 @@ use Rattle.radius.specs.Demand.{Restored}
 use Rattle.restored.specs.Sent.{sent_block}
 use Rattle.restored.proofs.SquarePlan.{zero_block, sent-written}
 use Rattle.restored.proofs.Decoding.{decode-restored, decode-at, decode-before, outcome-count, outcome-unsettled}
-use lib.Pointwise.{bytes_decides}
 use Rattle.restored.proofs.restore.Goals as goal
 use Rattle.restored.proofs.restore.Goals.{After-sweeps-count}
 
@@ -30,8 +29,7 @@ expect-requires c = le-leb c.sweeps-count.result 2 (omega (arith, count-is c, (p
 pub expect-requires-2 : goal.expect-requires-2
 expect-requires-2 c =
     let sent = c.sent_block-sent.ensures in
-    let same = c.decode.ensures.output_after ∙ (promised (goal.at.expect-requires-2 c).After-sweeps-count).restored ∙ sent-written ∙ sym sent in
-    c.eq.ensures ∙ (bytes_decides _ _).1 same
+    c.same.ensures.1 (c.decode.ensures.output_after ∙ (promised (goal.at.expect-requires-2 c).After-sweeps-count).restored ∙ sent-written ∙ sym sent)
 
 -- ---- the limit at the count answered
 
