@@ -1,5 +1,5 @@
 // The fields of a record on standard input. A field that the input cuts off counts as if zeros or nothing followed.
-ghost use Rattle.std.specs.Prelude.{◌<◌};
+ghost use Rattle.std.specs.Prelude.{◌≡◌, ◌<◌, length, OnErr};
 ghost use Rattle.std.specs.Io.{ReadsAtMost};
 
 use std::io;
@@ -27,9 +27,10 @@ fn wide(x: u8) -> u64
 }
 
 // Bytes behind their length of 4 bytes, high byte first: put at the start of `space`, and how many they are. Bytes that `space`
-// has no room for are not read.
+// has no room for are not read. Where reading fails, `space` may hold a part of them.
 pub fn bytes(from: &mut impl io::Read, space: &mut [u8]) -> io::Result<usize>
-    ensures { ReadsAtMost result space.new }
+    ensures read { ReadsAtMost result space.new }
+    ensures err { OnErr result (length space.new ≡ length space.old) }
 {
     let a = wide(byte(from)?);
     let b = wide(byte(from)?);
