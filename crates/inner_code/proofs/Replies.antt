@@ -4,12 +4,19 @@
 --   if_done reply one other   one list where the reply is done, the other where it refuses
 -- `refuse-` laws speak of one test, `and_then-` laws of two places, `if_done-` laws of what a reply leaves, each at the outcome that they
 -- end in.
-use mathlib.Core.Path.{◌≡◌, refl, ap}
+use mathlib.Core.Path.{◌≡◌, refl, ap, ◌∙◌}
 use mathlib.Core.Bool.{Bool, true, false}
 use mathlib.Core.List.{List}
 use Prim.Native.Nat.{ℕ}
 use native.Mathlib.Omega.{arith}
+use Rattle.std.proofs.Common.{Result, Err, IsErrAnd}
+use Rattle.std.proofs.lemmas.Result.{err_from_is_err_and}
+use Rattle.inner_code.specs.declared.refusal.Refusal.{Refusal}
 use Rattle.inner_code.specs.Reply.{Reply, done, refused, refuse_if, and_then, if_done}
+
+-- `?` hands a refusal on as it is
+pub passed-on : {T : Type 0} (r : Result T Refusal) (f : Refusal) → IsErrAnd r (λ x. x ≡ f) → r ≡ Err f
+passed-on r f is = let p = err_from_is_err_and r is in p.1 ∙ ap Err p.2
 
 pub refuse-taken : (t : Bool) (n p : ℕ) (next : Reply) → t ≡ true → refuse_if t n p next ≡ refused n p
 unfolding refuse_if

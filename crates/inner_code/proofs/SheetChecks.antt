@@ -1,7 +1,7 @@
 -- The sheet's place in the table of refusals, row by row, and what an accepted sheet is.
 --   row_check, rows_check       one row by 5 and 6, and the first faulty one below n
 --   Sound sheet               what holds of an accepted sheet
---   Accepted sheet basis d k  what a caller learns from a check over zeros that accepts
+--   Accepted sheet basis s  what a caller learns from a check over zeros that accepts
 -- `row-` laws give one row's outcome, `rows-` laws that of the rows so far, `sound-` laws the two directions of acceptance.
 use mathlib.Core.Path.{◌≡◌, refl, sym, ap, ◌∙◌, subst, subst⁻¹}
 use mathlib.Core.Logic.{◌⊎◌, ⊎_elim}
@@ -15,10 +15,12 @@ use borrow.Author.Tests.{le-leb, lt-leb, leb-false, ltb-false, lt-ltb, le-ltb, e
 use lib.Dec.{ltb, leb, eqb}
 use lib.ListN.{length, get_or, replicate}
 use Rattle.inner_code.specs.Reply.{Reply, done, refused, refuse_if, and_then}
+use Rattle.std.proofs.Common.{Result, Ok, Err}
+use Rattle.inner_code.specs.Refusal.{number_of, place_of}
 use Rattle.inner_code.specs.Code.{is_codeword}
 use Rattle.inner_code.specs.Reduction.{reduced, with_echelon}
 use Rattle.inner_code.specs.Sheet.{degree, row_count, row_of, row_check, rows_check, sheet_check}
-use Rattle.inner_code.specs.Checking.{sheet_answer, rows_answer, refused_sheet, sound_rows, sheet_reply, SheetInto}
+use Rattle.inner_code.specs.Checking.{sheet_answer, rows_answer, sound_rows, sheet_reply, SheetInto}
 use Rattle.inner_code.specs.declared.refusal.Refusal.{Refusal}
 use Rattle.inner_code.specs.declared.sheet.Sheet.{Sheet}
 use Rattle.bits.proofs.Tests.{or_left, or_right, or-neither}
@@ -173,9 +175,10 @@ module _ (sheet : List ℕ) where
           sheet-rows-answer = ap (λ (r : Reply). and_then r (done (degree sheet ∷ row_count sheet ∷ []))) sheet-rows
 
 -- a refusal that is about no row leaves the list as it was
-pub refused-into : (sheet before : List ℕ) (r : Sheet) (n : ℕ) → r ≡ refused_sheet n → sheet_answer sheet ≡ refused n 0 → SheetInto sheet before r before
+pub refused-into : (sheet before : List ℕ) (f : Refusal) → place_of f ≡ 0 → sheet_answer sheet ≡ refused (number_of f) 0 → SheetInto sheet before (Err f) before
 unfolding with_echelon
-refused-into sheet before r n e a = subst⁻¹ (λ (x : Sheet). SheetInto sheet before x before) e (record { answer = sym a; rows = refl })
+refused-into sheet before f e a =
+    record { answer = ap (refused (number_of f)) e ∙ sym a; rows = ap (λ (n : ℕ). with_echelon (row_of sheet) n before) (sym e) }
 
 -- ---- acceptance, both ways
 
@@ -256,11 +259,11 @@ sound-accepted sheet s =
 
 -- ---- what a caller of the check learns
 
-pub record Accepted (sheet basis : List ℕ) (d k : ℕ) : Type 0 where
+pub record Accepted (sheet basis : List ℕ) (s : Sheet) : Type 0 where
   pub sheet-sound : Sound sheet
   pub sheet-done : sheet_check sheet ≡ done []
-  pub d-is : d ≡ degree sheet
-  pub k-is : k ≡ row_count sheet
+  pub d-is : s.d ≡ degree sheet
+  pub k-is : s.k ≡ row_count sheet
   pub basis-is : basis ≡ with_echelon (row_of sheet) (row_count sheet) (replicate 11 0)
 
 first_of : Reply → ℕ
@@ -271,10 +274,10 @@ second-of : Reply → ℕ
 second-of (done values) = get_or values 1 0
 second-of (refused n p) = 0
 
-pub accepted : {sheet basis : List ℕ} {r : Sheet} {d k : ℕ} → SheetInto sheet (replicate 11 0) r basis → r ≡ Sheet.Accepted d k
-    → Accepted sheet basis d k
+pub accepted : {sheet basis : List ℕ} {r : Result Sheet Refusal} {s : Sheet} → SheetInto sheet (replicate 11 0) r basis → r ≡ Ok s
+    → Accepted sheet basis s
 unfolding sheet_answer first_of second-of
-accepted {sheet} {basis} {r} {d} {k} c e =
+accepted {sheet} {basis} {r} {s} c e =
     record {
       sheet-sound = is-sound;
       sheet-done = sound-accepted sheet is-sound;
@@ -283,20 +286,20 @@ accepted {sheet} {basis} {r} {d} {k} c e =
       basis-is = c.rows ∙ ap (λ (n : ℕ). with_echelon (row_of sheet) n (replicate 11 0)) (ap sound_rows e ∙ count);
     }
   where
-    answer : done (d ∷ k ∷ []) ≡ and_then (sheet_check sheet) (done (degree sheet ∷ row_count sheet ∷ []))
+    answer : done (s.d ∷ s.k ∷ []) ≡ and_then (sheet_check sheet) (done (degree sheet ∷ row_count sheet ∷ []))
     answer = sym (ap sheet_reply e) ∙ c.answer
 
-    t : ((passed : List ℕ) × (sheet_check sheet ≡ done passed)) × (done (degree sheet ∷ row_count sheet ∷ []) ≡ done (d ∷ k ∷ []))
-    t = and_then-done (sheet_check sheet) (done (degree sheet ∷ row_count sheet ∷ [])) (d ∷ k ∷ []) (sym answer)
+    t : ((passed : List ℕ) × (sheet_check sheet ≡ done passed)) × (done (degree sheet ∷ row_count sheet ∷ []) ≡ done (s.d ∷ s.k ∷ []))
+    t = and_then-done (sheet_check sheet) (done (degree sheet ∷ row_count sheet ∷ [])) (s.d ∷ s.k ∷ []) (sym answer)
 
-    count : k ≡ row_count sheet
+    count : s.k ≡ row_count sheet
     count = ap second-of (answer ∙ and_then-passed _ _ _ t.0.1)
 
     is-sound : Sound sheet
     is-sound = sound sheet t.0.0 t.0.1
 
-pub turned-back : {sheet before after : List ℕ} {r : Sheet} {f : Refusal} → SheetInto sheet before r after → r ≡ Sheet.Refused f
-    → sheet_check sheet ≡ refused f.number f.place
+pub turned-back : {sheet before after : List ℕ} {r : Result Sheet Refusal} {f : Refusal} → SheetInto sheet before r after → r ≡ Err f
+    → sheet_check sheet ≡ refused (number_of f) (place_of f)
 unfolding sheet_answer
 turned-back {sheet} c e = and_then-back (sheet_check sheet) _ _ _ (sym c.answer ∙ ap sheet_reply e)
 

@@ -1,4 +1,5 @@
 pub mod Reply
+pub mod Refusal
 pub mod Code
 pub mod Sheet
 pub mod House

@@ -9,16 +9,8 @@ pub fn residue(basis: &[u16; 11], count: usize, word: u16) -> u16
     ensures { result ≡ reduced_by (at basis.now) (min count 11) word }
 {
     let mut left = word;
-    let mut i = 0;
-    while i < count {
-        if i == 11 {
-            return left;
-        }
-        let put = left ^ basis[i];
-        if put < left {
-            left = put;
-        }
-        i += 1;
+    for i in 0..count.min(11) {
+        left = left.min(left ^ basis[i]);
     }
     left
 }

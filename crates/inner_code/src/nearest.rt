@@ -9,52 +9,31 @@ ghost use Rattle.inner_code.specs.Code.{combination};
 ghost use Rattle.inner_code.specs.Reduction.{searched, sole, step_to};
 
 use crate::codewords::{MAX_CODEWORDS, list_codewords};
-use crate::refusal;
 use crate::refusal::Refusal;
-use crate::sheet::{Sheet, check_into};
+use crate::sheet::check_into;
 
 // Where the rows are few there is room for their codewords alone: clearing room for every code costs more than searching so few words.
 const FEW_ROWS: usize = 5;
 
 const FEW_CODEWORDS: usize = 32;
 
-// The nearest word and how many bits it changes, or the refusal.
-#[derive(Clone, Copy)]
-pub enum Nearest {
-    Word { word: u64, changed: u64 },
-    Refused(Refusal),
-}
-
 // One step of the nearest word: the word that takes another's place, and how many bits that changes.
-#[derive(Clone, Copy)]
+#[derive(Clone, Copy, Debug, PartialEq, Eq)]
 pub struct Step {
     pub word: u16,
     pub changed: u32,
 }
 
-// The nearest word of a word, by the sheet's rows, and how many bits it changes. Refusals 1 to 6, then 12 for a word at or above 2^d.
-pub fn nearest_word(sheet: &[u8], word: u64) -> Nearest
+// The step to the nearest word of a word, by the sheet's rows. Refusals 1 to 6, then 12 for a word at or above 2^d.
+pub fn nearest_word(sheet: &[u8], word: u64) -> Result<Step, Refusal>
     ensures { nearest_reply result ≡ nearest_answer sheet.now word }
 {
     let mut basis = [0u16; 11];
-    match check_into(sheet, &mut basis) {
-        Sheet::Refused(r) => Nearest::Refused(r),
-        Sheet::Accepted { d, k } => {
-            if 1u64 << d <= word {
-                return Nearest::Refused(Refusal {
-                    number: refusal::STRAY_BIT,
-                    place: 0,
-                });
-            }
-            let step = nearest_of_rows(sheet, k, word as u16);
-            let nearest = step.word as u64;
-            let changed = step.changed as u64;
-            Nearest::Word {
-                word: nearest,
-                changed,
-            }
-        }
+    let values = check_into(sheet, &mut basis)?;
+    if 1u64 << values.d <= word {
+        return Err(Refusal::StrayBit);
     }
+    Ok(nearest_of_rows(sheet, values.k, word as u16))
 }
 
 // The step to the nearest word by the first k rows; a k above 11 counts as 11.
@@ -62,20 +41,20 @@ fn nearest_of_rows(sheet: &[u8], k: usize, word: u16) -> Step
     ensures { result ≡ step_to word (searched (combination (row_of sheet.now) (min k 11)) (2 ^ min k 11) word) }
 {
     if k <= FEW_ROWS {
-        let mut few = [0u16; FEW_CODEWORDS];
-        return list_and_search(sheet, k, word, &mut few);
+        return list_and_search::<FEW_CODEWORDS>(sheet, k, word);
     }
-    let mut words = [0u16; MAX_CODEWORDS];
-    list_and_search(sheet, k, word, &mut words)
+    list_and_search::<MAX_CODEWORDS>(sheet, k, word)
 }
 
-// The same, where `words` has room for the codewords: they are listed there and searched.
-fn list_and_search(sheet: &[u8], k: usize, word: u16, words: &mut [u16]) -> Step
-    requires { 2 ^ min k 11 ≤ length words.old }
+// The same, where N is room for the codewords: they are listed there and searched.
+fn list_and_search<const N: usize>(sheet: &[u8], k: usize, word: u16) -> Step
+    requires room { 2 ^ min k 11 ≤ N }
+    requires most { N ≤ 2048 }
     ensures { result ≡ step_to word (searched (combination (row_of sheet.now) (min k 11)) (2 ^ min k 11) word) }
 {
-    let count = list_codewords(sheet, k, words);
-    nearest_listed(&words[0..count], word)
+    let mut words = [0u16; N];
+    let count = list_codewords(sheet, k, &mut words);
+    nearest_listed(&words[..count], word)
 }
 
 // More than ones * 65536 + pattern is for any pattern of 16 bits.
@@ -89,27 +68,15 @@ pub fn nearest_listed(words: &[u16], word: u16) -> Step
 {
     let mut least: u32 = NO_KEY;
     let mut back: u32 = NO_KEY;
-    let mut m = 0;
-    while m < words.len() {
-        let pattern = words[m] ^ word;
-        let ones = u16::count_ones(pattern) * 65536;
-        least = smaller(least, ones + pattern as u32);
-        back = smaller(back, ones + (65535 - pattern as u32));
-        m += 1;
+    for listed in words {
+        let pattern = *listed ^ word;
+        let ones = pattern.count_ones() * 65536;
+        least = least.min(ones + pattern as u32);
+        back = back.min(ones + (65535 - pattern as u32));
     }
     let first = (least % 65536) as u16;
     let last = 65535 - (back % 65536) as u16;
     put_on(word, sole(first, last))
-}
-
-// The smaller of two numbers.
-fn smaller(a: u32, b: u32) -> u32
-    ensures { result ≡ min a b }
-{
-    if b < a {
-        return b;
-    }
-    a
 }
 
 // The first of the patterns with the fewest ones, where it is their last too, and else none.
@@ -128,6 +95,6 @@ pub fn put_on(word: u16, pattern: u16) -> Step
 {
     Step {
         word: word ^ pattern,
-        changed: u16::count_ones(pattern),
+        changed: pattern.count_ones(),
     }
 }

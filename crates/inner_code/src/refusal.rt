@@ -1,72 +1,113 @@
-// Refusals: what a call that is turned back tells, and the paper's numbers by name.
+// Refusals: why a call is turned back, with the row or entry at fault where there is one.
+ghost use Rattle.std.specs.Prelude.{◌≡◌};
+ghost use Rattle.inner_code.specs.Refusal.{number_of, place_of};
 
-// Why a call is turned back: its number in the table of refusals, and the row or entry at fault (0 where none is).
-#[derive(Clone, Copy)]
-pub struct Refusal {
-    pub number: u32,
-    pub place: u32,
+use std::error::Error;
+use std::fmt;
+
+// Why a call is turned back.
+#[derive(Clone, Copy, Debug, PartialEq, Eq)]
+pub enum Refusal {
+    // the sheet
+    SheetShort,
+    DegreeOutOfRange,
+    RowsOutOfRange,
+    SheetLengthWrong,
+    RowTooLarge { row: u32 },
+    RowDependent { row: u32 },
+
+    // the wiring
+    VerticesOutOfRange,
+    EdgeCountsDiffer,
+    WiringLengthWrong,
+    EntryTooLarge { entry: u32 },
+    EntryRepeated { entry: u32 },
+
+    // a block; the second also of a word at or above 2^d
+    BlockLengthWrong,
+    StrayBit,
+
+    // a list of lost spans
+    SpansLengthWrong,
+    SpanOutOfBlock,
+    SpanOutOfOrder,
+
+    // output, decoder and report
+    OutputShort,
+    LimitTooLarge,
+    Unsettled,
+    ListShort,
+
+    // the margin
+    FlipsTooMany,
+    FlipsNotCovered,
+
+    // the panel's state
+    BitTooLarge,
+    SweepsSpent,
+
+    // messages
+    PlanTooLarge,
+    MessageLengthWrong,
+    MessageStrayBit,
+    NoCodeword,
 }
 
-// the sheet
-pub const SHEET_SHORT: u32 = 1;
+impl Refusal {
+    // Its number in the table of refusals.
+    pub fn number(self) -> u32
+        ensures { result ≡ number_of self }
+    {
+        match self {
+            Refusal::SheetShort => 1,
+            Refusal::DegreeOutOfRange => 2,
+            Refusal::RowsOutOfRange => 3,
+            Refusal::SheetLengthWrong => 4,
+            Refusal::RowTooLarge { row: _ } => 5,
+            Refusal::RowDependent { row: _ } => 6,
+            Refusal::VerticesOutOfRange => 7,
+            Refusal::EdgeCountsDiffer => 23,
+            Refusal::WiringLengthWrong => 8,
+            Refusal::EntryTooLarge { entry: _ } => 9,
+            Refusal::EntryRepeated { entry: _ } => 10,
+            Refusal::BlockLengthWrong => 11,
+            Refusal::StrayBit => 12,
+            Refusal::SpansLengthWrong => 24,
+            Refusal::SpanOutOfBlock => 25,
+            Refusal::SpanOutOfOrder => 26,
+            Refusal::OutputShort => 13,
+            Refusal::LimitTooLarge => 14,
+            Refusal::Unsettled => 15,
+            Refusal::ListShort => 16,
+            Refusal::FlipsTooMany => 17,
+            Refusal::FlipsNotCovered => 18,
+            Refusal::BitTooLarge => 27,
+            Refusal::SweepsSpent => 28,
+            Refusal::PlanTooLarge => 19,
+            Refusal::MessageLengthWrong => 20,
+            Refusal::MessageStrayBit => 21,
+            Refusal::NoCodeword => 22,
+        }
+    }
 
-pub const DEGREE_OUT_OF_RANGE: u32 = 2;
+    // The row or entry at fault, 0 where none is.
+    pub fn place(self) -> u32
+        ensures { result ≡ place_of self }
+    {
+        match self {
+            Refusal::RowTooLarge { row } => row,
+            Refusal::RowDependent { row } => row,
+            Refusal::EntryTooLarge { entry } => entry,
+            Refusal::EntryRepeated { entry } => entry,
+            _ => 0,
+        }
+    }
+}
 
-pub const ROWS_OUT_OF_RANGE: u32 = 3;
+impl fmt::Display for Refusal {
+    fn fmt<W: fmt::Write>(&self, f: &mut fmt::Formatter<W>) -> fmt::Result {
+        write!(f, "refused {} {}", self.number(), self.place())
+    }
+}
 
-pub const SHEET_LENGTH_WRONG: u32 = 4;
-
-pub const ROW_TOO_LARGE: u32 = 5;
-
-pub const ROW_DEPENDENT: u32 = 6;
-
-// the wiring
-pub const VERTICES_OUT_OF_RANGE: u32 = 7;
-
-pub const EDGE_COUNTS_DIFFER: u32 = 23;
-
-pub const WIRING_LENGTH_WRONG: u32 = 8;
-
-pub const ENTRY_TOO_LARGE: u32 = 9;
-
-pub const ENTRY_REPEATED: u32 = 10;
-
-// a block; the second also of a word at or above 2^d
-pub const BLOCK_LENGTH_WRONG: u32 = 11;
-
-pub const STRAY_BIT: u32 = 12;
-
-// a list of lost spans
-pub const SPANS_LENGTH_WRONG: u32 = 24;
-
-pub const SPAN_OUT_OF_BLOCK: u32 = 25;
-
-pub const SPAN_OUT_OF_ORDER: u32 = 26;
-
-// output, decoder and report
-pub const OUTPUT_SHORT: u32 = 13;
-
-pub const LIMIT_TOO_LARGE: u32 = 14;
-
-pub const UNSETTLED: u32 = 15;
-
-pub const LIST_SHORT: u32 = 16;
-
-// the margin
-pub const FLIPS_TOO_MANY: u32 = 17;
-
-pub const FLIPS_NOT_COVERED: u32 = 18;
-
-// the panel's state
-pub const BIT_TOO_LARGE: u32 = 27;
-
-pub const SWEEPS_SPENT: u32 = 28;
-
-// messages
-pub const PLAN_TOO_LARGE: u32 = 19;
-
-pub const MESSAGE_LENGTH_WRONG: u32 = 20;
-
-pub const MESSAGE_STRAY_BIT: u32 = 21;
-
-pub const NO_CODEWORD: u32 = 22;
+impl Error for Refusal {}

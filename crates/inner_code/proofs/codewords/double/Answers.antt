@@ -15,15 +15,14 @@ returns-then-words-count c = record { room = λ h. absurd (omega arith); short =
 
 pub loop-m-init : goal.loop-m-init
 unfolding doubled
-loop-m-init c = (search rules, refl, refl)
+loop-m-init c = (refl, refl)
 
 pub loop-m-preserved : goal.loop-m-preserved
 loop-m-preserved c =
     let before = c.loop-m in
     let args = c.args in (
-      search rules,
-      length-set before.words (args.count + before.m) _ ∙ before.invariant.1,
-      ap (λ (l : List ℕ). set l (args.count + before.m) (bit_xor (get_or l before.m 0) args.row)) before.invariant.2
+      length-set before.words (args.count + before.m) _ ∙ before.invariant.0,
+      ap (λ (l : List ℕ). set l (args.count + before.m) (bit_xor (get_or l before.m 0) args.row)) before.invariant.1
           ∙ sym (doubled-one-more args.count args.row before.m args.words.now),
     )
 
@@ -32,6 +31,6 @@ returns c =
     let args = c.args in
     let end : c.loop-m.m ≡ args.count = omega arith in
     record {
-      room = λ h. c.loop-m.invariant.2 ∙ ap (λ (m : ℕ). doubled args.count args.row m args.words.now) end;
+      room = λ h. c.loop-m.invariant.1 ∙ ap (λ (m : ℕ). doubled args.count args.row m args.words.now) end;
       short = λ h. absurd (omega arith);
     }

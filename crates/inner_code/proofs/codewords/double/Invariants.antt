@@ -5,7 +5,4 @@ use Rattle.inner_code.specs.Reduction.{doubled}
 use Rattle.inner_code.proofs.codewords.double.Given as goal
 
 abbrev pub invariant-loop-m : goal.invariant-loop-m
-invariant-loop-m l = (l.m ≤ l.count) × (length l.words ≡ length l.initial.words) × (l.words ≡ doubled l.count l.row l.m l.initial.words)
-
-abbrev pub decreases-loop-m : goal.decreases-loop-m
-decreases-loop-m l = l.count - l.m
+invariant-loop-m l = (length l.words ≡ length l.initial.words) × (l.words ≡ doubled l.count l.row l.m l.initial.words)

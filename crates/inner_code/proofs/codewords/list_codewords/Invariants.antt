@@ -7,7 +7,4 @@ use Rattle.inner_code.proofs.codewords.list_codewords.Given as goal
 
 abbrev pub invariant-loop-i : goal.invariant-loop-i
 invariant-loop-i l =
-    (l.i ≤ l.rows) × (l.count ≡ 2 ^ l.i) × (l.words ≡ listed (row_of l.sheet) l.i l.initial.words) × (length l.words ≡ length l.initial.words)
-
-abbrev pub decreases-loop-i : goal.decreases-loop-i
-decreases-loop-i l = l.rows - l.i
+    (l.count ≡ 2 ^ l.i) × (l.words ≡ listed (row_of l.sheet) l.i l.initial.words) × (length l.words ≡ length l.initial.words)

@@ -1,62 +1,43 @@
 -- `inner_code::check_into` meets its contract: each return is the outcome of the first test that holds.
-use mathlib.Core.Path.{sym, ◌∙◌}
-use mathlib.Core.Logic.{inl, inr}
-use native.Mathlib.Omega.{arith}
+use Rattle.std.proofs.Common.{arith, sym, ◌∙◌, refl, inl, inr}
+use Rattle.inner_code.specs.Refusal.{number_of}
 use Rattle.inner_code.specs.Sheet.{degree, row_count}
+use Rattle.inner_code.specs.declared.refusal.Refusal.{Refusal}
 use Rattle.inner_code.proofs.SheetChecks.{refused-into, sheet-short, sheet-degree, sheet-count, sheet-length, sheet-rows-answer}
 use Rattle.inner_code.proofs.sheet.check_into.Goals as goal
+use Rattle.inner_code.proofs.sheet.check_into.Goals.{then-d-lt2-via-then-d-lt2, then-d-lt2-via-else-d-lt2+then-d-gt-MAX_DEGREE}
+use Rattle.inner_code.proofs.sheet.check_into.Goals.{then-k-lt1-via-then-k-lt1, then-k-lt1-via-else-k-lt1+then-k-gt-MAX_ROWS}
+use Rattle.inner_code.proofs.sheet.check_into.Goals.{then-k-lt1-via-else-k-lt1+else-k-gt-MAX_ROWS+then-d-k}
 
 pub returns-then-sheet-lt2 : goal.returns-then-sheet-lt2
-returns-then-sheet-lt2 c =
-    let sheet = c.args.sheet.now in
-    refused-into sheet _ c.refused.result 1 c.refused.ensures (sheet-short sheet (omega arith))
-
-pub overflow_cast-d : goal.overflow_cast-d
-overflow_cast-d c = omega (arith, c.type_inv.sheet 0)
-
-pub overflow_cast-k : goal.overflow_cast-k
-overflow_cast-k c = omega (arith, c.type_inv.sheet 1)
-
--- ---- the call, from where both sizes are read, from past the tests of the degree, and from past those of the number of rows
+returns-then-sheet-lt2 c = refused-into c.args.sheet.now _ Refusal.SheetShort refl (sheet-short c.args.sheet.now (omega arith))
 
 pub returns-then-d-lt2 : goal.returns-then-d-lt2
 unfolding degree row_count
 returns-then-d-lt2 c =
     let sheet = c.args.sheet.now in
-    refused-into sheet _ c.refused-then-d-lt2.result 2 c.refused-then-d-lt2.ensures (sheet-degree sheet (omega arith) (inl (omega arith)))
-
-pub returns-then-d-gt-MAX_DEGREE : goal.returns-then-d-gt-MAX_DEGREE
-unfolding degree row_count
-returns-then-d-gt-MAX_DEGREE c =
-    let sheet = c.args.sheet.now in
-    refused-into sheet _ c.refused-then-d-gt-MAX_DEGREE.result 2 c.refused-then-d-gt-MAX_DEGREE.ensures (sheet-degree sheet (omega arith) (inr (omega arith)))
+    refused-into sheet _ Refusal.DegreeOutOfRange refl (sheet-degree sheet (omega arith)
+    (elim c.then-d-lt2.branch [
+      | then-d-lt2-via-then-d-lt2 w ↦ inl (omega arith)
+      | then-d-lt2-via-else-d-lt2+then-d-gt-MAX_DEGREE w ↦ inr (omega arith)
+    ]))
 
 pub returns-then-k-lt1 : goal.returns-then-k-lt1
 unfolding degree row_count
 returns-then-k-lt1 c =
     let sheet = c.args.sheet.now in
-    refused-into sheet _ c.refused-then-k-lt1.result 3 c.refused-then-k-lt1.ensures
-    (sheet-count sheet (omega arith) (omega arith) (omega arith) (inl (omega arith)))
-
-pub returns-then-k-gt-MAX_ROWS : goal.returns-then-k-gt-MAX_ROWS
-unfolding degree row_count
-returns-then-k-gt-MAX_ROWS c =
-    let sheet = c.args.sheet.now in
-    refused-into sheet _ c.refused-then-k-gt-MAX_ROWS.result 3 c.refused-then-k-gt-MAX_ROWS.ensures
-    (sheet-count sheet (omega arith) (omega arith) (omega arith) (inr (inl (omega arith))))
-
-pub returns-then-d-k : goal.returns-then-d-k
-unfolding degree row_count
-returns-then-d-k c =
-    let sheet = c.args.sheet.now in
-    refused-into sheet _ c.refused-then-d-k.result 3 c.refused-then-d-k.ensures
-    (sheet-count sheet (omega arith) (omega arith) (omega arith) (inr (inr (omega arith))))
+    refused-into sheet _ Refusal.RowsOutOfRange refl (sheet-count sheet (omega arith) (omega arith) (omega arith)
+    (elim c.then-k-lt1.branch [
+      | then-k-lt1-via-then-k-lt1 w ↦ inl (omega arith)
+      | then-k-lt1-via-else-k-lt1+then-k-gt-MAX_ROWS w ↦ inr (inl (omega arith))
+      | then-k-lt1-via-else-k-lt1+else-k-gt-MAX_ROWS+then-d-k w ↦ inr (inr (omega arith))
+    ]))
 
 pub returns-then-sheet-k : goal.returns-then-sheet-k
 unfolding degree row_count
 returns-then-sheet-k c =
     let sheet = c.args.sheet.now in
-    refused-into sheet _ c.refused-then-sheet-k.result 4 c.refused-then-sheet-k.ensures
+    refused-into sheet _ Refusal.SheetLengthWrong refl
     (sheet-length sheet (omega arith) (omega arith) (omega arith) (omega arith) (omega arith) (omega arith) (omega arith))
 
 pub returns : goal.returns

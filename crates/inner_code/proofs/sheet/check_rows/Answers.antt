@@ -87,7 +87,7 @@ loop-i-preserved c =
       search rules,
       turn.invariant.2,
       rows-one-more args.d row turn.i turn.invariant.3 sound,
-      c.put_row.ensures ∙ ap₂ (λ (l : List ℕ) (x : ℕ). set l turn.i x) turn.invariant.4 (left_is (goal.at.loop-i-preserved c).After-residue-left)
+      ap₂ (λ (l : List ℕ) (x : ℕ). set l turn.i x) turn.invariant.4 (left_is (goal.at.loop-i-preserved c).After-residue-left)
           ∙ sym (with_echelon-one-more row turn.i args.basis.now),
       omega (arith, ap length turn.invariant.4, length-with_echelon row turn.i args.basis.now),
     )
