@@ -10,7 +10,7 @@ use mathlib.Core.Path.{◌≡◌, refl, sym, ap, ap₂, ◌∙◌}
 use native.Mathlib.Numerals.{add-one}
 use native.Mathlib.Omega.{arith}
 use lib.ListN.{length, get_or, set, take, drop, replicate, length-append, length-drop, length-replicate, replicate-append-replicate, get_or-append}
-use lib.Seq.{length-take-le, take_all, take-suc, drop-cons, set_at, append_snoc, take-append_seam}
+use lib.Seq.{drop-cons, set_at, append_snoc, take-append_seam}
 use lib.Seq.{drop-append_seam, sets, sets-eq, drop-append-add, drop-drop, set-append_left}
 use Rattle.bits.specs.Bit.{put_digit, with_bit, written}
 use Rattle.bits.proofs.Bytes.{length-with_bit}
@@ -22,24 +22,6 @@ written_none l = refl
 pub length-written : (front l : List ℕ) → length front ≤ length l → length (written front l) ≡ length l
 unfolding written
 length-written front l h = simp (length-append, length-drop) (omega arith)
-
--- ---- a copy, one element a turn
-
-pub written_start : (front l : List ℕ) → l ≡ written (take 0 front) l
-unfolding written
-written_start front l = refl
-
-pub written-one-more : (front l : List ℕ) (i : ℕ) → i < length front → length front ≤ length l
-    → set (written (take i front) l) i (get_or front i 0) ≡ written (take (i + 1) front) l
-unfolding written
-written-one-more front l i h room =
-    let sized : length (take i front) ≡ i = length-take-le i front (omega arith) in
-    let more : length (take (suc i) front) ≡ suc i = length-take-le (suc i) front h in
-    rw (add-one, sized, more, take-suc front i 0 h, drop-cons l i 0 (omega arith))
-    (set_at (take i front) _ _ _ i sized ∙ sym (append_snoc (take i front) _ _))
-
-pub written_all : (front l : List ℕ) (i : ℕ) → i ≡ length front → written (take i front) l ≡ written front l
-written_all front l i e = ap (λ (s : List ℕ). written s l) (take_all i front (omega arith))
 
 -- ---- a copy that is lent on
 

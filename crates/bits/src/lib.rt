@@ -58,17 +58,7 @@ pub fn same(a: &[u8], b: &[u8]) -> bool
     ensures when_true { result ≡ true → a.now ≡ b.now }
     ensures when_false { result ≡ false → a.now ≡ b.now → ⊥ }
 {
-    if a.len() != b.len() {
-        return false;
-    }
-    let mut i = 0;
-    while i < a.len() {
-        if a[i] != b[i] {
-            return false;
-        }
-        i += 1;
-    }
-    true
+    a == b
 }
 
 // Whether every byte of a byte string is 0. Every byte is looked at: with no way out of the loop the compiler takes sixteen of them in a step.
@@ -77,13 +67,8 @@ pub fn is_zero(bytes: &[u8]) -> bool
     ensures when_false { result ≡ false → ((i : ℕ) → at bytes.now i ≡ 0) → ⊥ }
 {
     let mut largest = 0u8;
-    let mut i = 0;
-    while i < bytes.len() {
-        let byte = bytes[i];
-        if largest < byte {
-            largest = byte;
-        }
-        i += 1;
+    for byte in bytes {
+        largest = largest.max(*byte);
     }
     largest == 0
 }
@@ -120,7 +105,7 @@ pub fn highest(x: u16) -> usize
     ensures power_high { x < 2 ^ (result + 1) }
     ensures fits_word { result < 16 }
 {
-    15 - u16::leading_zeros(x) as usize
+    15 - x.leading_zeros() as usize
 }
 
 // The number with digit i alone set.
@@ -136,9 +121,5 @@ pub fn copy_front(from: &[u8], to: &mut [u8])
     requires { length from.now ≤ length to.old }
     ensures { to.new ≡ written from.now to.old }
 {
-    let mut i = 0;
-    while i < from.len() {
-        to[i] = from[i];
-        i += 1;
-    }
+    to[..from.len()].copy_from_slice(from);
 }
