@@ -1,7 +1,7 @@
 -- A refusal of the code, as the paper names it.
 --   number_of r       its number in the table of refusals
 --   place_of r        the row or entry at fault, 0 where none is
---   checked_reply r   the number and place for each case of a check's answer, which has no value
+--   check_reply r   the number and place for each case of a check's answer, which has no value
 use Rattle.std.specs.Prelude.{ℕ, Result, Ok, Err, []}
 use Rattle.inner_code.specs.Reply.{Reply, done, refused}
 use Rattle.inner_code.specs.declared.refusal.Refusal.{Refusal}
@@ -66,6 +66,6 @@ place_of Refusal.MessageLengthWrong = 0
 place_of Refusal.MessageStrayBit = 0
 place_of Refusal.NoCodeword = 0
 
-abbrev pub checked_reply : Result Unit Refusal → Reply
-checked_reply (Ok passed) = done []
-checked_reply (Err r) = refused (number_of r) (place_of r)
+abbrev pub check_reply : Result Unit Refusal → Reply
+check_reply (Ok passed) = done []
+check_reply (Err r) = refused (number_of r) (place_of r)

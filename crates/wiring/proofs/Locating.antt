@@ -9,7 +9,7 @@
 -- Laws are named by their subject, then by the fact: `codeword-` is about one word, `satisfied-` about one vertex, `by-` about the first
 -- vertex of a side as a loop finds it, `located-` about both sides, `answer-` about the service. At the end of a name, `-residue` and `-by`
 -- say that the code's test is the definition's.
-use Prim.Native.Nat.{ℕ, ◌+◌, ◌*◌, ◌≤◌, ◌<◌, min}
+use Prim.Native.Nat.{ℕ, ◌+◌, ◌≤◌, ◌<◌, min}
 use mathlib.Core.Bool.{Bool, true}
 use mathlib.Core.List.{List, [], ◌∷◌}
 use mathlib.Core.Path.{◌≡◌, refl, sym, ap, ap₂, ◌∙◌}
@@ -26,17 +26,18 @@ use Rattle.inner_code.specs.Reduction.{reduced_by, with_echelon}
 use Rattle.inner_code.specs.Sheet.{row_count, row_of}
 use Rattle.inner_code.proofs.Replies.{and_then-passed, and_then-refused}
 use Rattle.inner_code.proofs.EchelonForm.{codeword-test, reduced_by-zero, reduced_by-stored}
-use Rattle.wiring.specs.Plan.{Plan, left, right, sheet_of, count_of, side_of}
+use Rattle.wiring.specs.Plan.{Plan, edge_count, left, right, sheet_of, count_of, side_of}
 use Rattle.wiring.specs.Wiring.{plan_check}
 use Rattle.wiring.specs.Block.{block_check, satisfied, first_unsatisfied, located}
 use Rattle.wiring.specs.Access.{read_word, both_codes, satisfied_by, unsatisfied_by, located_by}
 use Rattle.wiring.specs.Answer.{locate_answer, side_number}
-use Rattle.wiring.specs.Checking.{WiredPlan, code_of}
-use Rattle.wiring.specs.declared.plan.CheckedPlan.{CheckedPlan}
+use Rattle.wiring.specs.Checking.{WiredPlan}
+use Rattle.wiring.specs.Code.{code_of}
+use Rattle.wiring.specs.declared.parts.CheckedPlan.{CheckedPlan}
 use Rattle.wiring.specs.declared.side.SideCode.{SideCode}
 use Rattle.wiring.specs.declared.side.SideName.{SideName}
 use Rattle.wiring.proofs.VertexAccess.{read-zero, read-vertex}
-use Rattle.wiring.proofs.Plans.{PlanAccepted, accepted-edges}
+use Rattle.wiring.proofs.Plans.{PlanAccepted}
 
 -- ---- one side, vertex by vertex: `word` is what the code reads, `left` what the basis leaves of it
 
@@ -147,16 +148,16 @@ module _ (plan : Plan) (block : List ℕ) where
   unfolding locate_answer
   answer-plan-refused a b e = and_then-refused _ _ a b e
 
-  module _ (r : CheckedPlan) (p : PlanAccepted plan r) where
-    past-plan : locate_answer plan block ≡ and_then (block_check (r.left.n * r.left.d) block) (done (located (side_of plan) block))
+  module _ (r : CheckedPlan) (p : PlanAccepted plan r) (N : ℕ) (sized : N ≡ edge_count plan) where
+    past-plan : locate_answer plan block ≡ and_then (block_check N block) (done (located (side_of plan) block))
     unfolding locate_answer
     past-plan =
         and_then-passed _ _ [] p.plan-done
-        ∙ ap (λ (N : ℕ). and_then (block_check N block) (done (located (side_of plan) block))) (sym (accepted-edges p))
+        ∙ ap (λ (bits : ℕ). and_then (block_check bits block) (done (located (side_of plan) block))) (sym sized)
 
-    pub answer-block-refused : (a b : ℕ) → block_check (r.left.n * r.left.d) block ≡ refused a b → locate_answer plan block ≡ refused a b
+    pub answer-block-refused : (a b : ℕ) → block_check N block ≡ refused a b → locate_answer plan block ≡ refused a b
     answer-block-refused a b e = past-plan ∙ and_then-refused _ _ a b e
 
-    pub answer-located : block_check (r.left.n * r.left.d) block ≡ done [] → (reply : Reply)
+    pub answer-located : block_check N block ≡ done [] → (reply : Reply)
         → reply ≡ done (located_by (both_codes r.left r.right) plan.wiring block) → reply ≡ locate_answer plan block
     answer-located e reply found = found ∙ ap done (located-told plan r block p) ∙ sym (past-plan ∙ and_then-passed _ _ [] e)

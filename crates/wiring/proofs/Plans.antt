@@ -4,7 +4,7 @@
 --   Sound sheet               what an accepted sheet is (inner_code SheetChecks)
 --   WiredPlan plan            what an accepted wiring is (specs Checking)
 --   Fitted d n wiring         what a side of it is (specs Checking)
---   code_of, code_in, held_code  a side as the code holds it (specs Checking)
+--   code_of                   a side as the code holds it (specs Code)
 --   Joined N sides            both sides have all N bits (Permutation)
 --   PlanAccepted ..           what a caller learns from a check that accepts
 --   piece_of plan v            the piece of right vertex v, empty for a faulty plan or a v of nr or more (specs Answer)
@@ -13,11 +13,13 @@
 -- from the check to the facts and `-back` from the facts to the check.
 use Prim.Native.Nat.{ℕ, ◌+◌, ◌-◌, ◌*◌, ◌/◌, ◌≤◌, ◌<◌}
 use mathlib.Core.List.{List, [], ◌∷◌}
-use mathlib.Core.Path.{◌≡◌, sym, ap, ap₂, ◌∙◌}
+use mathlib.Core.Path.{◌≡◌, sym, ap, ap₂, ◌∙◌, subst}
+use Rattle.std.proofs.Common.{Result, Ok, Err}
 use native.Mathlib.Omega.{arith}
 use lib.ListN.{length, take, drop}
 use borrow.Author.Tests.{lt-ltb, le-ltb}
-use Rattle.inner_code.specs.Reply.{Reply, done, refused}
+use Rattle.inner_code.specs.Reply.{done, refused}
+use Rattle.inner_code.specs.Refusal.{number_of, place_of}
 use Rattle.inner_code.specs.Checking.{SheetChecked}
 use Rattle.inner_code.specs.Sheet.{degree}
 use Rattle.inner_code.specs.declared.refusal.Refusal.{Refusal}
@@ -28,9 +30,11 @@ use Rattle.inner_code.proofs.SheetChecks.{Sound, sound, sound-accepted, accepted
 use Rattle.wiring.specs.Plan.{Plan, edge_count, sheet_of, count_of, side_of, left, right}
 use Rattle.wiring.specs.Wiring.{wiring_check, plan_check}
 use Rattle.wiring.specs.Answer.{piece_of}
-use Rattle.wiring.specs.Checking.{Fitted, Permuted, WiredPlan, PlanChecked, check_reply, code_of, code_in, held_code, refused_plan}
-use Rattle.wiring.specs.declared.block.Checked.{Checked}
-use Rattle.wiring.specs.declared.plan.CheckedPlan.{CheckedPlan}
+use Rattle.wiring.specs.Checking.{Fitted, Permuted, WiredPlan, PlanChecked, plan_reply}
+use Rattle.wiring.specs.Access.{both_codes}
+use Rattle.wiring.specs.Code.{code_of}
+use Rattle.wiring.specs.PlanParts.{plan_in}
+use Rattle.wiring.specs.declared.parts.CheckedPlan.{CheckedPlan}
 use Rattle.wiring.specs.declared.side.SideName.{SideName}
 use Rattle.wiring.proofs.Permutation.{Whole, Joined, wired, wired-back, wired-joined, side-fits, fitted-edges}
 
@@ -67,30 +71,24 @@ module _ (plan : Plan) where
 
   -- ---- what the code's check gives
 
-  -- with a refusal both sides are 0
-  checked_refused : (f : Refusal) → plan_check plan ≡ refused f.number f.place → PlanChecked plan (refused_plan f)
-  checked_refused f e = record { answer = sym e; codes = go }
-    where
-      go : (name : SideName) → code_in (refused_plan f) name ≡ held_code (plan_check plan) (code_of plan name)
-      go SideName.Left = sym (ap (λ (x : Reply). held_code x (code_of plan left)) e)
-      go SideName.Right = sym (ap (λ (x : Reply). held_code x (code_of plan right)) e)
+  refused-plan : (f : Refusal) → plan_check plan ≡ refused (number_of f) (place_of f) → PlanChecked plan (Err f)
+  refused-plan f e = record { answer = sym e; parts = tt }
 
-  pub checked-left-refused : (l : CheckedSheet) (f : Refusal) → SheetChecked plan.left_sheet l → l.sheet ≡ Sheet.Refused f
-      → PlanChecked plan (refused_plan f)
+  pub checked-left-refused : (l : CheckedSheet) (f : Refusal) → SheetChecked plan.left_sheet l → l.sheet ≡ Err f → PlanChecked plan (Err f)
   unfolding plan_check
-  checked-left-refused l f c e = checked_refused f (and_then-refused _ _ _ _ (turned-back c e))
+  checked-left-refused l f c e = refused-plan f (and_then-refused _ _ _ _ (turned-back c e))
 
-  module _ (l : CheckedSheet) (dl kl : ℕ) (c : SheetChecked plan.left_sheet l) (e : l.sheet ≡ Sheet.Accepted dl kl) where
-    pub checked-right-refused : (r : CheckedSheet) (f : Refusal) → SheetChecked plan.right_sheet r → r.sheet ≡ Sheet.Refused f
-        → PlanChecked plan (refused_plan f)
+  module _ (l : CheckedSheet) (s : Sheet) (c : SheetChecked plan.left_sheet l) (e : l.sheet ≡ Ok s) where
+    pub checked-right-refused : (r : CheckedSheet) (f : Refusal) → SheetChecked plan.right_sheet r → r.sheet ≡ Err f → PlanChecked plan (Err f)
     unfolding plan_check
     checked-right-refused r f c' e' =
-        checked_refused f
-        (and_then-passed _ _ [] (accepted c e).sheet-done
-        ∙ and_then-refused _ _ _ _ (turned-back c' e'))
+        refused-plan f (and_then-passed _ _ [] (accepted c e).sheet-done ∙ and_then-refused _ _ _ _ (turned-back c' e'))
 
-    module _ (r : CheckedSheet) (dr kr : ℕ) (c' : SheetChecked plan.right_sheet r) (e' : r.sheet ≡ Sheet.Accepted dr kr) where
-      past-sheets : plan_check plan ≡ wiring_check dl dr plan.nl plan.nr plan.wiring
+    pub left-held : record { n = plan.nl; d = s.d; k = s.k; basis = l.basis } ≡ code_of plan left
+    left-held = let a = accepted c e in rw (a.d-is, a.k-is, a.basis-is)
+
+    module _ (r : CheckedSheet) (t : Sheet) (c' : SheetChecked plan.right_sheet r) (e' : r.sheet ≡ Ok t) where
+      pub past-sheets : plan_check plan ≡ wiring_check s.d t.d plan.nl plan.nr plan.wiring
       unfolding plan_check
       past-sheets =
           let a = accepted c e in
@@ -98,32 +96,15 @@ module _ (plan : Plan) where
           and_then-passed _ _ [] a.sheet-done ∙ and_then-passed _ _ [] b.sheet-done
           ∙ ap₂ (λ (x y : ℕ). wiring_check x y plan.nl plan.nr plan.wiring) (sym a.d-is) (sym b.d-is)
 
-      pub checked-wiring-refused : (f : Refusal) → wiring_check dl dr plan.nl plan.nr plan.wiring ≡ refused f.number f.place
-          → PlanChecked plan (refused_plan f)
-      checked-wiring-refused f q = checked_refused f (past-sheets ∙ q)
+      pub checked-wiring-refused : (f : Refusal) → wiring_check s.d t.d plan.nl plan.nr plan.wiring ≡ refused (number_of f) (place_of f)
+          → PlanChecked plan (Err f)
+      checked-wiring-refused f q = refused-plan f (past-sheets ∙ q)
 
-      -- what the code tells of an accepted plan
-      abbrev told : CheckedPlan
-      told =
-          record {
-            checked = Checked.Passed;
-            left = record { n = plan.nl; d = dl; k = kl; basis = l.basis };
-            right = record { n = plan.nr; d = dr; k = kr; basis = r.basis };
-          }
+      pub checked-passed : wiring_check s.d t.d plan.nl plan.nr plan.wiring ≡ done [] → plan_check plan ≡ done []
+      checked-passed q = past-sheets ∙ q
 
-      pub checked-accepted : wiring_check dl dr plan.nl plan.nr plan.wiring ≡ done [] → PlanChecked plan told
-      checked-accepted q = record { answer = sym (past-sheets ∙ q); codes = λ name. go name ∙ sym (held name) }
-        where
-          held : (name : SideName) → held_code (plan_check plan) (code_of plan name) ≡ code_of plan name
-          held name = ap (λ (x : Reply). held_code x (code_of plan name)) (past-sheets ∙ q)
-
-          go : (name : SideName) → code_in told name ≡ code_of plan name
-          go SideName.Left =
-              let a = accepted c e in
-              rw (a.d-is, a.k-is, a.basis-is)
-          go SideName.Right =
-              let b = accepted c' e' in
-              rw (b.d-is, b.k-is, b.basis-is)
+      pub right-held : record { n = plan.nr; d = t.d; k = t.k; basis = r.basis } ≡ code_of plan right
+      right-held = let b = accepted c' e' in rw (b.d-is, b.k-is, b.basis-is)
 
 -- ---- what a caller of the check learns
 
@@ -131,22 +112,24 @@ pub record PlanAccepted (plan : Plan) (r : CheckedPlan) : Type 0 where
   pub plan-done : plan_check plan ≡ done []
   pub sheet-sound : (name : SideName) → Sound (sheet_of plan name)
   pub plan-wired : WiredPlan plan
-  pub code_is : (name : SideName) → code_in r name ≡ code_of plan name
+  pub code_is : (name : SideName) → both_codes r.left r.right name ≡ code_of plan name
 
-module _ (plan : Plan) (r : CheckedPlan) (c : PlanChecked plan r) where
-  pub plan-accepted : r.checked ≡ Checked.Passed → PlanAccepted plan r
-  plan-accepted e =
-      let passed : plan_check plan ≡ done [] = sym c.answer ∙ ap check_reply e in
-      let (s, w) = plan-sound plan passed in
-      record {
-        plan-done = passed;
-        sheet-sound = s;
-        plan-wired = w;
-        code_is = λ name. c.codes name ∙ ap (λ (x : Reply). held_code x (code_of plan name)) passed;
-      }
+-- a checked plan is accepted, whoever hands it in
+pub plan-accepted : (r : CheckedPlan) → PlanAccepted (plan_in r.parts) r
+plan-accepted r =
+    let (s, w) = plan-sound (plan_in r.parts) r.passed in
+    record { plan-done = r.passed; sheet-sound = s; plan-wired = w; code_is = held }
+  where
+    held : (name : SideName) → both_codes r.left r.right name ≡ code_of (plan_in r.parts) name
+    held SideName.Left = r.left_is
+    held SideName.Right = r.right_is
 
-  pub plan-refused : (f : Refusal) → r.checked ≡ Checked.Refused f → plan_check plan ≡ refused f.number f.place
-  plan-refused f e = sym c.answer ∙ ap check_reply e
+module _ (plan : Plan) (result : Result CheckedPlan Refusal) (c : PlanChecked plan result) where
+  pub plan-checked : (r : CheckedPlan) → result ≡ Ok r → PlanAccepted plan r
+  plan-checked r e = subst (λ (p : Plan). PlanAccepted p r) (rw e at c.parts) (plan-accepted r)
+
+  pub plan-refused : (f : Refusal) → result ≡ Err f → plan_check plan ≡ refused (number_of f) (place_of f)
+  plan-refused f e = sym c.answer ∙ ap plan_reply e
 
 -- an accepted plan has as many bits as the code makes of its left side
 pub accepted-edges : {plan : Plan} {r : CheckedPlan} → PlanAccepted plan r → r.left.n * r.left.d ≡ edge_count plan

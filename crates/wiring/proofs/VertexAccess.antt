@@ -23,7 +23,8 @@ use Rattle.wiring.specs.Plan.{Plan, edge_of, edge_count, sheet_of, count_of, lef
 use Rattle.wiring.specs.Wiring.{plan_check}
 use Rattle.wiring.specs.Block.{vertex_word}
 use Rattle.wiring.specs.Access.{word_from, read_word, both_codes, Readable, AllReadable}
-use Rattle.wiring.specs.Checking.{code_of}
+use Rattle.wiring.specs.Checking.{}
+use Rattle.wiring.specs.Code.{code_of}
 use Rattle.wiring.specs.declared.side.SideCode.{SideCode}
 use Rattle.wiring.specs.declared.side.SideName.{SideName}
 use Rattle.wiring.proofs.Permutation.{fitted-vertex, entry_lt}

@@ -1,5 +1,7 @@
 pub mod Plan
 pub mod Wiring
+pub mod Code
+pub mod PlanParts
 pub mod Block
 pub mod Answer
 pub mod Checking

@@ -27,12 +27,10 @@ pub fn gathered(wiring: &[u8], base: usize, d: usize, block: &[u8]) -> u16
     ensures { result ≡ word_from (edge_of wiring.now) block.now base d }
 {
     let mut scaled: u32 = 0;
-    let mut j = 0;
-    while j < d {
+    for j in 0..d {
         let edge = edge_at(wiring, base + j);
         let moved = (block[edge / 8] as u32) << (edge % 8);
         scaled = scaled * 2 + moved / 128 % 2 * 128;
-        j += 1;
     }
     (scaled / 128) as u16
 }

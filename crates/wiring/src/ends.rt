@@ -20,11 +20,9 @@ pub fn note_ends(
     ensures lefts_kept { KeptFrom edges lefts.old lefts.new }
     ensures rights_kept { KeptFrom edges rights.old rights.new }
 {
-    let mut i = 0;
-    while i < edges {
+    for i in 0..edges {
         let edge = edge_at(wiring, i);
         lefts[i] = (edge / dl) as u16;
         rights[edge] = (i / dr) as u16;
-        i += 1;
     }
 }

@@ -5,16 +5,18 @@ mod access;
 mod block;
 mod ends;
 mod locator;
+mod parts;
 mod piece;
 mod places;
 mod plan;
 mod side;
 
-pub use block::{Checked, check_bits, check_block};
-pub use locator::{Located, locate};
+pub use block::{BitsError, check_bits, check_block};
+pub use locator::locate;
+pub use parts::{CheckedPlan, PlanParts};
 pub use piece::piece_of;
-pub use plan::{CheckedPlan, MAX_EDGES, MAX_VERTICES, check_plan};
-pub use side::{SideCode, SideName, code_of, count_of, other_side};
+pub use plan::{MAX_EDGES, MAX_VERTICES, check_plan};
+pub use side::{SideCode, SideName, Vertex};
 
 // Lent to the crates above: these ask what their callers prove.
 pub use access::{bit_of, edge_at, gathered, read_word, vertex_at};

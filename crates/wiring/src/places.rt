@@ -15,9 +15,7 @@ pub fn note_places(wiring: &[u8], places: &mut [u16])
     ensures kept_from { KeptFrom (length wiring.now / 2) places.old places.new }
 {
     let edges = wiring.len() / 2;
-    let mut i = 0;
-    while i < edges {
+    for i in 0..edges {
         places[edge_at(wiring, i)] = i as u16;
-        i += 1;
     }
 }

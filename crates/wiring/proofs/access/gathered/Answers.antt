@@ -2,7 +2,6 @@
 use mathlib.Core.Path.{◌≡◌, refl, sym, ap, ◌∙◌}
 use Prim.Native.Nat.{ℕ, ◌*◌, ◌/◌, ◌%◌, ◌<◌}
 use native.Mathlib.Omega.{arith}
-use borrow.Author.Rules.{rules}
 use lib.ListN.{get_or}
 use Rattle.bits.specs.Bit.{bit_at}
 use Rattle.bits.proofs.Windows.{digit-moved}
@@ -13,7 +12,7 @@ use Rattle.wiring.proofs.access.gathered.Goals as goal
 use Rattle.wiring.proofs.access.gathered.Goals.{At-loop-j}
 
 pub loop-j-init : goal.loop-j-init
-loop-j-init c = (search rules, ap (λ (x : ℕ). x * 128) (sym (word-from-none _ _ _)))
+loop-j-init c = ap (λ (x : ℕ). x * 128) (sym (word-from-none _ _ _))
 
 -- the bits of the first j entries: a word of at most sixteen digits
 
@@ -28,10 +27,10 @@ pub overflow_cast-moved : goal.overflow_cast-moved
 overflow_cast-moved c = omega (arith, c.type_inv.block (c.edge_at-edge.result / 8))
 
 pub overflow_mul-scaled : goal.overflow_mul-scaled
-overflow_mul-scaled c = omega (arith, c.loop-j.invariant.1, word_lt (goal.at.overflow_mul-scaled c).At-loop-j)
+overflow_mul-scaled c = omega (arith, c.loop-j.invariant, word_lt (goal.at.overflow_mul-scaled c).At-loop-j)
 
 pub overflow_add-scaled : goal.overflow_add-scaled
-overflow_add-scaled c = omega (arith, c.loop-j.invariant.1, word_lt (goal.at.overflow_add-scaled c).At-loop-j)
+overflow_add-scaled c = omega (arith, c.loop-j.invariant, word_lt (goal.at.overflow_add-scaled c).At-loop-j)
 
 pub loop-j-preserved : goal.loop-j-preserved
 unfolding bit_at
@@ -40,20 +39,19 @@ loop-j-preserved c =
     let args = c.args in
     let block = args.block.now in
     let byte = edge.result / 8 in
-    let small : get_or block byte 0 < 256 = omega (arith, c.type_inv.block byte) in (
-      search rules,
-      omega (
-        arith,
-        c.loop-j.invariant.1,
-        digit-moved 32 (get_or block byte 0) (edge.result % 8) (omega arith) small (omega arith),
-        word-from-one-more (edge_of args.wiring.now) block args.base c.loop-j.j ((let args = c.args in word_from (edge_of args.wiring.now) args.block.now args.base c.loop-j.j)) _ _ refl refl edge.ensures,
-      ),
+    let small : get_or block byte 0 < 256 = omega (arith, c.type_inv.block byte) in
+    let before = word_from (edge_of args.wiring.now) block args.base c.loop-j.j in
+    omega (
+      arith,
+      c.loop-j.invariant,
+      digit-moved 32 (get_or block byte 0) (edge.result % 8) (omega arith) small (omega arith),
+      word-from-one-more (edge_of args.wiring.now) block args.base c.loop-j.j before _ _ refl refl edge.ensures,
     )
 
 pub overflow_cast-result : goal.overflow_cast-result
-overflow_cast-result c = omega (arith, c.loop-j.invariant.1, word_lt (goal.at.overflow_cast-result c).At-loop-j)
+overflow_cast-result c = omega (arith, c.loop-j.invariant, word_lt (goal.at.overflow_cast-result c).At-loop-j)
 
 pub returns : goal.returns
 returns c =
     let all : c.loop-j.j ≡ c.args.d = omega arith in
-    omega (arith, c.loop-j.invariant.1) ∙ ap (word_from _ _ _) all
+    omega (arith, c.loop-j.invariant) ∙ ap (word_from _ _ _) all

@@ -1,11 +1,8 @@
 use mathlib.Core.Path.{◌≡◌}
-use Prim.Native.Nat.{◌-◌, ◌*◌, ◌≤◌}
+use Prim.Native.Nat.{◌*◌}
 use Rattle.wiring.specs.Plan.{edge_of}
 use Rattle.wiring.specs.Access.{word_from}
 use Rattle.wiring.proofs.access.gathered.Given as goal
 
 abbrev pub invariant-loop-j : goal.invariant-loop-j
-invariant-loop-j l = (l.j ≤ l.d) × (l.scaled ≡ word_from (edge_of l.wiring) l.block l.base l.j * 128)
-
-abbrev pub decreases-loop-j : goal.decreases-loop-j
-decreases-loop-j l = l.d - l.j
+invariant-loop-j l = (l.scaled ≡ word_from (edge_of l.wiring) l.block l.base l.j * 128)

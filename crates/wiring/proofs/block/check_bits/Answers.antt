@@ -11,15 +11,15 @@ use Rattle.wiring.proofs.block.check_bits.Goals as goal
 
 pub returns-then-bytes-whole : goal.returns-then-bytes-whole
 unfolding block_bytes
-returns-then-bytes-whole c = sym (bits-unsized _ _ _ _ (λ e. c.if-bytes-whole.true (omega arith)))
+returns-then-bytes-whole c length_wrong stray_bit = sym (bits-unsized _ _ _ _ (λ e. c.if-bytes-whole.true (omega arith)))
 
 pub returns-then-rest-eq0 : goal.returns-then-rest-eq0
 unfolding block_bytes
-returns-then-rest-eq0 c = sym (bits-whole _ _ _ _ (omega arith) (omega arith))
+returns-then-rest-eq0 c length_wrong stray_bit = sym (bits-whole _ _ _ _ (omega arith) (omega arith))
 
 pub returns-then-bytes-whole-2 : goal.returns-then-bytes-whole-2
 unfolding block_bytes
-returns-then-bytes-whole-2 c = sym (bits-unsized _ _ _ _ (λ e. c.if-bytes-whole-2.true (omega arith)))
+returns-then-bytes-whole-2 c length_wrong stray_bit = sym (bits-unsized _ _ _ _ (λ e. c.if-bytes-whole-2.true (omega arith)))
 
 -- a byte holds the weight of each of its bits
 weight : (k : ℕ) → k < 8 → (1 * 2 ^ k) % 256 ≡ 2 ^ k
@@ -33,8 +33,8 @@ nonzero_rem-bytes c = weight-pos _ (omega arith)
 
 pub returns-then-bytes-whole-ne0 : goal.returns-then-bytes-whole-ne0
 unfolding block_bytes
-returns-then-bytes-whole-ne0 c = sym (bits-low-set _ _ _ _ (omega arith) _ (weight _ (omega arith)) c.if-bytes-whole-ne0.true)
+returns-then-bytes-whole-ne0 c length_wrong stray_bit = sym (bits-low-set _ _ _ _ (omega arith) _ (weight _ (omega arith)) c.if-bytes-whole-ne0.true)
 
 pub returns : goal.returns
 unfolding block_bytes
-returns c = sym (bits-low-clear _ _ _ _ (omega arith) _ (weight _ (omega arith)) c.if-bytes-whole-ne0.false)
+returns c length_wrong stray_bit = sym (bits-low-clear _ _ _ _ (omega arith) _ (weight _ (omega arith)) c.if-bytes-whole-ne0.false)

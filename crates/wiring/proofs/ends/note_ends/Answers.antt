@@ -1,8 +1,7 @@
 -- `wiring::note_ends` meets its contract: after i turns the ends that the first i entries name are noted, and since no edge stands twice no
 -- later turn writes over one of them.
-use mathlib.Core.Path.{◌≡◌}
+use mathlib.Core.Path.{◌≡◌, refl}
 use Prim.Native.Nat.{◌<◌}
-use borrow.Author.Rules.{rules}
 use native.Mathlib.Nat.{div-le_self}
 use native.Mathlib.Omega.{arith}
 use lib.ListN.{length-set}
@@ -12,7 +11,7 @@ use Rattle.wiring.proofs.ends.note_ends.Goals as goal
 use Rattle.wiring.proofs.ends.note_ends.Goals.{After-edge_at-edge}
 
 pub loop-i-init : goal.loop-i-init
-loop-i-init c = (search rules, search rules, search rules, noted-none _ _ _ _ _, kept-start _ _, kept-start _ _)
+loop-i-init c = (refl, refl, noted-none _ _ _ _ _, kept-start _ _, kept-start _ _)
 
 -- an entry of the wiring is one of its edges
 edge-lt : (c : After-edge_at-edge) → c.edge_at-edge.result < c.args.edges
@@ -33,20 +32,19 @@ bounds-rights-edge c = omega (arith, edge-lt c)
 pub loop-i-preserved : goal.loop-i-preserved
 loop-i-preserved c =
     let before = c.loop-i in (
-      search rules,
+      simp length-set before.invariant.0,
       simp length-set before.invariant.1,
-      simp length-set before.invariant.2,
       noted-one-more c.requires.permuted (omega arith) (omega arith) before.i c.edge_at-edge.result (omega arith) c.edge_at-edge.ensures
-          before.invariant.3,
-      kept_set before.invariant.4 before.i _ (omega arith),
-      kept_set before.invariant.5 c.edge_at-edge.result _ (edge-lt c),
+          before.invariant.2,
+      kept_set before.invariant.3 before.i _ (omega arith),
+      kept_set before.invariant.4 c.edge_at-edge.result _ (edge-lt c),
     )
 
 pub returns : goal.returns
 returns c =
     let end : c.loop-i.i ≡ c.args.edges = omega arith in
     record {
-      noted = rw end at c.loop-i.invariant.3;
-      lefts_kept = c.loop-i.invariant.4;
-      rights_kept = c.loop-i.invariant.5;
+      noted = rw end at c.loop-i.invariant.2;
+      lefts_kept = c.loop-i.invariant.3;
+      rights_kept = c.loop-i.invariant.4;
     }

@@ -1,5 +1,4 @@
 use mathlib.Core.Path.{◌≡◌}
-use Prim.Native.Nat.{◌-◌, ◌≤◌}
 use lib.ListN.{length}
 use Rattle.bits.specs.Window.{KeptFrom}
 use Rattle.wiring.specs.Plan.{edge_of}
@@ -8,8 +7,5 @@ use Rattle.wiring.proofs.ends.note_ends.Given as goal
 
 abbrev pub invariant-loop-i : goal.invariant-loop-i
 invariant-loop-i l =
-    (l.i ≤ l.edges) × (length l.lefts ≡ length l.initial.lefts) × (length l.rights ≡ length l.initial.rights) × Noted (edge_of l.wiring) l.dl l.dr l.i l.lefts l.rights
+    (length l.lefts ≡ length l.initial.lefts) × (length l.rights ≡ length l.initial.rights) × Noted (edge_of l.wiring) l.dl l.dr l.i l.lefts l.rights
     × KeptFrom l.edges l.initial.lefts l.lefts × KeptFrom l.edges l.initial.rights l.rights
-
-abbrev pub decreases-loop-i : goal.decreases-loop-i
-decreases-loop-i l = l.edges - l.i

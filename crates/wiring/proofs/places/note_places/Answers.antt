@@ -2,7 +2,6 @@
 use mathlib.Core.Path.{◌≡◌, refl, ◌∙◌}
 use Prim.Native.Nat.{◌/◌, ◌<◌}
 use native.Mathlib.Omega.{arith}
-use borrow.Author.Rules.{rules}
 use lib.ListN.{length, length-set}
 use Rattle.bits.proofs.Lists.{kept-start, kept_set}
 use Rattle.wiring.proofs.EdgePlaces.{places-more}
@@ -12,7 +11,7 @@ use Rattle.wiring.proofs.places.note_places.Goals.{After-edge_at}
 -- the edges stand at the entries, each once
 
 pub loop-i-init : goal.loop-i-init
-loop-i-init c = (search rules, refl, λ j l. absurd (omega arith), kept-start _ _)
+loop-i-init c = (refl, λ j l. absurd (omega arith), kept-start _ _)
 
 edge-lt : (c : After-edge_at) → c.edge_at.result < length c.args.wiring.now / 2
 edge-lt c = rw c.edge_at.ensures ((c.requires.permuted).edge-lt c.loop-i.i (omega arith))
@@ -21,27 +20,26 @@ pub offset_bounds-places-edge_at : goal.offset_bounds-places-edge_at
 offset_bounds-places-edge_at c = omega (arith, edge-lt c, c.requires.wiring_len_bound)
 
 pub bounds-places-edge_at : goal.bounds-places-edge_at
-bounds-places-edge_at c = omega (arith, edge-lt c, c.requires.wiring_in_bounds, c.loop-i.invariant.1)
+bounds-places-edge_at c = omega (arith, edge-lt c, c.requires.wiring_in_bounds, c.loop-i.invariant.0)
 
 pub loop-i-preserved : goal.loop-i-preserved
 loop-i-preserved c =
     let turn = c.loop-i in
     let once = (c.requires.permuted).edge-once in (
-      omega arith,
-      length-set turn.places c.edge_at.result turn.i ∙ turn.invariant.1,
+      length-set turn.places c.edge_at.result turn.i ∙ turn.invariant.0,
       places-more _ turn.places turn.i _ c.edge_at.ensures
-          (omega (arith, edge-lt c, c.edge_at.ensures, c.requires.wiring_in_bounds, turn.invariant.1))
+          (omega (arith, edge-lt c, c.edge_at.ensures, c.requires.wiring_in_bounds, turn.invariant.0))
           (λ j l e. let same = once j turn.i (omega arith) (omega arith) e in omega arith)
-          turn.invariant.2 refl,
-      kept_set turn.invariant.3 c.edge_at.result turn.i (edge-lt c),
+          turn.invariant.1 refl,
+      kept_set turn.invariant.2 c.edge_at.result turn.i (edge-lt c),
     )
 
 pub shape_of-places : goal.shape_of-places
-shape_of-places c = c.loop-i.invariant.1
+shape_of-places c = c.loop-i.invariant.0
 
 pub returns : goal.returns
 returns c =
     let end : c.loop-i.i ≡ length c.args.wiring.now / 2 = omega arith in record {
-      places_noted = record { sized = omega (arith, c.requires.wiring_in_bounds, c.loop-i.invariant.1); each = rw end at c.loop-i.invariant.2 };
-      kept_from = c.loop-i.invariant.3;
+      places_noted = record { sized = omega (arith, c.requires.wiring_in_bounds, c.loop-i.invariant.0); each = rw end at c.loop-i.invariant.1 };
+      kept_from = c.loop-i.invariant.2;
     }

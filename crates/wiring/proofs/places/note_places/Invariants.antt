@@ -1,5 +1,5 @@
 use mathlib.Core.Path.{◌≡◌}
-use Prim.Native.Nat.{ℕ, ◌-◌, ◌≤◌, ◌<◌}
+use Prim.Native.Nat.{ℕ, ◌<◌}
 use lib.ListN.{length}
 use Rattle.bits.specs.Window.{at, KeptFrom}
 use Rattle.wiring.specs.Plan.{edge_of}
@@ -7,7 +7,4 @@ use Rattle.wiring.proofs.places.note_places.Given as goal
 
 abbrev pub invariant-loop-i : goal.invariant-loop-i
 invariant-loop-i l =
-    (l.i ≤ l.edges) × (length l.places ≡ length l.initial.places) × ((j : ℕ) → j < l.i → at l.places (edge_of l.wiring j) ≡ j) × KeptFrom l.edges l.initial.places l.places
-
-abbrev pub decreases-loop-i : goal.decreases-loop-i
-decreases-loop-i l = l.edges - l.i
+    (length l.places ≡ length l.initial.places) × ((j : ℕ) → j < l.i → at l.places (edge_of l.wiring j) ≡ j) × KeptFrom l.edges l.initial.places l.places

@@ -1,6 +1,5 @@
 use mathlib.Core.Path.{◌≡◌}
 use mathlib.Core.List.{[]}
-use Prim.Native.Nat.{◌-◌, ◌≤◌}
 use Rattle.inner_code.specs.Reply.{done}
 use Rattle.wiring.specs.Plan.{edge_of}
 use Rattle.wiring.specs.Wiring.{entries_check}
@@ -9,7 +8,4 @@ use Rattle.wiring.proofs.plan.check_entries.Given as goal
 
 abbrev pub invariant-loop-i : goal.invariant-loop-i
 invariant-loop-i l =
-    (l.i ≤ l.edges) × (entries_check l.edges (edge_of l.wiring) l.i ≡ done []) × (l.seen ≡ seen_after (edge_of l.wiring) l.i none_seen)
-
-abbrev pub decreases-loop-i : goal.decreases-loop-i
-decreases-loop-i l = l.edges - l.i
+    (entries_check l.edges (edge_of l.wiring) l.i ≡ done []) × (l.seen ≡ seen_after (edge_of l.wiring) l.i none_seen)

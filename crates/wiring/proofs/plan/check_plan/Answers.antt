@@ -1,37 +1,39 @@
 -- `wiring::check_plan` meets its contract: each return is the outcome of the first of both sheets and the wiring that refuses.
-use mathlib.Core.Path.{sym, ap, ◌∙◌}
-use native.Mathlib.Omega.{arith}
+use Rattle.std.proofs.Common.{arith, sym, ◌∙◌, refl}
+use Rattle.inner_code.proofs.Replies.{passed-on}
 use Rattle.inner_code.proofs.SheetChecks.{accepted}
-use Rattle.wiring.specs.Checking.{check_reply}
-use Rattle.wiring.proofs.Plans.{checked-left-refused, checked-right-refused, checked-wiring-refused, checked-accepted}
+use Rattle.wiring.specs.PlanParts.{plan_in}
+use Rattle.wiring.proofs.Plans.{past-sheets, checked-left-refused, checked-right-refused, checked-wiring-refused, checked-passed, left-held, right-held}
 use Rattle.wiring.proofs.plan.check_plan.Goals as goal
+
+pub returns-in_err-left : goal.returns-in_err-left
+returns-in_err-left c =
+    rw (passed-on _ _ c.from_residual.ensures.1) (checked-left-refused _ _ _ c.check_sheet-left_checked.ensures c.in_err-left.was)
+
+pub returns-in_err-right : goal.returns-in_err-right
+returns-in_err-right c =
+    rw (passed-on _ _ c.from_residual-in_err-right.ensures.1)
+    (checked-right-refused _ _ _ c.check_sheet-left_checked.ensures c.in_ok-left.was _ _ c.check_right-right_checked.ensures c.in_err-right.was)
 
 pub check_wiring-requires : goal.check_wiring-requires
 check_wiring-requires c =
-    let l = accepted c.check_sheet-left_checked.ensures c.in-Accepted.is in
-    let r = accepted c.check_right-right_checked.ensures c.in-Accepted-right_values.is in
+    let l = accepted c.check_sheet-left_checked.ensures c.in_ok-left.was in
+    let r = accepted c.check_right-right_checked.ensures c.in_ok-right.was in
     (omega (arith, l.d-is, l.sheet-sound.degree-high), omega (arith, r.d-is, r.sheet-sound.degree-high))
 
-pub returns-in-Refused : goal.returns-in-Refused
-returns-in-Refused c =
-    rw c.refused.ensures
-    (checked-left-refused _ _ _ c.check_sheet-left_checked.ensures c.in-Refused.is)
+pub returns-in_err-check_wiring : goal.returns-in_err-check_wiring
+returns-in_err-check_wiring c =
+    rw (passed-on _ _ c.from_residual-in_err-check_wiring.ensures.1)
+    (checked-wiring-refused _ _ _ c.check_sheet-left_checked.ensures c.in_ok-left.was _ _ c.check_right-right_checked.ensures c.in_ok-right.was _
+    (sym c.in_err-check_wiring.ensures))
 
-pub returns-in-Refused-right_values : goal.returns-in-Refused-right_values
-returns-in-Refused-right_values c =
-    rw c.refused-in-Refused-right_values.ensures
-    (checked-right-refused _ _ _ _ c.check_sheet-left_checked.ensures c.in-Accepted.is _ _
-    c.check_right-right_checked.ensures c.in-Refused-right_values.is)
+pub invariant_of-result : goal.invariant_of-result
+invariant_of-result c = record {
+  passed = checked-passed (plan_in c.args.parts) _ _ c.check_sheet-left_checked.ensures c.in_ok-left.was _ _ c.check_right-right_checked.ensures c.in_ok-right.was
+      (sym c.in_ok-check_wiring.ensures);
+  left_is = left-held (plan_in c.args.parts) _ _ c.check_sheet-left_checked.ensures c.in_ok-left.was;
+  right_is = right-held (plan_in c.args.parts) _ _ c.check_sheet-left_checked.ensures c.in_ok-left.was _ _ c.check_right-right_checked.ensures c.in_ok-right.was;
+}
 
-pub returns-in-Refused-check_wiring : goal.returns-in-Refused-check_wiring
-returns-in-Refused-check_wiring c =
-    rw c.refused-in-Refused-check_wiring.ensures
-    (checked-wiring-refused _ _ _ _ c.check_sheet-left_checked.ensures c.in-Accepted.is _ _ _
-    c.check_right-right_checked.ensures c.in-Accepted-right_values.is _
-    (sym c.check_wiring.ensures ∙ ap check_reply c.in-Refused-check_wiring.is))
-
-pub returns-in-Passed : goal.returns-in-Passed
-returns-in-Passed c =
-    checked-accepted _ _ _ _ c.check_sheet-left_checked.ensures c.in-Accepted.is _ _ _
-    c.check_right-right_checked.ensures c.in-Accepted-right_values.is
-    (sym c.check_wiring.ensures ∙ ap check_reply c.in-Passed.is)
+pub returns : goal.returns
+returns c = record { answer = c.in_ok-check_wiring.ensures ∙ sym (past-sheets _ _ _ c.check_sheet-left_checked.ensures c.in_ok-left.was _ _ c.check_right-right_checked.ensures c.in_ok-right.was); parts = refl }

@@ -7,13 +7,15 @@ use Rattle.wiring.specs.Wiring.{count_faulty}
 use Rattle.wiring.proofs.Permutation.{edges_le, count-range, wiring-left-count, wiring-right-count}
 use Rattle.wiring.proofs.Permutation.{wiring-differing, wiring-unsized, wiring-entries}
 use Rattle.wiring.proofs.plan.check_wiring.Goals as goal
-use Rattle.wiring.proofs.plan.check_wiring.Goals.{Else-is_count_faulty-2}
+use Rattle.wiring.proofs.plan.check_wiring.Goals.{Else-is_count_faulty-2, then-is_count_faulty-via-then-is_count_faulty}
+use Rattle.wiring.proofs.plan.check_wiring.Goals.{then-is_count_faulty-via-else-is_count_faulty+then-is_count_faulty-2}
 
 pub returns-then-is_count_faulty : goal.returns-then-is_count_faulty
-returns-then-is_count_faulty c = sym (wiring-left-count _ _ _ _ _ (sym c.is_count_faulty.ensures ∙ c.if-is_count_faulty.true))
-
-pub returns-then-is_count_faulty-2 : goal.returns-then-is_count_faulty-2
-returns-then-is_count_faulty-2 c = sym (wiring-right-count _ _ _ _ _ (sym c.is_count_faulty-2.ensures ∙ c.if-is_count_faulty-2.true))
+returns-then-is_count_faulty c = elim c.then-is_count_faulty.branch [
+  | then-is_count_faulty-via-then-is_count_faulty w ↦ sym (wiring-left-count _ _ _ _ _ (sym c.is_count_faulty.ensures ∙ w.if-is_count_faulty.true))
+  | then-is_count_faulty-via-else-is_count_faulty+then-is_count_faulty-2 w ↦
+      sym (wiring-right-count _ _ _ _ _ (sym w.is_count_faulty-else-is_count_faulty.ensures ∙ w.if-is_count_faulty-2.true))
+]
 
 -- ---- once both counts have passed
 
@@ -21,7 +23,7 @@ left-counted : (c : Else-is_count_faulty-2) → count_faulty c.args.nl ≡ false
 left-counted c = sym c.is_count_faulty.ensures ∙ c.if-is_count_faulty.false
 
 right-counted : (c : Else-is_count_faulty-2) → count_faulty c.args.nr ≡ false
-right-counted c = sym c.is_count_faulty-2.ensures ∙ c.if-is_count_faulty-2.false
+right-counted c = sym c.is_count_faulty-else-is_count_faulty.ensures ∙ c.if-is_count_faulty-2.false
 
 left-fits : (c : Else-is_count_faulty-2) → c.args.nl * c.args.dl ≤ 32768
 left-fits c = edges_le _ _ (count-range _ (left-counted c)).1 (omega arith)

@@ -1,6 +1,6 @@
--- `wiring::other_side` meets its contract: each side gives the other.
+-- `SideName::other` meets its contract: each side gives the other.
 use Rattle.wiring.specs.Plan.{other}
-use Rattle.wiring.proofs.side.other_side.Goals as goal
+use Rattle.wiring.proofs.side.SideName.other.Goals as goal
 
 pub returns-in-Left : goal.returns-in-Left
 unfolding other
