@@ -112,9 +112,10 @@ fn find_hits(
     requires hits_value { hits.old ≡ no_rows }
     ensures { FailSet d check wiring.now residues.now columns.now hits.new }
 {
+    let Check { side, base, digit } = check;
     for i in 0..d {
-        if (residues[i] >> check.digit) % 2 == 1 {
-            add_column(columns, wiring::bit_of(check.side, wiring, check.base + i), hits, 0);
+        if (residues[i] >> digit) % 2 == 1 {
+            add_column(columns, wiring::bit_of(side, wiring, base + i), hits, 0);
         }
     }
 }
