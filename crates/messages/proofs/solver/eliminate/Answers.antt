@@ -19,15 +19,10 @@ pub overflow_mul-base : goal.overflow_mul-base
 overflow_mul-base c =
     omega (arith, div-add-mod' c.loop-m.m c.args.code.d)
 
-pub put_check-requires : goal.put_check-requires
-put_check-requires c =
+pub put_check-requires-clause-within : goal.put_check-requires-clause-within
+put_check-requires-clause-within c =
     let pre = c.requires in
-    record {
-      within = check-within pre.fitted pre.d_value pre.permuted _ c.loop-m.m (omega arith) pre.edges_bound;
-      edges_bound = pre.edges_bound;
-      residues_len = c.unit_residues.auto.residues;
-      columns_len = c.loop-m.auto.columns ∙ pre.columns_len;
-    }
+    check-within pre.fitted pre.d_value pre.permuted _ c.loop-m.m (omega arith) pre.edges_bound
 
 pub loop-m-preserved : goal.loop-m-preserved
 unfolding digit

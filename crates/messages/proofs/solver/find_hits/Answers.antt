@@ -9,18 +9,6 @@ use Rattle.messages.proofs.solver.find_hits.Goals.{else-residues-i-eq1, then-res
 pub loop-i-init : goal.loop-i-init
 loop-i-init c = rw c.requires.hits_value (hits-none _ _ _ _)
 
-pub overflow_cast-digit : goal.overflow_cast-digit
-overflow_cast-digit c = omega (arith, c.requires.within.digit_lt)
-
-pub overflow_shr-residues : goal.overflow_shr-residues
-overflow_shr-residues c = c.requires.within.digit_lt
-
-pub overflow_add-base : goal.overflow_add-base
-overflow_add-base c = omega (arith, c.requires.within.sized)
-
-pub bit_of-requires : goal.bit_of-requires
-bit_of-requires c = omega (arith, c.requires.within.sized)
-
 pub add_column-requires : goal.add_column-requires
 add_column-requires c =
     omega (arith, c.bit_of.ensures, c.requires.within.bit-lt c.loop-i.i (omega arith), ap length c.requires.hits_value, length-no_rows)
