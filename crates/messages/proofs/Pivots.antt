@@ -14,7 +14,7 @@
 -- Laws are named by their subject, then by the fact: `lowest-` is about the lowest row, `hits-` about the set, `check-` about
 -- the check that the code holds, `spread-` about the row that is put on the set, `dropped-` about rows that are no longer live, `step-`
 -- and `made-` about the state after a check. At the end of a name, `-none` is the beginning of a loop or a check that no row fails,
--- `-put` and `-kept` a turn that adds a column and one that does not, `-last` the end of a loop.
+-- `-put` and `-kept` a turn that adds a column and one that does not, `-whole` the end of a loop.
 use Prim.Native.Nat.{ℕ, zero, suc, ◌+◌, ◌-◌, ◌*◌, ◌/◌, ◌%◌, ◌^◌, ◌≤◌, ◌<◌, min}
 use mathlib.Core.Bool.{Bool, true, false, not, ◌&&◌, true≢false}
 use mathlib.Core.List.{List}
@@ -74,8 +74,8 @@ module _ (hits : List ℕ) where
           ]
 
   -- a word without rows is passed over
-  pub lowest-kept : (w : ℕ) → lowest_row hits (w * 64) ≡ w * 64 → get_or hits w 0 ≡ 0 → lowest_row hits ((w + 1) * 64) ≡ (w + 1) * 64
-  lowest-kept w e none =
+  pub lowest-passed : (w : ℕ) → lowest_row hits (w * 64) ≡ w * 64 → get_or hits w 0 ≡ 0 → lowest_row hits ((w + 1) * 64) ≡ (w + 1) * 64
+  lowest-passed w e none =
       let next : w * 64 + 64 ≡ (w + 1) * 64 = omega arith in
       rw next at (lowest-run w 64 (le_refl 64) e (λ j l. ap (λ (x : ℕ). digit x j) none ∙ digit-zero j))
 
@@ -230,8 +230,8 @@ module _ (p : ℕ) (inside : p < 512) (hits columns : List ℕ) (i : ℕ) (left 
       (λ q l. sym (ap (λ (x : ℕ). bit_xor (row_bit left q i) (row_bit hits q 0 * x)) none ∙ ap (bit_xor (row_bit left q i)) (mul-zero _) ∙ xor_zero_r _))
       (λ q e l apart. refl)
 
-pub spread-last : (N p : ℕ) (hits columns : List ℕ) (i : ℕ) (left : List ℕ) → SpreadSoFar p hits columns i left → i ≡ N → Spread N p hits columns left
-spread-last N p hits columns i left so_far last = record { bits = λ q e l k. so_far.passed q e l (rw last k) }
+pub spread-whole : (N p : ℕ) (hits columns left : List ℕ) → SpreadSoFar p hits columns N left → Spread N p hits columns left
+spread-whole N p hits columns left all = record { bits = all.passed }
 
 -- ---- rows that are no longer live
 

@@ -36,9 +36,8 @@ fn eliminate(side: SideName, code: SideCode, edges: usize, wiring: &[u8], column
     requires columns_len { length columns.old ≡ 4096 }
     ensures { Eliminated edges side code wiring.now edges columns.old columns.new }
 {
-    let basis = code.basis;
     let mut residues = [0u16; 16];
-    unit_residues(&basis, code.k, code.d, &mut residues);
+    unit_residues(&code.basis, code.k, code.d, &mut residues);
     let used = used_digits(&residues, code.d);
     for m in 0..edges {
         let digit = m % code.d;

@@ -1,6 +1,5 @@
 -- `messages::count_live` meets its contract: after p turns the rows left below p are counted.
-use Rattle.std.proofs.Common.{◌≡◌, sym, ap, ◌∙◌, ◌<◌, arith}
-use Rattle.messages.specs.Columns.{live_before}
+use Rattle.std.proofs.Common.{◌≡◌, sym, ◌<◌, arith}
 use Rattle.messages.proofs.StoredRows.{row_bit-lt}
 use Rattle.messages.proofs.LiveRows.{live-none, live-one-more, live-le}
 use Rattle.messages.proofs.columns.count_live.Goals as goal
@@ -19,6 +18,5 @@ loop-p-preserved c = live-one-more _ _ _ _ c.loop-p.invariant c.row_bit.ensures
 
 pub returns : goal.returns
 returns c =
-    let args = c.args in
-    let end : c.loop-p.p ≡ args.edges = omega arith in
-    c.loop-p.invariant ∙ ap (live_before args.columns.now) end
+    let end : c.loop-p.p ≡ c.args.edges = omega arith in
+    rw end at c.loop-p.invariant

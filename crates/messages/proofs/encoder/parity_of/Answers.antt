@@ -1,6 +1,6 @@
 -- `messages::parity_of` meets its contract: after w turns `common` has as many ones, but for an even number, as the first w words of the set
 -- and the column have in common.
-use Rattle.std.proofs.Common.{ℕ, ◌+◌, ◌*◌, ◌%◌, bit_and, get_or, sym, ap, ◌∙◌, arith}
+use Rattle.std.proofs.Common.{◌≡◌, ℕ, ◌+◌, ◌*◌, ◌%◌, bit_and, get_or, sym, ap, ◌∙◌, arith}
 use lib.Count.{ones}
 use Rattle.bits.proofs.Xor.{ones-zero, parity-part, ones-xor-parity}
 use Rattle.messages.proofs.LiveRows.{ones-both-none, ones-both-one-more, ones-both-parity}
@@ -18,4 +18,7 @@ loop-w-preserved c =
     ones-xor-parity before.common word ∙ parity-part (ones before.common) _ (ones word) before.invariant ∙ ap (λ (x : ℕ). x % 2) (sym more)
 
 pub returns : goal.returns
-returns c = c.from.ensures ∙ c.loop-w.invariant ∙ ones-both-parity _ _ _ _ (λ v l. (c.type_inv.chosen v).fits) (omega arith)
+returns c =
+    let end : c.loop-w.w ≡ 8 = omega arith in
+    let whole = rw end at c.loop-w.invariant in
+    c.from.ensures ∙ whole ∙ ones-both-parity _ _ _ (λ v. (c.type_inv.chosen v).fits)

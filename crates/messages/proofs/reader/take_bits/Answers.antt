@@ -1,6 +1,5 @@
 -- `messages::take_bits` meets its contract: after p turns the bits at the rows left below p are put, and `rank` counts them.
-use Rattle.std.proofs.Common.{◌≡◌, ℕ, sym, ap, ◌∙◌, arith}
-use Rattle.messages.specs.Columns.{bits_taken}
+use Rattle.std.proofs.Common.{◌≡◌, sym, ◌∙◌, arith}
 use Rattle.messages.proofs.LiveRows.{live-none, live-le}
 use Rattle.messages.proofs.Written.{taken_none, taken-one-more, taken-kept}
 use Rattle.messages.proofs.reader.take_bits.Goals as goal
@@ -35,6 +34,5 @@ loop-p-preserved c =
 
 pub returns : goal.returns
 returns c =
-    let args = c.args in
-    let end : c.loop-p.p ≡ args.edges = omega arith in
-    c.loop-p.invariant.taken ∙ ap (λ (j : ℕ). bits_taken args.columns.now args.block.now j args.output.now) end
+    let end : c.loop-p.p ≡ c.args.edges = omega arith in
+    rw end at c.loop-p.invariant.taken

@@ -1,5 +1,5 @@
 -- `messages::eliminate` meets its contract: after m turns the first m checks of the side are done.
-use Rattle.std.proofs.Common.{◌≡◌, ◌∙◌, div-add-mod', arith}
+use Rattle.std.proofs.Common.{◌≡◌, div-add-mod', arith}
 use Rattle.bits.specs.Bit.{digit}
 use Rattle.messages.proofs.Pivots.{check-digit-lt, check-within, made-unused}
 use Rattle.messages.proofs.Solving.{eliminated-none, eliminated-one-more}

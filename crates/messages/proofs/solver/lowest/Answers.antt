@@ -1,13 +1,13 @@
 -- `messages::lowest` meets its contract: after w turns no row of the first w words is in the set.
 use Rattle.std.proofs.Common.{sym, ◌∙◌, arith}
-use Rattle.messages.proofs.Pivots.{lowest-none, lowest-kept, lowest-found, lowest-past}
+use Rattle.messages.proofs.Pivots.{lowest-none, lowest-passed, lowest-found, lowest-past}
 use Rattle.messages.proofs.solver.lowest.Goals as goal
 
 pub loop-w-init : goal.loop-w-init
 loop-w-init c = lowest-none _
 
 pub loop-w-preserved : goal.loop-w-preserved
-loop-w-preserved c = lowest-kept _ _ c.loop-w.invariant c.if-hits-w-ne0.false
+loop-w-preserved c = lowest-passed _ _ c.loop-w.invariant c.if-hits-w-ne0.false
 
 pub returns-then-hits-w-ne0 : goal.returns-then-hits-w-ne0
 returns-then-hits-w-ne0 c =

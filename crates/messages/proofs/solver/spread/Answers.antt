@@ -1,6 +1,6 @@
 -- `messages::spread` meets its contract: after e turns row p is put on the rows of the set in the columns below e.
-use Rattle.std.proofs.Common.{arith}
-use Rattle.messages.proofs.Pivots.{spread-put, spread-kept, spread-last}
+use Rattle.std.proofs.Common.{◌≡◌, arith}
+use Rattle.messages.proofs.Pivots.{spread-put, spread-kept, spread-whole}
 use Rattle.messages.proofs.solver.spread.Goals as goal
 use Rattle.messages.proofs.solver.spread.Goals.{else-row_bit-eq1, then-row_bit-eq1}
 
@@ -16,4 +16,6 @@ loop-e-preserved c =
     ])
 
 pub returns : goal.returns
-returns c = spread-last _ _ _ _ _ _ c.loop-e.invariant (omega arith)
+returns c =
+    let end : c.loop-e.e ≡ c.args.edges = omega arith in
+    spread-whole _ _ _ _ _ (rw end at c.loop-e.invariant)
