@@ -125,9 +125,9 @@ fn lowest(edges: usize, hits: &[u64]) -> usize
     requires hits_len { length hits.now ≡ 8 }
     ensures { result ≡ lowest_row hits.now edges }
 {
-    for w in 0..SET_WORDS {
-        if hits[w] != 0 {
-            return edges.min(w * WORD_BITS + hits[w].trailing_zeros() as usize);
+    for (w, word) in hits.iter().enumerate() {
+        if *word != 0 {
+            return edges.min(w * WORD_BITS + word.trailing_zeros() as usize);
         }
     }
     edges

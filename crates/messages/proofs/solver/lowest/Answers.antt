@@ -7,10 +7,10 @@ pub loop-w-init : goal.loop-w-init
 loop-w-init c = lowest-none _
 
 pub loop-w-preserved : goal.loop-w-preserved
-loop-w-preserved c = lowest-passed _ _ c.loop-w.invariant c.if-hits-w-ne0.false
+loop-w-preserved c = lowest-passed _ _ c.loop-w.invariant c.if-word-ne0.false
 
-pub returns-then-hits-w-ne0 : goal.returns-then-hits-w-ne0
-returns-then-hits-w-ne0 c =
+pub returns-then-word-ne0 : goal.returns-then-word-ne0
+returns-then-word-ne0 c =
     c.min.ensures ∙ sym (lowest-found _ _ _ c.loop-w.invariant (omega arith) (c.type_inv.hits c.loop-w.w).fits)
 
 pub returns : goal.returns
