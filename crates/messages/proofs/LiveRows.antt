@@ -7,8 +7,8 @@
 --   StoredPlan plan N columns       the columns hold the final rows of an accepted plan of N edges (specs Columns)
 --   final_state plan                 the state after all checks of the plan (specs Elimination)
 -- Laws are named by their subject, then by the fact: `live-` is about the count, `chosen-` about the chosen rows, `ones-` about their
--- common ones, `stored-` about the rows of a plan. At the end of a name, `-none` is the beginning of a loop, `-one-more` a turn, `-last`
--- its end, `-le` a bound.
+-- common ones, `stored-` about the rows of a plan. At the end of a name, `-none` is the beginning of a loop, `-one-more` a turn, `-le` a
+-- bound.
 use Prim.Native.Nat.{ℕ, zero, suc, ◌+◌, ◌-◌, ◌*◌, ◌/◌, ◌%◌, ◌^◌, ◌≤◌, ◌<◌, min}
 use mathlib.Core.Bool.{Bool, true, false}
 use mathlib.Core.List.{List}
