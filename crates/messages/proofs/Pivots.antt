@@ -30,7 +30,7 @@ use lib.Bits.{bit_xor, xor_self, xor_zero_r}
 use lib.Dec.{eqb}
 use lib.ListN.{get_or}
 use borrow.Author.Tests.{ltb-false, eqb-true, eq-eqb, not-true}
-use mir.Syntax.{w64}
+use Rattle.std.proofs.Common.{w64}
 use Rattle.std.specs.Int.{trailing_zeros}
 use Rattle.std.proofs.lemmas.Nat.Bits.{bit_at-trailing_zeros}
 use Rattle.bits.proofs.Xor.{digits_product, digit_lt, digit-zero}
