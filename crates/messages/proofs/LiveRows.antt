@@ -7,9 +7,9 @@
 --   StoredPlan plan N columns       the columns hold the final rows of an accepted plan of N edges (specs Columns)
 --   final_state plan                 the state after all checks of the plan (specs Elimination)
 -- Laws are named by their subject, then by the fact: `live-` is about the count, `chosen-` about the chosen rows, `ones-` about their
--- common ones, `stored-` about the rows of a plan. At the end of a name, `-none` is the beginning of a loop, `-one-more` a turn, `-last`
--- its end, `-le` a bound.
-use Prim.Native.Nat.{ℕ, zero, suc, ◌+◌, ◌-◌, ◌*◌, ◌/◌, ◌%◌, ◌^◌, ◌≤◌, ◌<◌}
+-- common ones, `stored-` about the rows of a plan. At the end of a name, `-none` is the beginning of a loop, `-one-more` a turn, `-le` a
+-- bound.
+use Prim.Native.Nat.{ℕ, zero, suc, ◌+◌, ◌-◌, ◌*◌, ◌/◌, ◌%◌, ◌^◌, ◌≤◌, ◌<◌, min}
 use mathlib.Core.Bool.{Bool, true, false}
 use mathlib.Core.List.{List}
 use mathlib.Core.Logic.{⊎_elim, ◌≢◌}
@@ -19,15 +19,16 @@ use native.Mathlib.Nat.{lt_of_le_of_lt, mod-eq_of_lt, add-sub_of_le, add-zero}
 use native.Mathlib.Decide.{ℕ_discrete}
 use native.Mathlib.Numerals.{add-one}
 use native.Mathlib.Omega.{arith}
-use lib.Bits.{bit_xor, bit_and, and_le_l, and_shr, and_mod, xor_zero_l, xor_zero_r}
+use lib.Bits.{bit_xor, bit_and, and_le_l, xor_zero_l, xor_zero_r}
 use lib.Count.{ones}
+use Rattle.std.proofs.lemmas.Nat.Bits.{bit_at_and}
 use lib.ListN.{length, get_or, set}
 use lib.Pow.{pow_mono, shl_lt}
 use lib.Seq.{get_or-set_same, get_or-set_other}
 use Rattle.bits.specs.Bit.{digit, bit_at}
 use Rattle.bits.specs.Sum.{sum, flag}
 use Rattle.bits.proofs.Sums.{sum-zero, sum-one-more, sum-ext, sum-none, sum-append, sum-blocks, sum_mono, sum-const, flag_true, flag-false}
-use Rattle.bits.proofs.Xor.{digit-pow-same, digit-pow-other, xor-digit, digits_product}
+use Rattle.bits.proofs.Xor.{digit_lt, digit-pow-same, digit-pow-other, xor-digit, digits_product}
 use Rattle.bits.proofs.Bytes.{bit_at_lt}
 use Rattle.bits.proofs.Words.{ones-sum}
 use Rattle.wiring.specs.Plan.{Plan, edge_count}
@@ -115,17 +116,14 @@ module _ (p : ℕ) (low : p < 512) (columns message chosen : List ℕ) (sized : 
 
 -- ---- the ones that a set and a column have in common
 
-and-bits : (a b : ℕ) → a < 2 → b < 2 → bit_and a b ≡ a * b
-and-bits zero b ha hb = sym (zero-mul b)
-and-bits (suc zero) zero ha hb = refl
-and-bits (suc zero) (suc zero) ha hb = refl
-and-bits (suc zero) (suc (suc b)) ha hb = absurd (omega arith)
-and-bits (suc (suc a)) b ha hb = absurd (omega arith)
+min-product : (a b : ℕ) → a < 2 → b < 2 → min a b ≡ a * b
+min-product zero b ha hb = omega arith
+min-product (suc zero) b ha hb = omega arith
+min-product (suc (suc a)) b ha hb = absurd (omega arith)
 
 and-digit : (a b j : ℕ) → digit (bit_and a b) j ≡ digit a j * digit b j
 unfolding digit
-and-digit a b j =
-    ap (λ (x : ℕ). x % 2) (and_shr a b j) ∙ and_mod (a / 2 ^ j) (b / 2 ^ j) 1 ∙ and-bits _ _ (omega arith) (omega arith)
+and-digit a b j = bit_at_and a b j ∙ min-product _ _ (digit_lt a j) (digit_lt b j)
 
 unfoldable pub ones_both : List ℕ → List ℕ → ℕ → ℕ → ℕ
 ones_both chosen columns e w = sum w (λ v. ones (bit_and (get_or chosen v 0) (get_or columns (8 * e + v) 0)))
@@ -155,14 +153,11 @@ module _ (chosen columns : List ℕ) (e : ℕ) where
       let first : 8 * 0 + v ≡ v = omega arith in
       and-digit (get_or chosen v 0) (get_or columns (8 * e + v) 0) j ∙ sym (rw (at-word, at-digit, first)))
 
-  pub ones-both-parity : (w : ℕ) → ((v : ℕ) → v < w → get_or chosen v 0 < 2 ^ 64) → w ≡ 8
-      → ones_both chosen columns e w % 2 ≡ column_parity chosen columns e
+  pub ones-both-parity : ((v : ℕ) → get_or chosen v 0 < 2 ^ 64) → ones_both chosen columns e 8 % 2 ≡ column_parity chosen columns e
   unfolding ones_both column_parity parity
-  ones-both-parity w words last =
+  ones-both-parity words =
       ap (λ (x : ℕ). x % 2)
-      (ap (λ (m : ℕ). sum m (λ v. ones (bit_and (get_or chosen v 0) (get_or columns (8 * e + v) 0)))) last
-      ∙ sum-ext 8 _ _ (λ v l. ones-both-rows v (words v (rw last l)))
-      ∙ sym (sum-blocks 8 64 (λ p. row_bit chosen p 0 * row_bit columns p e)))
+      (sum-ext 8 _ _ (λ v l. ones-both-rows v (words v)) ∙ sym (sum-blocks 8 64 (λ p. row_bit chosen p 0 * row_bit columns p e)))
 
 -- ---- the rows of a plan
 

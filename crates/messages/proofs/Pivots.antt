@@ -14,13 +14,13 @@
 -- Laws are named by their subject, then by the fact: `lowest-` is about the lowest row, `hits-` about the set, `check-` about
 -- the check that the code holds, `spread-` about the row that is put on the set, `dropped-` about rows that are no longer live, `step-`
 -- and `made-` about the state after a check. At the end of a name, `-none` is the beginning of a loop or a check that no row fails,
--- `-put` and `-kept` a turn that adds a column and one that does not, `-last` the end of a loop.
-use Prim.Native.Nat.{ℕ, zero, suc, ◌+◌, ◌-◌, ◌*◌, ◌/◌, ◌%◌, ◌^◌, ◌≤◌, ◌<◌}
+-- `-put` and `-kept` a turn that adds a column and one that does not, `-whole` the end of a loop.
+use Prim.Native.Nat.{ℕ, zero, suc, ◌+◌, ◌-◌, ◌*◌, ◌/◌, ◌%◌, ◌^◌, ◌≤◌, ◌<◌, min}
 use mathlib.Core.Bool.{Bool, true, false, not, ◌&&◌, true≢false}
 use mathlib.Core.List.{List}
 use mathlib.Core.Logic.{⊎_elim, ◌≢◌}
 use mathlib.Core.Path.{◌≡◌, refl, sym, ap, ap₂, ◌∙◌}
-use native.Mathlib.Nat.{le_refl, mul-zero, mul-one, zero-mul, one-mul, eq-or-lt_of_le, le_of_suc-le-suc}
+use native.Mathlib.Nat.{le_refl, min-eq_left, min-eq_right, mul-zero, mul-one, zero-mul, one-mul, eq-or-lt_of_le, le_of_suc-le-suc}
 use native.Mathlib.Nat.{lt_of_lt_of_le, le_antisymm, mod-lt, div-lt_iff_lt-mul}
 use native.Mathlib.Decide.{dec_le}
 use native.Mathlib.Numerals.{add-one}
@@ -29,13 +29,14 @@ use lib.Arith.{digits_lt}
 use lib.Bits.{bit_xor, xor_self, xor_zero_r}
 use lib.Dec.{eqb}
 use lib.ListN.{get_or}
-use lib.Pow.{pow_mono, shr_lt}
 use borrow.Author.Tests.{ltb-false, eqb-true, eq-eqb, not-true}
+use Rattle.std.proofs.Common.{w64}
+use Rattle.std.specs.Int.{trailing_zeros}
+use Rattle.std.proofs.lemmas.Nat.Bits.{bit_at-trailing_zeros}
 use Rattle.bits.proofs.Xor.{digits_product, digit_lt, digit-zero}
 use Rattle.bits.specs.Bit.{digit}
 use Rattle.bits.specs.Sum.{flag}
 use Rattle.bits.proofs.Sums.{flag_true, flag-false, flag-apart}
-use Rattle.bits.proofs.Windows.{digit_low, digit-shifted}
 use Rattle.inner_code.specs.Reduction.{reduced}
 use Rattle.wiring.specs.Plan.{Side, side_bit}
 use Rattle.wiring.specs.Checking.{Fitted, Permuted}
@@ -57,48 +58,49 @@ module _ (hits : List ℕ) where
   unfolding lowest_row
   lowest-none = first-zero (λ p. not (eqb (row_bit hits p 0) 1))
 
-  pub lowest-found : (N p b : ℕ) → p < N → lowest_row hits p ≡ p → b ≡ row_bit hits p 0 → b ≡ 1 → lowest_row hits N ≡ p
-  unfolding lowest_row
-  lowest-found N p b l e r one = first-at N _ p l (first-all-each p _ e) (ap not (eq-eqb _ 1 (sym r ∙ one)))
-
-  -- m rows in a row of one word are passed over where the word has none of them
-  pub lowest-run : (p m rest : ℕ) → p % 64 + m ≤ 64 → lowest_row hits p ≡ p → rest ≡ get_or hits (p / 64) 0 / 2 ^ (p % 64) → rest % 2 ^ m ≡ 0
-      → lowest_row hits (p + m) ≡ p + m
+  -- the words before word w have none, nor do the m lowest places of word w
+  lowest-run : (w m : ℕ) → m ≤ 64 → lowest_row hits (w * 64) ≡ w * 64 → ((j : ℕ) → j < m → digit (get_or hits w 0) j ≡ 0)
+      → lowest_row hits (w * 64 + m) ≡ w * 64 + m
   unfolding lowest_row row_bit
-  lowest-run p m rest fits e is none = first-all _ _ passed
+  lowest-run w m fits e none = first-all _ _ passed
     where
-      clear : (j : ℕ) → j < m → row_bit hits (p + j) 0 ≡ 0
-      clear j l =
-          let word : 8 * 0 + (p + j) / 64 ≡ p / 64 = omega arith in
-          let place : (p + j) % 64 ≡ p % 64 + j = omega arith in
-          ap₂ (λ (w k : ℕ). digit (get_or hits w 0) k) word place ∙ sym (digit-shifted (get_or hits (p / 64) 0) (p % 64) j)
-          ∙ ap (λ (x : ℕ). digit x j) (sym is) ∙ sym (digit_low rest m j l) ∙ ap (λ (x : ℕ). digit x j) none ∙ digit-zero j
-
-      passed : (q : ℕ) → q < p + m → not (eqb (row_bit hits q 0) 1) ≡ true
+      passed : (q : ℕ) → q < w * 64 + m → not (eqb (row_bit hits q 0) 1) ≡ true
       passed q l =
-          elim (dec_le p q) [
+          elim (dec_le (w * 64) q) [
             | yes above ↦
-                let back : p + (q - p) ≡ q = omega arith in
-                ap (λ (b : ℕ). not (eqb b 1)) (rw back at (clear (q - p) (omega arith)))
-            | no below ↦ first-all-each p _ e q (omega arith)
+                let word : 8 * 0 + q / 64 ≡ w = omega arith in
+                ap (λ (b : ℕ). not (eqb b 1)) (ap (λ (v : ℕ). digit (get_or hits v 0) (q % 64)) word ∙ none (q % 64) (omega arith))
+            | no below ↦ first-all-each (w * 64) _ e q (omega arith)
           ]
 
-  -- a byte of a word that has a row above it lies in the word
-  pub lowest-byte : (p rest : ℕ) → get_or hits (p / 64) 0 < 2 ^ 64 → rest ≡ get_or hits (p / 64) 0 / 2 ^ (p % 64) → rest ≢ 0 → rest % 256 ≡ 0
-      → p % 64 + 8 ≤ 64
-  lowest-byte p rest wide is some none =
-      elim (dec_le (p % 64 + 8) 64) [
-        | yes fits ↦ fits
-        | no late ↦
-            let all : 64 - p % 64 + p % 64 ≡ 64 = omega arith in
-            let short : get_or hits (p / 64) 0 / 2 ^ (p % 64) < 2 ^ (64 - p % 64) = shr_lt (64 - p % 64) (p % 64) (rw all wide) in
-            absurd (some (omega (arith, is, short, none, pow_mono {i = 64 - p % 64} {j = 8} (omega arith))))
-      ]
+  -- a word without rows is passed over
+  pub lowest-passed : (w : ℕ) → lowest_row hits (w * 64) ≡ w * 64 → get_or hits w 0 ≡ 0 → lowest_row hits ((w + 1) * 64) ≡ (w + 1) * 64
+  lowest-passed w e none =
+      let next : w * 64 + 64 ≡ (w + 1) * 64 = omega arith in
+      rw next at (lowest-run w 64 (le_refl 64) e (λ j l. ap (λ (x : ℕ). digit x j) none ∙ digit-zero j))
 
-  pub lowest-here : (p rest : ℕ) → rest ≡ get_or hits (p / 64) 0 / 2 ^ (p % 64) → row_bit hits p 0 ≡ rest % 2
-  unfolding row_bit digit
-  lowest-here p rest is = let word : 8 * 0 + p / 64 ≡ p / 64 = omega arith in
-      ap (λ (w : ℕ). get_or hits w 0 / 2 ^ (p % 64) % 2) word ∙ ap (λ (x : ℕ). x % 2) (sym is)
+  -- the lowest 1 of a word is the lowest row
+  pub lowest-found : (N w : ℕ) → lowest_row hits (w * 64) ≡ w * 64 → 0 < get_or hits w 0 → get_or hits w 0 < 2 ^ 64
+      → lowest_row hits N ≡ min N (w * 64 + trailing_zeros w64 (get_or hits w 0))
+  unfolding lowest_row row_bit digit
+  lowest-found N w e some wide = go (bit_at-trailing_zeros w64 (get_or hits w 0) some wide)
+    where
+      place : ℕ
+      place = trailing_zeros w64 (get_or hits w 0)
+
+      go : (place < 64) × (digit (get_or hits w 0) place ≡ 1) × ((j : ℕ) → j < place → digit (get_or hits w 0) j ≡ 0)
+          → lowest_row hits N ≡ min N (w * 64 + place)
+      go (inside, one, none) =
+          let before = lowest-run w place (omega arith) e none in
+          let word : 8 * 0 + (w * 64 + place) / 64 ≡ w = omega arith in
+          let digit_of : (w * 64 + place) % 64 ≡ place = omega arith in
+          elim (dec_le N (w * 64 + place)) [
+            | yes past ↦ first-all N _ (λ q l. first-all-each (w * 64 + place) _ before q (omega arith)) ∙ sym (min-eq_left past)
+            | no found ↦
+                first-at N _ (w * 64 + place) (omega arith) (first-all-each (w * 64 + place) _ before)
+                (ap not (eq-eqb _ 1 (ap₂ (λ (v k : ℕ). digit (get_or hits v 0) k) word digit_of ∙ one)))
+                ∙ sym (min-eq_right (omega arith))
+          ]
 
   pub lowest-past : (N p : ℕ) → N ≤ p → lowest_row hits p ≡ p → lowest_row hits N ≡ N
   unfolding lowest_row
@@ -228,8 +230,8 @@ module _ (p : ℕ) (inside : p < 512) (hits columns : List ℕ) (i : ℕ) (left 
       (λ q l. sym (ap (λ (x : ℕ). bit_xor (row_bit left q i) (row_bit hits q 0 * x)) none ∙ ap (bit_xor (row_bit left q i)) (mul-zero _) ∙ xor_zero_r _))
       (λ q e l apart. refl)
 
-pub spread-last : (N p : ℕ) (hits columns : List ℕ) (i : ℕ) (left : List ℕ) → SpreadSoFar p hits columns i left → i ≡ N → Spread N p hits columns left
-spread-last N p hits columns i left so_far last = record { bits = λ q e l k. so_far.passed q e l (rw last k) }
+pub spread-whole : (N p : ℕ) (hits columns left : List ℕ) → SpreadSoFar p hits columns N left → Spread N p hits columns left
+spread-whole N p hits columns left all = record { bits = all.passed }
 
 -- ---- rows that are no longer live
 

@@ -9,16 +9,15 @@
 --   PlanAccepted plan r              what a caller learns from a plan's check that accepts (wiring Plans)
 -- Laws are named by their subject, then by the fact: `residues-` is about the masks, `uses-` about the digits in use, `eliminated-` about
 -- the checks of a side in turn, `side-` and `solved-` about those of a plan, `plan-` about an accepted plan.
-use Prim.Native.Nat.{ℕ, ◌+◌, ◌-◌, ◌*◌, ◌/◌, ◌%◌, ◌^◌, ◌≤◌, ◌<◌, min}
+use Prim.Native.Nat.{ℕ, ◌+◌, ◌-◌, ◌*◌, ◌^◌, ◌≤◌, ◌<◌}
 use mathlib.Core.List.{List, []}
 use mathlib.Core.Path.{◌≡◌, refl, sym, ap, ap₂, ◌∙◌}
-use native.Mathlib.Nat.{add-zero, zero-add, add_assoc, min-eq_left, ne_of_lt}
+use native.Mathlib.Nat.{add-zero, zero-add, add_assoc, min-eq_left}
 use native.Mathlib.Decide.{ℕ_discrete}
 use native.Mathlib.Omega.{arith}
-use lib.Bits.{bit_or, or_add_and, and_le_l, and_le_r, or_shr, or_mod}
-use lib.ListN.{length, get_or, set, replicate}
-use lib.Seq.{get_or-set_same, get_or-set_other}
-use borrow.Author.Count.{below_more}
+use lib.Bits.{bit_or}
+use Rattle.std.proofs.lemmas.Nat.Bits.{bit_at_or}
+use lib.ListN.{get_or, replicate}
 use Rattle.bits.specs.Window.{at}
 use Rattle.bits.specs.Bit.{digit}
 use Rattle.inner_code.specs.Reply.{done}
@@ -41,22 +40,7 @@ use Rattle.messages.proofs.Pivots.{check-value}
 
 -- ---- the masks
 
-module _ (basis : List ℕ) (k d : ℕ) where
-  -- one more entry: `word` is the word whose one digit is at edge i
-  pub residues-one-more : (i word left : ℕ) (residues : List ℕ)
-      → ((q : ℕ) → q < i → get_or residues q 0 ≡ reduced_by (at basis) (min k 11) (2 ^ (d - 1 - q)))
-      → i < length residues → word ≡ 2 ^ (d - 1 - i) → left ≡ reduced_by (at basis) (min k 11) word
-      → (q : ℕ) → q < i + 1 → get_or (set residues i left) q 0 ≡ reduced_by (at basis) (min k 11) (2 ^ (d - 1 - q))
-  residues-one-more i word left residues before inside unit e =
-      below_more (λ (q : ℕ). get_or (set residues i left) q 0 ≡ reduced_by (at basis) (min k 11) (2 ^ (d - 1 - q))) i
-      (λ q l. get_or-set_other residues i q left 0 (ne_of_lt l) ∙ before q l)
-      (get_or-set_same residues i left 0 inside ∙ e ∙ ap (reduced_by (at basis) (min k 11)) unit)
-
-  pub residues-last : (i : ℕ) (residues : List ℕ)
-      → ((q : ℕ) → q < i → get_or residues q 0 ≡ reduced_by (at basis) (min k 11) (2 ^ (d - 1 - q))) → i ≡ d → UnitResidues basis k d residues
-  residues-last i residues all last = record { each = λ q l. all q (rw last l) }
-
--- the same by the rows of the sheet
+-- the masks by the rows of the sheet
 residues-masks : (row : ℕ → ℕ) (basis : List ℕ) (k d : ℕ) (residues : List ℕ) → UnitResidues basis k d residues
     → basis ≡ with_echelon row k (replicate 11 0) → k ≤ 11 → (i : ℕ) → i < d → get_or residues i 0 ≡ reduced row k (2 ^ (d - 1 - i))
 residues-masks row basis k d residues units stored few i l =
@@ -66,25 +50,19 @@ residues-masks row basis k d residues units stored few i l =
 
 -- ---- the digits in use
 
-or-none : (a b : ℕ) → bit_or a b ≡ 0 → (a ≡ 0) × (b ≡ 0)
-or-none a b e = (omega (arith, or_add_and a b, and_le_r a b), omega (arith, or_add_and a b, and_le_l a b))
-
-or-digit : (a b j : ℕ) → digit (bit_or a b) j ≡ bit_or (digit a j) (digit b j)
-unfolding digit
-or-digit a b j = ap (λ (x : ℕ). x % 2) (or_shr a b j) ∙ or_mod (a / 2 ^ j) (b / 2 ^ j) 1
-
 pub uses-zero : (residues : List ℕ) → Uses 0 residues 0
 uses-zero residues = record { none = λ i j l e. absurd (omega arith) }
 
 pub uses-one-more : (i : ℕ) (residues : List ℕ) (used : ℕ) → Uses i residues used → Uses (i + 1) residues (bit_or used (get_or residues i 0))
+unfolding digit
 uses-one-more i residues used so_far = record { none = go }
   where
     go : (q j : ℕ) → q < i + 1 → digit (bit_or used (get_or residues i 0)) j ≡ 0 → digit (get_or residues q 0) j ≡ 0
     go q j l e =
-        let (before, here) = or-none (digit used j) (digit (get_or residues i 0) j) (sym (or-digit used (get_or residues i 0) j) ∙ e) in
+        let either = bit_at_or used (get_or residues i 0) j in
         elim (ℕ_discrete q i) [
-          | yes at_i ↦ rw at_i here
-          | no earlier ↦ so_far.none q j (omega arith) before
+          | yes at_i ↦ rw at_i (omega (arith, either, e))
+          | no earlier ↦ so_far.none q j (omega arith) (omega (arith, either, e))
         ]
 
 -- ---- the checks of a side in turn

@@ -78,19 +78,14 @@ module _ (from : List ℕ) (first at : ℕ) where
 
 -- ---- a column put on a column
 
-column-written : (from : List ℕ) (a : ℕ) (to : List ℕ) (b : ℕ) → 8 * b + 8 ≤ length to → ColumnPut from a to b (words_put from (8 * a) (8 * b) 8 to)
+pub column-written : (from : List ℕ) (a : ℕ) (to : List ℕ) (b : ℕ) → 8 * b + 8 ≤ length to
+    → ColumnPut from a to b (words_put from (8 * a) (8 * b) 8 to)
 unfolding row_bit
 column-written from a to b fits =
     record {
       put = λ p l. ap (λ (x : ℕ). digit x (p % 64)) (words_put-inside from (8 * a) (8 * b) 8 to fits (p / 64) (omega arith)) ∙ xor-digit _ _ (p % 64);
       others = λ p e l apart. ap (λ (x : ℕ). digit x (p % 64)) (words_put-outside from (8 * a) (8 * b) 8 to _ (λ w k q. apart (omega arith)));
     }
-
--- the end of a loop over the words of a column
-pub column-last : (from : List ℕ) (a : ℕ) (to : List ℕ) (b w : ℕ) (left : List ℕ) → 8 * b + 8 ≤ length to
-    → left ≡ words_put from (8 * a) (8 * b) w to → w ≡ 8 → ColumnPut from a to b left
-column-last from a to b w left fits e last =
-    rw (e ∙ ap (λ (v : ℕ). words_put from (8 * a) (8 * b) v to) last) (column-written from a to b fits)
 
 -- ---- lists of zeros
 
@@ -158,6 +153,6 @@ module _ (p : ℕ) (columns : List ℕ) (inside : p < 512) (u : Units p columns)
         clear = λ i l. get_or-set_other columns (8 * p + p / 64) i word 0 (λ z. omega arith) ∙ u.clear i (omega arith);
       }
 
-pub units-stored : (N p : ℕ) (columns : List ℕ) → Units p columns → p ≡ N → Stores N (start N) columns
+pub units-stored : (N : ℕ) (columns : List ℕ) → Units N columns → Stores N (start N) columns
 unfolding start
-units-stored N p columns u last = record { bits = λ q e l k. u.units q e l (rw last k) }
+units-stored N columns u = record { bits = u.units }

@@ -59,9 +59,6 @@ module _ (chosen columns l : List ℕ) where
             wrote ∙ ap₂ (λ (r : List ℕ) (y : ℕ). with_bit r e y) (so_far.is x (λ i k. same i (omega arith))) bit ∙ sym (bits_put-one-more x e l);
       }
 
-  pub put_last : (N e : ℕ) (output : List ℕ) → BitsPut e chosen columns l output → e ≡ N → BitsPut N chosen columns l output
-  put_last N e output so_far last = rw last at so_far
-
 put_written : (x m : ℕ) (front l : List ℕ) → m ≤ length front * 8 → bits_put x m (written front l) ≡ written (bits_put x m front) l
 unfolding bits_put
 put_written x zero front l fits = refl

@@ -6,8 +6,14 @@ ghost use Rattle.messages.specs.Columns.{row_bit, no_columns, ColumnPut, Stores,
 // The most edges of a plan whose messages are encoded and read, and so the most rows.
 pub(crate) const MAX_EDGES: usize = 512;
 
-// The words of the columns of so many rows, eight a column.
-pub(crate) const COLUMN_WORDS: usize = 8 * MAX_EDGES;
+// The bits of a word.
+pub(crate) const WORD_BITS: usize = 64;
+
+// The words of a set of rows, and so of a column.
+pub(crate) const SET_WORDS: usize = MAX_EDGES / WORD_BITS;
+
+// The words of the columns of so many rows.
+pub(crate) const COLUMN_WORDS: usize = SET_WORDS * MAX_EDGES;
 
 // Bit e of row p.
 pub(crate) fn row_bit(columns: &[u64], p: usize, e: usize) -> u64
@@ -15,7 +21,7 @@ pub(crate) fn row_bit(columns: &[u64], p: usize, e: usize) -> u64
     requires e_in_bounds { 8 * e + 8 ≤ length columns.now }
     ensures { result ≡ row_bit columns.now p e }
 {
-    (columns[8 * e + p / 64] >> (p % 64)) % 2
+    (columns[SET_WORDS * e + p / WORD_BITS] >> (p % WORD_BITS)) % 2
 }
 
 // Puts column a of `from` on column b of `to`.
@@ -24,10 +30,8 @@ pub(crate) fn add_column(from: &[u64], a: usize, to: &mut [u64], b: usize)
     requires b_in_bounds { 8 * b + 8 ≤ length to.old }
     ensures { ColumnPut from.now a to.old b to.new }
 {
-    let mut w: usize = 0;
-    while w < 8 {
-        to[8 * b + w] = to[8 * b + w] ^ from[8 * a + w];
-        w += 1;
+    for w in 0..SET_WORDS {
+        to[SET_WORDS * b + w] ^= from[SET_WORDS * a + w];
     }
 }
 
@@ -37,10 +41,8 @@ pub(crate) fn unit_columns(edges: usize, columns: &mut [u64])
     requires columns_value { columns.old ≡ no_columns }
     ensures { Stores edges (start edges) columns.new }
 {
-    let mut p: usize = 0;
-    while p < edges {
-        columns[8 * p + p / 64] = 1u64 << (p % 64);
-        p += 1;
+    for p in 0..edges {
+        columns[SET_WORDS * p + p / WORD_BITS] = 1 << (p % WORD_BITS);
     }
 }
 
@@ -50,11 +52,9 @@ pub(crate) fn count_live(edges: usize, columns: &[u64]) -> usize
     requires columns_len { length columns.now ≡ 4096 }
     ensures { result ≡ live_before columns.now edges }
 {
-    let mut live: usize = 0;
-    let mut p: usize = 0;
-    while p < edges {
+    let mut live = 0;
+    for p in 0..edges {
         live += row_bit(columns, p, p) as usize;
-        p += 1;
     }
     live
 }

@@ -5,7 +5,7 @@ ghost use Rattle.messages.specs.Answer.{encode_reply, encode_answer, encode_outp
 ghost use Rattle.messages.specs.Columns.{no_rows, Chosen, column_parity, BitsPut};
 ghost use Rattle.messages.specs.Service.{EncodedRows};
 
-use crate::columns::{COLUMN_WORDS, MAX_EDGES, count_live, row_bit};
+use crate::columns::{COLUMN_WORDS, MAX_EDGES, SET_WORDS, WORD_BITS, count_live, row_bit};
 use crate::output::clear;
 use crate::solver::solve;
 use inner_code::{Refusal, refusal};
@@ -89,14 +89,12 @@ fn choose(edges: usize, columns: &[u64], message: &[u8], chosen: &mut [u64])
     requires chosen_value { chosen.old ≡ no_rows }
     ensures { Chosen edges columns.now message.now chosen.new }
 {
-    let mut rank: usize = 0;
-    let mut p: usize = 0;
-    while p < edges {
+    let mut rank = 0;
+    for p in 0..edges {
         let live = row_bit(columns, p, p);
         let bit = live * bits::bit(message, rank);
-        chosen[p / 64] = chosen[p / 64] ^ (bit << (p % 64));
+        chosen[p / WORD_BITS] ^= bit << (p % WORD_BITS);
         rank += live as usize;
-        p += 1;
     }
 }
 
@@ -107,10 +105,8 @@ fn put_bits(edges: usize, columns: &[u64], chosen: &[u64], output: &mut [u8])
     requires chosen_len { length chosen.now ≡ 8 }
     ensures { BitsPut edges chosen.now columns.now output.old output.new }
 {
-    let mut e: usize = 0;
-    while e < edges {
+    for e in 0..edges {
         bits::put_bit(output, e, parity_of(columns, chosen, e));
-        e += 1;
     }
 }
 
@@ -121,11 +117,9 @@ fn parity_of(columns: &[u64], chosen: &[u64], e: usize) -> u64
     requires chosen_len { length chosen.now ≡ 8 }
     ensures { result ≡ column_parity chosen.now columns.now e }
 {
-    let mut common: u64 = 0;
-    let mut w: usize = 0;
-    while w < 8 {
-        common = common ^ (chosen[w] & columns[8 * e + w]);
-        w += 1;
+    let mut common = 0u64;
+    for w in 0..SET_WORDS {
+        common ^= chosen[w] & columns[SET_WORDS * e + w];
     }
-    (u64::count_ones(common) % 2) as u64
+    u64::from(common.count_ones() % 2)
 }

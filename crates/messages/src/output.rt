@@ -7,9 +7,5 @@ pub(crate) fn clear(count: usize, output: &mut [u8])
     requires { count ≤ length output.old }
     ensures { output.new ≡ written (replicate count 0) output.old }
 {
-    let mut i: usize = 0;
-    while i < count {
-        output[i] = 0;
-        i += 1;
-    }
+    output[..count].fill(0);
 }

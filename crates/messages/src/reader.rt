@@ -87,13 +87,11 @@ fn take_bits(edges: usize, columns: &[u64], block: &[u8], output: &mut [u8])
     requires columns_len { length columns.now ≡ 4096 }
     ensures { output.new ≡ bits_taken columns.now block.now edges output.old }
 {
-    let mut rank: usize = 0;
-    let mut p: usize = 0;
-    while p < edges {
+    let mut rank = 0;
+    for p in 0..edges {
         if row_bit(columns, p, p) == 1 {
             bits::put_bit(output, rank, bits::bit(block, p));
             rank += 1;
         }
-        p += 1;
     }
 }

@@ -3,7 +3,7 @@ ghost use Rattle.std.specs.Prelude.{◌≡◌, ◌+◌, ◌*◌, ◌<◌, ◌≤
 ghost use Rattle.wiring.specs.Checking.{Fitted, Permuted, Wired};
 ghost use Rattle.messages.specs.Columns.{no_columns, no_rows, UnitResidues, Uses, Within, FailSet, lowest_row, Spread, CheckMade, Eliminated, Solved};
 
-use crate::columns::{add_column, row_bit, unit_columns};
+use crate::columns::{SET_WORDS, WORD_BITS, add_column, row_bit, unit_columns};
 use wiring::{SideCode, SideName};
 
 // One check: a digit of what the reduction leaves at a vertex, of which `base` is the first entry on its side.
@@ -36,19 +36,16 @@ fn eliminate(side: SideName, code: SideCode, edges: usize, wiring: &[u8], column
     requires columns_len { length columns.old ≡ 4096 }
     ensures { Eliminated edges side code wiring.now edges columns.old columns.new }
 {
-    let basis = code.basis;
     let mut residues = [0u16; 16];
-    unit_residues(&basis, code.k, code.d, &mut residues[..]);
-    let used = used_digits(&residues[..], code.d);
-    let mut m: usize = 0;
-    while m < edges {
+    unit_residues(&code.basis, code.k, code.d, &mut residues);
+    let used = used_digits(&residues, code.d);
+    for m in 0..edges {
         let digit = m % code.d;
         if (used >> digit) % 2 == 1 {
             let base = m / code.d * code.d;
             let check = Check { side, base, digit };
-            put_check(check, edges, &residues[..], code.d, wiring, columns);
+            put_check(check, edges, &residues, code.d, wiring, columns);
         }
-        m += 1;
     }
 }
 
@@ -58,10 +55,8 @@ fn unit_residues(basis: &[u16; 11], k: usize, d: usize, residues: &mut [u16])
     requires residues_len { length residues.old ≡ 16 }
     ensures { UnitResidues basis.now k d residues.new }
 {
-    let mut i: usize = 0;
-    while i < d {
-        residues[i] = inner_code::residue(basis, k, 1u16 << (d - 1 - i));
-        i += 1;
+    for i in 0..d {
+        residues[i] = inner_code::residue(basis, k, 1 << (d - 1 - i));
     }
 }
 
@@ -71,11 +66,9 @@ fn used_digits(residues: &[u16], d: usize) -> u16
     requires residues_len { length residues.now ≡ 16 }
     ensures { Uses d residues.now result }
 {
-    let mut used: u16 = 0;
-    let mut i: usize = 0;
-    while i < d {
-        used = used | residues[i];
-        i += 1;
+    let mut used = 0;
+    for i in 0..d {
+        used |= residues[i];
     }
     used
 }
@@ -95,11 +88,11 @@ fn put_check(
     requires columns_len { length columns.old ≡ 4096 }
     ensures { CheckMade edges d check wiring.now residues.now columns.old columns.new }
 {
-    let mut hits = [0u64; 8];
-    find_hits(check, residues, d, wiring, columns, &mut hits[..]);
-    let pivot = lowest(edges, &hits[..]);
+    let mut hits = [0u64; SET_WORDS];
+    find_hits(check, residues, d, wiring, columns, &mut hits);
+    let pivot = lowest(edges, &hits);
     if pivot < edges {
-        spread(edges, pivot, &hits[..], columns);
+        spread(edges, pivot, &hits, columns);
     }
 }
 
@@ -118,38 +111,23 @@ fn find_hits(
     requires hits_value { hits.old ≡ no_rows }
     ensures { FailSet d check wiring.now residues.now columns.now hits.new }
 {
-    let side = check.side;
-    let base = check.base;
-    let digit = check.digit;
-    let mut i: usize = 0;
-    while i < d {
+    let Check { side, base, digit } = check;
+    for i in 0..d {
         if (residues[i] >> digit) % 2 == 1 {
             add_column(columns, wiring::bit_of(side, wiring, base + i), hits, 0);
         }
-        i += 1;
     }
 }
 
-// The lowest row in a set, `edges` where none below it is. Words and bytes with no row in them are passed over whole.
+// The lowest row in a set, `edges` where none below it is.
 fn lowest(edges: usize, hits: &[u64]) -> usize
     requires edges_bound { edges ≤ 512 }
     requires hits_len { length hits.now ≡ 8 }
     ensures { result ≡ lowest_row hits.now edges }
 {
-    let mut p: usize = 0;
-    while p < edges {
-        let rest = hits[p / 64] >> (p % 64);
-        if rest == 0 {
-            p = (p / 64 + 1) * 64;
-        } else {
-            if rest % 256 == 0 {
-                p += 8;
-            } else {
-                if rest % 2 == 1 {
-                    return p;
-                }
-                p += 1;
-            }
+    for (w, word) in hits.iter().enumerate() {
+        if *word != 0 {
+            return edges.min(w * WORD_BITS + word.trailing_zeros() as usize);
         }
     }
     edges
@@ -163,11 +141,9 @@ fn spread(edges: usize, p: usize, hits: &[u64], columns: &mut [u64])
     requires columns_len { length columns.old ≡ 4096 }
     ensures { Spread edges p hits.now columns.old columns.new }
 {
-    let mut e: usize = 0;
-    while e < edges {
+    for e in 0..edges {
         if row_bit(columns, p, e) == 1 {
             add_column(hits, 0, columns, e);
         }
-        e += 1;
     }
 }

@@ -1,27 +1,22 @@
 -- `messages::count_live` meets its contract: after p turns the rows left below p are counted.
-use borrow.Author.Rules.{rules}
-use mathlib.Core.Path.{◌≡◌, sym, ap, ◌∙◌}
-use Prim.Native.Nat.{◌<◌}
-use native.Mathlib.Omega.{arith}
-use Rattle.messages.specs.Columns.{live_before}
+use Rattle.std.proofs.Common.{◌≡◌, sym, ◌<◌, arith}
 use Rattle.messages.proofs.StoredRows.{row_bit-lt}
 use Rattle.messages.proofs.LiveRows.{live-none, live-one-more, live-le}
 use Rattle.messages.proofs.columns.count_live.Goals as goal
 
 pub loop-p-init : goal.loop-p-init
-loop-p-init c = (search rules, sym (live-none _))
+loop-p-init c = sym (live-none _)
 
 pub overflow_add-live : goal.overflow_add-live
 overflow_add-live c =
     let before = c.loop-p in
     let small : c.row_bit.result < 2 = rw c.row_bit.ensures (row_bit-lt _ _ _) in
-    omega (arith, before.invariant.1, live-le c.args.columns.now before.p)
+    omega (arith, before.invariant, live-le c.args.columns.now before.p)
 
 pub loop-p-preserved : goal.loop-p-preserved
-loop-p-preserved c = (search rules, live-one-more _ _ _ _ c.loop-p.invariant.1 c.row_bit.ensures)
+loop-p-preserved c = live-one-more _ _ _ _ c.loop-p.invariant c.row_bit.ensures
 
 pub returns : goal.returns
 returns c =
-    let args = c.args in
-    let end : c.loop-p.p ≡ args.edges = omega arith in
-    c.loop-p.invariant.1 ∙ ap (live_before args.columns.now) end
+    let end : c.loop-p.p ≡ c.args.edges = omega arith in
+    rw end at c.loop-p.invariant

@@ -1,21 +1,16 @@
 -- `messages::take_bits` meets its contract: after p turns the bits at the rows left below p are put, and `rank` counts them.
-use borrow.Author.Rules.{rules}
-use mathlib.Core.Path.{◌≡◌, refl, sym, ap, ◌∙◌}
-use Prim.Native.Nat.{ℕ}
-use native.Mathlib.Omega.{arith}
-use lib.ListN.{length}
-use Rattle.messages.specs.Columns.{bits_taken}
+use Rattle.std.proofs.Common.{◌≡◌, sym, ◌∙◌, arith}
 use Rattle.messages.proofs.LiveRows.{live-none, live-le}
 use Rattle.messages.proofs.Written.{taken_none, taken-one-more, taken-kept}
 use Rattle.messages.proofs.reader.take_bits.Goals as goal
 use Rattle.messages.proofs.reader.take_bits.Goals.{else-row_bit-eq1, then-row_bit-eq1}
 
 pub loop-p-init : goal.loop-p-init
-loop-p-init c = (search rules, refl, sym (live-none _), sym (taken_none _ _ _))
+loop-p-init c = record { counted = sym (live-none _); taken = sym (taken_none _ _ _) }
 
 pub overflow_add-rank : goal.overflow_add-rank
 overflow_add-rank c =
-    omega (arith, c.loop-p.invariant.2, live-le c.args.columns.now c.loop-p.p)
+    omega (arith, c.loop-p.invariant.counted, live-le c.args.columns.now c.loop-p.p)
 
 pub loop-p-preserved : goal.loop-p-preserved
 loop-p-preserved c =
@@ -23,21 +18,21 @@ loop-p-preserved c =
     let args = c.args in
     let columns = args.columns.now in
     let block = args.block.now in
+    let so_far = before.invariant in
     let read = c.row_bit.ensures in
     (elim c.if-row_bit-eq1.branch [
       | then-row_bit-eq1 w ↦
           let (counted, taken) =
-          taken-one-more columns block before.p before.rank _ _ before.output before.invariant.2 before.invariant.3 read _ _ w.if-row_bit-eq1.true
+          taken-one-more columns block before.p before.rank _ _ before.output so_far.counted so_far.taken read _ _ w.if-row_bit-eq1.true
           w.bit.ensures w.put_bit.ensures in
-          (omega arith, ap length w.output-is ∙ w.put_bit.auto.bytes ∙ before.invariant.1, w.rank-is ∙ counted, w.output-is ∙ taken)
+          record { counted = w.rank-is ∙ counted; taken = w.output-is ∙ taken }
       | else-row_bit-eq1 w ↦
           let (counted, taken) =
-          taken-kept columns block before.p before.rank _ _ before.output before.invariant.2 before.invariant.3 read w.if-row_bit-eq1.false in
-          (omega arith, ap length w.output-is ∙ before.invariant.1, w.rank-is ∙ counted, w.output-is ∙ taken)
+          taken-kept columns block before.p before.rank _ _ before.output so_far.counted so_far.taken read w.if-row_bit-eq1.false in
+          record { counted = w.rank-is ∙ counted; taken = w.output-is ∙ taken }
     ])
 
 pub returns : goal.returns
 returns c =
-    let args = c.args in
-    let end : c.loop-p.p ≡ args.edges = omega arith in
-    c.loop-p.invariant.3 ∙ ap (λ (j : ℕ). bits_taken args.columns.now args.block.now j args.output.now) end
+    let end : c.loop-p.p ≡ c.args.edges = omega arith in
+    rw end at c.loop-p.invariant.taken

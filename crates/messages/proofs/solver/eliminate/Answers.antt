@@ -1,9 +1,5 @@
 -- `messages::eliminate` meets its contract: after m turns the first m checks of the side are done.
-use borrow.Author.Rules.{rules}
-use mathlib.Core.Path.{◌≡◌, ap, ◌∙◌}
-use native.Mathlib.Nat.{div-add-mod'}
-use native.Mathlib.Omega.{arith}
-use lib.ListN.{length}
+use Rattle.std.proofs.Common.{◌≡◌, div-add-mod', arith}
 use Rattle.bits.specs.Bit.{digit}
 use Rattle.messages.proofs.Pivots.{check-digit-lt, check-within, made-unused}
 use Rattle.messages.proofs.Solving.{eliminated-none, eliminated-one-more}
@@ -11,7 +7,7 @@ use Rattle.messages.proofs.solver.eliminate.Goals as goal
 use Rattle.messages.proofs.solver.eliminate.Goals.{else-used-digit-eq1, then-used-digit-eq1}
 
 pub loop-m-init : goal.loop-m-init
-loop-m-init c = (search rules, search rules, eliminated-none _ _ _)
+loop-m-init c = eliminated-none _ _ _
 
 pub overflow_cast-digit : goal.overflow_cast-digit
 overflow_cast-digit c = omega (arith, check-digit-lt c.requires.fitted c.loop-m.m)
@@ -23,36 +19,24 @@ pub overflow_mul-base : goal.overflow_mul-base
 overflow_mul-base c =
     omega (arith, div-add-mod' c.loop-m.m c.args.code.d)
 
-pub put_check-requires : goal.put_check-requires
-put_check-requires c =
+pub put_check-requires-clause-within : goal.put_check-requires-clause-within
+put_check-requires-clause-within c =
     let pre = c.requires in
-    record {
-      within = check-within pre.fitted pre.d_value pre.permuted _ c.loop-m.m (omega arith) pre.edges_bound;
-      edges_bound = pre.edges_bound;
-      residues_len = c.unit_residues.auto.residues;
-      columns_len = c.loop-m.invariant.1;
-    }
+    check-within pre.fitted pre.d_value pre.permuted _ c.loop-m.m (omega arith) pre.edges_bound
 
 pub loop-m-preserved : goal.loop-m-preserved
 unfolding digit
 loop-m-preserved c =
     let before = c.loop-m in
     let pre = c.requires in
-    let more = eliminated-one-more _ _ _ pre.fitted pre.d_value pre.permuted _ c.unit_residues.ensures before.m (omega arith) _ before.invariant.2 in
+    let more = eliminated-one-more _ _ _ pre.fitted pre.d_value pre.permuted _ c.unit_residues.ensures before.m (omega arith) _ before.invariant in
     (elim c.if-used-digit-eq1.branch [
-      | then-used-digit-eq1 w ↦ (
-        omega arith,
-        ap length w.columns-is ∙ w.put_check.auto.columns ∙ before.invariant.1,
-        rw w.columns-is (more _ w.put_check.ensures),
-      )
-      | else-used-digit-eq1 w ↦ (
-        omega arith,
-        ap length w.columns-is ∙ before.invariant.1,
-        rw w.columns-is (more _ (made-unused _ pre.edges_bound _ _ _ _ _ _ c.used_digits-used.ensures w.if-used-digit-eq1.false)),
-      )
+      | then-used-digit-eq1 w ↦ rw w.columns-is (more _ w.put_check.ensures)
+      | else-used-digit-eq1 w ↦
+          rw w.columns-is (more _ (made-unused _ pre.edges_bound _ _ _ _ _ _ c.used_digits-used.ensures w.if-used-digit-eq1.false))
     ])
 
 pub returns : goal.returns
 returns c =
     let end : c.loop-m.m ≡ c.args.edges = omega arith in
-    rw end at c.loop-m.invariant.2
+    rw end at c.loop-m.invariant

@@ -1,8 +1,5 @@
 -- `messages::find_hits` meets its contract: after i turns the set has the rows that fail the check on the first i edges of the vertex.
-use borrow.Author.Rules.{rules}
-use mathlib.Core.Path.{◌≡◌, sym, ap, ◌∙◌}
-use native.Mathlib.Omega.{arith}
-use lib.ListN.{length}
+use Rattle.std.proofs.Common.{◌≡◌, ap, length, arith}
 use Rattle.bits.specs.Bit.{digit}
 use Rattle.messages.proofs.StoredRows.{length-no_rows}
 use Rattle.messages.proofs.Pivots.{hits-none, hits-put, hits-kept}
@@ -10,47 +7,23 @@ use Rattle.messages.proofs.solver.find_hits.Goals as goal
 use Rattle.messages.proofs.solver.find_hits.Goals.{else-residues-i-eq1, then-residues-i-eq1}
 
 pub loop-i-init : goal.loop-i-init
-loop-i-init c =
-    let empty = c.requires.hits_value in
-    (search rules, ap length empty ∙ length-no_rows, rw empty (hits-none _ _ _ _))
-
-pub overflow_cast-digit : goal.overflow_cast-digit
-overflow_cast-digit c = omega (arith, c.requires.within.digit_lt)
-
-pub overflow_shr-residues : goal.overflow_shr-residues
-overflow_shr-residues c = c.requires.within.digit_lt
-
-pub overflow_add-base : goal.overflow_add-base
-overflow_add-base c = omega (arith, c.requires.within.sized)
-
-pub bit_of-requires : goal.bit_of-requires
-bit_of-requires c = omega (arith, c.requires.within.sized)
+loop-i-init c = rw c.requires.hits_value (hits-none _ _ _ _)
 
 pub add_column-requires : goal.add_column-requires
 add_column-requires c =
-    omega (arith, c.bit_of.ensures, c.requires.within.bit-lt c.loop-i.i (omega arith))
+    omega (arith, c.bit_of.ensures, c.requires.within.bit-lt c.loop-i.i (omega arith), ap length c.requires.hits_value, length-no_rows)
 
 pub loop-i-preserved : goal.loop-i-preserved
 unfolding digit
 loop-i-preserved c =
     let before = c.loop-i in
     (elim c.if-residues-i-eq1.branch [
-      | then-residues-i-eq1 w ↦ (
-        omega arith,
-        ap length w.hits-is ∙ w.add_column.auto.to ∙ before.invariant.1,
-        rw w.hits-is (hits-put _ _ _ _ _ _ before.invariant.2 _ _ w.if-residues-i-eq1.true w.bit_of.ensures w.add_column.ensures),
-      )
-      | else-residues-i-eq1 w ↦ (
-        omega arith,
-        ap length w.hits-is ∙ before.invariant.1,
-        rw w.hits-is (hits-kept _ _ _ _ _ _ before.invariant.2 w.if-residues-i-eq1.false),
-      )
+      | then-residues-i-eq1 w ↦
+          rw w.hits-is (hits-put _ _ _ _ _ _ before.invariant _ _ w.if-residues-i-eq1.true w.bit_of.ensures w.add_column.ensures)
+      | else-residues-i-eq1 w ↦ rw w.hits-is (hits-kept _ _ _ _ _ _ before.invariant w.if-residues-i-eq1.false)
     ])
-
-pub shape_of-hits : goal.shape_of-hits
-shape_of-hits c = c.loop-i.invariant.1 ∙ sym (ap length c.requires.hits_value ∙ length-no_rows)
 
 pub returns : goal.returns
 returns c =
     let end : c.loop-i.i ≡ c.args.d = omega arith in
-    rw end at c.loop-i.invariant.2
+    rw end at c.loop-i.invariant

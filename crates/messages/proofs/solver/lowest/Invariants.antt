@@ -1,10 +1,6 @@
-use mathlib.Core.Path.{◌≡◌}
-use Prim.Native.Nat.{◌-◌, ◌≤◌}
+use Rattle.std.proofs.Common.{◌≡◌, ◌*◌}
 use Rattle.messages.specs.Columns.{lowest_row}
 use Rattle.messages.proofs.solver.lowest.Given as goal
 
-abbrev pub invariant-loop-p : goal.invariant-loop-p
-invariant-loop-p l = (l.p ≤ 512) × (lowest_row l.hits l.p ≡ l.p)
-
-abbrev pub decreases-loop-p : goal.decreases-loop-p
-decreases-loop-p l = l.edges - l.p
+abbrev pub invariant-loop-w : goal.invariant-loop-w
+invariant-loop-w l = lowest_row l.hits (l.w * 64) ≡ l.w * 64

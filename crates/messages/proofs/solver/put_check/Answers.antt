@@ -4,16 +4,9 @@ use Rattle.messages.specs.Columns.{no_rows}
 use Rattle.messages.proofs.Pivots.{made-spread, made_none}
 use Rattle.messages.proofs.solver.put_check.Goals as goal
 
-pub find_hits-requires : goal.find_hits-requires
+pub find_hits-requires-clause-hits_value : goal.find_hits-requires-clause-hits_value
 unfolding no_rows
-find_hits-requires c =
-    let pre = c.requires in
-    record {
-      within = pre.within;
-      residues_len = pre.residues_len;
-      columns_len = pre.columns_len;
-      hits_value = refl;
-    }
+find_hits-requires-clause-hits_value c = refl
 
 pub returns-then-pivot-edges : goal.returns-then-pivot-edges
 returns-then-pivot-edges c =
