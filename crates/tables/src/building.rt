@@ -58,11 +58,20 @@ fn fill_table(sheet: &[u8], basis: &[u16; 11], table: &mut [u8])
     ensures { table.new ≡ table_of sheet.now }
 {
     if table.len() <= 2 * FEW_CLASSES {
-        let mut few = [0u8; FEW_CLASSES];
-        fill(sheet, basis, table, &mut few);
-        return;
+        fill_in::<FEW_CLASSES>(sheet, basis, table);
+    } else {
+        fill_in::<MAX_CLASSES>(sheet, basis, table);
     }
-    let mut costs = [0u8; MAX_CLASSES];
+}
+
+// The same with room of its own for the costs of N classes.
+fn fill_in<const N: usize>(sheet: &[u8], basis: &[u16; 11], table: &mut [u8])
+    requires sized { Sized sheet.now basis.now table.old }
+    requires table_len_bound { length table.old ≤ 2 * N }
+    requires size_bound { N ≤ 32768 }
+    ensures { table.new ≡ table_of sheet.now }
+{
+    let mut costs = [0u8; N];
     fill(sheet, basis, table, &mut costs);
 }
 
@@ -77,8 +86,7 @@ pub fn fill(sheet: &[u8], basis: &[u16; 11], table: &mut [u8], costs: &mut [u8])
     let mask = free_digits(basis, k);
     put_key(table, costs, 0, 0);
     let mut count: usize = 1;
-    let mut b = 0;
-    while b < d {
+    for b in 0..d {
         let digit = 1u16 << b;
         let left = residue(basis, k, digit);
         if left == digit {
@@ -87,7 +95,6 @@ pub fn fill(sheet: &[u8], basis: &[u16; 11], table: &mut [u8], costs: &mut [u8])
         } else {
             fold(table, costs, count, squeeze(mask, left), digit);
         }
-        b += 1;
     }
     mark_ties(table, costs, count);
 }
@@ -100,12 +107,10 @@ fn copy_with(table: &mut [u8], costs: &mut [u8], count: usize, digit: u16)
 {
     let high = (digit / 256) as u8;
     let low = (digit % 256) as u8;
-    let mut c = 0;
-    while c < count {
+    for c in 0..count {
         costs[count + c] = costs[c] + 2;
         table[2 * (count + c)] = table[2 * c] ^ high;
         table[2 * (count + c) + 1] = table[2 * c + 1] ^ low;
-        c += 1;
     }
 }
 
@@ -116,13 +121,11 @@ fn fold(table: &mut [u8], costs: &mut [u8], count: usize, apart: u16, digit: u16
     requires apart_low { (c : ℕ) → c < count → bit_xor c apart < count }
     ensures { Folded count apart digit count table.old costs.old table.new costs.new }
 {
-    let mut c = 0;
-    while c < count {
+    for c in 0..count {
         let other = c ^ apart as usize;
         if c < other {
             fold_pair(table, costs, c, other, digit);
         }
-        c += 1;
     }
 }
 
@@ -166,11 +169,9 @@ fn mark_ties(table: &mut [u8], costs: &[u8], count: usize)
     requires { Room count table.old costs.now }
     ensures { Marked count table.old costs.now table.new }
 {
-    let mut c = 0;
-    while c < count {
+    for c in 0..count {
         table[2 * c] = marked_byte(costs[c], table[2 * c]);
         table[2 * c + 1] = marked_byte(costs[c], table[2 * c + 1]);
-        c += 1;
     }
 }
 

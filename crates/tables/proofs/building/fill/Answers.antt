@@ -62,7 +62,6 @@ put_key-requires c =
 pub loop-b-init : goal.loop-b-init
 loop-b-init c =
     let args = c.args in (
-      search rules,
       c.free_digits-mask.ensures,
       refl,
       refl,
@@ -85,16 +84,16 @@ pub overflow_shl-digit : goal.overflow_shl-digit
 overflow_shl-digit c = b-low c
 
 table_kept : (c : At-loop-b) → length c.loop-b.table ≡ 2 * classes c.before.before.before.before.before.before.before.before.before.before.before.before.before.before.before
-table_kept c = c.loop-b.invariant.2 ∙ c.put_key.ensures.sized ∙ table-size c.before.before.before.before.before.before.before.before.before.before.before.before.before.before.before
+table_kept c = c.loop-b.invariant.1 ∙ c.put_key.ensures.sized ∙ table-size c.before.before.before.before.before.before.before.before.before.before.before.before.before.before.before
 
 costs-kept : (c : At-loop-b) → classes c.before.before.before.before.before.before.before.before.before.before.before.before.before.before.before ≤ length c.loop-b.costs
-costs-kept c = omega (arith, c.loop-b.invariant.3, c.put_key.ensures.costed, costs-size c.before.before.before.before.before.before.before.before.before.before.before.before.before.before.before)
+costs-kept c = omega (arith, c.loop-b.invariant.2, c.put_key.ensures.costed, costs-size c.before.before.before.before.before.before.before.before.before.before.before.before.before.before.before)
 
 count-le : (c : At-loop-b) → c.loop-b.count ≤ classes c.before.before.before.before.before.before.before.before.before.before.before.before.before.before.before
 unfolding classes
 count-le c =
     let sheet = c.args.sheet.now in
-    omega (arith, c.loop-b.invariant.4.counted, classes-le sheet (fine c.before.before.before.before.before.before.before.before.before.before.before.before.before.before.before) c.loop-b.b (omega (arith, degree-byte sheet)))
+    omega (arith, c.loop-b.invariant.3.counted, classes-le sheet (fine c.before.before.before.before.before.before.before.before.before.before.before.before.before.before.before) c.loop-b.b (omega (arith, degree-byte sheet)))
 
 few-classes : (c : At-loop-b) → classes c.before.before.before.before.before.before.before.before.before.before.before.before.before.before.before ≤ 32768
 unfolding classes
@@ -137,14 +136,14 @@ apart c r e =
     let basis = c.args.basis.now in
     e
     ∙ ap (λ (m : ℕ). squeezed_by m 16 c.residue-left.result)
-    (c.loop-b.invariant.1 ∙ ap (λ (k : ℕ). free_mask (at basis) (min k 11)) (count-byte c.args.sheet.now))
+    (c.loop-b.invariant.0 ∙ ap (λ (k : ℕ). free_mask (at basis) (min k 11)) (count-byte c.args.sheet.now))
     ∙ number_is c.args.sheet.now (fine c.before.before.before.before.before.before.before.before.before.before.before.before.before.before.before.before.before) basis c.requires.sized.echelon (2 ^ c.loop-b.b) c.residue-left.result (left c)
 
 doubled : (c : Then-left-digit) → 2 * c.loop-b.count ≤ classes c.before.before.before.before.before.before.before.before.before.before.before.before.before.before.before.before.before.before
 unfolding classes
 doubled c =
     doubled-room c.args.sheet.now (fine c.before.before.before.before.before.before.before.before.before.before.before.before.before.before.before.before.before.before) c.loop-b.b c.loop-b.count (b_lt (record { before = c.before.before.before; type_inv = record { sheet = c.shared_slice_known-3-1.given } }))
-    c.loop-b.table c.loop-b.costs c.loop-b.invariant.4 (free (record { before = c.before.before; type_inv = record { sheet = c.shared_slice_known-3-1.given } }) c.if-left-digit.true)
+    c.loop-b.table c.loop-b.costs c.loop-b.invariant.3 (free (record { before = c.before.before; type_inv = record { sheet = c.shared_slice_known-3-1.given } }) c.if-left-digit.true)
 
 pub copy_with-requires : goal.copy_with-requires
 copy_with-requires c =
@@ -155,7 +154,7 @@ copy_with-requires c =
         few = omega (arith, room, few-classes (goal.at.copy_with-requires c).At-loop-b);
       };
       costs_low = filled-small c.args.sheet.now (fine (goal.at.copy_with-requires c).Start) c.loop-b.b c.loop-b.count (b_lt (goal.at.copy_with-requires c).In-loop-b)
-          c.loop-b.table c.loop-b.costs c.loop-b.invariant.4;
+          c.loop-b.table c.loop-b.costs c.loop-b.invariant.3;
     }
 
 pub overflow_mul-count : goal.overflow_mul-count
@@ -170,33 +169,29 @@ fold-requires c =
         few = omega (arith, count-le (goal.at.fold-requires c).At-loop-b, few-classes (goal.at.fold-requires c).At-loop-b);
       };
       apart_low = folded-apart c.args.sheet.now (fine (goal.at.fold-requires c).Start) c.loop-b.b c.loop-b.count (b_lt (goal.at.fold-requires c).In-loop-b)
-          c.loop-b.table c.loop-b.costs c.loop-b.invariant.4
+          c.loop-b.table c.loop-b.costs c.loop-b.invariant.3
           (taken (goal.at.fold-requires c).After-residue-left c.if-left-digit.false) _ (apart (goal.at.fold-requires c).After-residue-left _ c.squeeze.ensures);
     }
-
-pub overflow_add-b : goal.overflow_add-b
-overflow_add-b c = omega (arith, b-low (goal.at.overflow_add-b c).In-loop-b)
 
 pub loop-b-preserved : goal.loop-b-preserved
 loop-b-preserved c =
     let sheet = c.args.sheet.now in (
-      omega arith,
-      c.loop-b.invariant.1,
+      c.loop-b.invariant.0,
       (elim c.if-left-digit.branch [
-        | then-left-digit w ↦ ap length w.table-is ∙ w.copy_with.ensures.sized ∙ c.loop-b.invariant.2
-        | else-left-digit w ↦ ap length w.table-is ∙ w.fold.ensures.sized ∙ c.loop-b.invariant.2
+        | then-left-digit w ↦ ap length w.table-is ∙ w.copy_with.ensures.sized ∙ c.loop-b.invariant.1
+        | else-left-digit w ↦ ap length w.table-is ∙ w.fold.ensures.sized ∙ c.loop-b.invariant.1
       ]),
       (elim c.if-left-digit.branch [
-        | then-left-digit w ↦ ap length w.costs-is ∙ w.copy_with.ensures.costed ∙ c.loop-b.invariant.3
-        | else-left-digit w ↦ ap length w.costs-is ∙ w.fold.ensures.costed ∙ c.loop-b.invariant.3
+        | then-left-digit w ↦ ap length w.costs-is ∙ w.copy_with.ensures.costed ∙ c.loop-b.invariant.2
+        | else-left-digit w ↦ ap length w.costs-is ∙ w.fold.ensures.costed ∙ c.loop-b.invariant.2
       ]),
       (elim c.if-left-digit.branch [
         | then-left-digit w ↦ filled-same sheet (fine (goal.at.loop-b-preserved c).Start) _ _ _ _ _ _ w.count-is w.table-is w.costs-is
             (filled-copied sheet (fine (goal.at.loop-b-preserved c).Start) c.loop-b.b c.loop-b.count (b_lt (goal.at.loop-b-preserved c).In-loop-b) c.loop-b.table c.loop-b.costs
-            c.loop-b.invariant.4 (free (goal.at.loop-b-preserved c).After-residue-left w.if-left-digit.true) _ _ _ (digit-is (goal.at.loop-b-preserved c).In-loop-b) c.loop-b.invariant.5 w.copy_with.ensures)
+            c.loop-b.invariant.3 (free (goal.at.loop-b-preserved c).After-residue-left w.if-left-digit.true) _ _ _ (digit-is (goal.at.loop-b-preserved c).In-loop-b) c.loop-b.invariant.4 w.copy_with.ensures)
         | else-left-digit w ↦ filled-same sheet (fine (goal.at.loop-b-preserved c).Start) _ _ _ _ _ _ w.count-is w.table-is w.costs-is
             (filled-folded sheet (fine (goal.at.loop-b-preserved c).Start) c.loop-b.b c.loop-b.count (b_lt (goal.at.loop-b-preserved c).In-loop-b) c.loop-b.table c.loop-b.costs
-            c.loop-b.invariant.4 (taken (goal.at.loop-b-preserved c).After-residue-left w.if-left-digit.false) _ (apart (goal.at.loop-b-preserved c).After-residue-left _ w.squeeze.ensures) _ _ _
+            c.loop-b.invariant.3 (taken (goal.at.loop-b-preserved c).After-residue-left w.if-left-digit.false) _ (apart (goal.at.loop-b-preserved c).After-residue-left _ w.squeeze.ensures) _ _ _
             (digit-is (goal.at.loop-b-preserved c).In-loop-b) w.fold.ensures)
       ]),
       (elim c.if-left-digit.branch [
@@ -218,6 +213,6 @@ returns c =
     let sheet = c.args.sheet.now in
     let end : c.loop-b.b ≡ get_or sheet 0 0 = omega arith in
     filled-table sheet (fine (goal.at.returns c).Start) c.loop-b.count c.loop-b.table c.loop-b.costs _
-    (subst (λ (b : ℕ). Filled sheet b c.loop-b.count c.loop-b.table c.loop-b.costs) (end ∙ degree-byte sheet) c.loop-b.invariant.4)
-    c.mark_ties.ensures c.loop-b.invariant.5 (λ i. (c.type_inv.table i).fits)
+    (subst (λ (b : ℕ). Filled sheet b c.loop-b.count c.loop-b.table c.loop-b.costs) (end ∙ degree-byte sheet) c.loop-b.invariant.3)
+    c.mark_ties.ensures c.loop-b.invariant.4 (λ i. (c.type_inv.table i).fits)
     (c.mark_ties.ensures.sized ∙ table_kept (goal.at.returns c).At-loop-b ∙ sym (table-size (goal.at.returns c).Start) ∙ c.requires.sized.sized)

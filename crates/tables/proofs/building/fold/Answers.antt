@@ -9,12 +9,12 @@ use Rattle.tables.proofs.building.fold.Goals as goal
 use Rattle.tables.proofs.building.fold.Goals.{else-c-other, then-c-other}
 
 pub loop-c-init : goal.loop-c-init
-loop-c-init c = (search rules, folded_start _ _ _ _ _)
+loop-c-init c = folded_start _ _ _ _ _
 
 pub fold_pair-requires : goal.fold_pair-requires
 fold_pair-requires c =
     let room = c.requires.room in
-    let so = c.loop-c.invariant.1 in
+    let so = c.loop-c.invariant in
     let low = c.requires.apart_low c.loop-c.c (omega arith) in record {
       c_lt_other = search rules;
       room = record {
@@ -27,16 +27,14 @@ fold_pair-requires c =
 pub loop-c-preserved : goal.loop-c-preserved
 loop-c-preserved c =
     let args = c.args in
-    let so = c.loop-c.invariant.1 in
-    let turn = c.loop-c.c in (
-      search rules,
-      (elim c.if-c-other.branch [
+    let so = c.loop-c.invariant in
+    let turn = c.loop-c.c in
+      elim c.if-c-other.branch [
         | then-c-other w ↦ folded-same _ _ _ _ w.table-is w.costs-is
             (folded_both args.count args.apart args.digit _ _ turn _ _ (omega arith) so _ _ w.if-c-other.true w.fold_pair.ensures)
         | else-c-other w ↦ folded-same _ _ _ _ w.table-is w.costs-is
             (folded-passed args.count args.apart args.digit _ _ turn _ _ (omega arith) so w.if-c-other.false)
-      ]),
-    )
+      ]
 
 pub returns : goal.returns
 returns c =
@@ -45,4 +43,4 @@ returns c =
     let end : last.c ≡ args.count = omega arith in
     subst
     (λ (m : ℕ). Folded args.count args.apart args.digit m args.table.now args.costs.now last.table last.costs)
-    end last.invariant.1
+    end last.invariant

@@ -10,26 +10,24 @@ use Rattle.tables.proofs.Keys.{marked_more}
 use Rattle.tables.proofs.building.mark_ties.Goals as goal
 
 pub bounds-table-c-in-loop-c-2 : goal.bounds-table-c-in-loop-c-2
-bounds-table-c-in-loop-c-2 c = simp length-set (omega (arith, c.loop-c.invariant.1.sized))
+bounds-table-c-in-loop-c-2 c = simp length-set (omega (arith, c.loop-c.invariant.sized))
 
 pub bounds-table-c-in-loop-c-3 : goal.bounds-table-c-in-loop-c-3
-bounds-table-c-in-loop-c-3 c = simp length-set (omega (arith, c.loop-c.invariant.1.sized))
+bounds-table-c-in-loop-c-3 c = simp length-set (omega (arith, c.loop-c.invariant.sized))
 
 pub loop-c-preserved : goal.loop-c-preserved
 loop-c-preserved c =
     let args = c.args in
-    let m = c.loop-c.c in (
-      search rules,
-      marked_more m args.table.now args.costs.now c.loop-c.table _ _ c.loop-c.invariant.1 (omega arith)
+    let m = c.loop-c.c in
+    marked_more m args.table.now args.costs.now c.loop-c.table _ _ c.loop-c.invariant (omega arith)
           c.marked_byte.ensures
           (c.marked_byte-in-loop-c.ensures
           ∙ ap (marked_byte (get_or args.costs.now m 0))
-          (get_or-set_other c.loop-c.table (2 * m) (2 * m + 1) _ 0 (λ e. omega (arith, e)))),
-    )
+          (get_or-set_other c.loop-c.table (2 * m) (2 * m + 1) _ 0 (λ e. omega (arith, e))))
 
 pub returns : goal.returns
 returns c =
     let args = c.args in
     let last = c.loop-c in
     let end : last.c ≡ args.count = omega arith in
-    subst (λ (m : ℕ). Marked m args.table.now args.costs.now last.table) end last.invariant.1
+    subst (λ (m : ℕ). Marked m args.table.now args.costs.now last.table) end last.invariant
