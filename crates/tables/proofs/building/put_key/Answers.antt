@@ -1,11 +1,7 @@
 -- `tables::put_key` meets its contract: its three stores are those of the key's parts.
 use native.Mathlib.Omega.{arith}
-use lib.ListN.{length-set}
 use Rattle.tables.proofs.Keys.{puts-key}
 use Rattle.tables.proofs.building.put_key.Goals as goal
-
-pub bounds-table-c-2 : goal.bounds-table-c-2
-bounds-table-c-2 c = simp length-set (omega arith)
 
 pub returns : goal.returns
 returns c =

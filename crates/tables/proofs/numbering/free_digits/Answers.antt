@@ -1,5 +1,5 @@
 -- `tables::free_digits` meets its contract: after i turns the highest digits of the first i rows are taken out.
-use Rattle.std.proofs.Common.{◌≡◌, refl, sym, ap, ap₂, ◌∙◌, min, arith}
+use Rattle.std.proofs.Common.{refl, sym, ap₂, ◌∙◌}
 use lib.Bits.{bit_xor}
 use Rattle.bits.specs.Window.{at}
 use Rattle.tables.specs.Numbering.{free_mask}
@@ -14,9 +14,3 @@ pub loop-i-preserved : goal.loop-i-preserved
 unfolding at
 loop-i-preserved c =
     ap₂ bit_xor c.loop-i.invariant c.top_digit-mask.ensures ∙ sym (mask-one-more (at c.args.basis.now) c.loop-i.i)
-
-pub returns : goal.returns
-returns c =
-    let args = c.args in
-    let last : c.loop-i.i ≡ min args.k 11 = omega arith in
-    c.loop-i.invariant ∙ ap (free_mask (at args.basis.now)) last

