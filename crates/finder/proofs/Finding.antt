@@ -103,6 +103,21 @@ pub placed-length : (start size : ℕ) (part l : List ℕ) → start + size ≤ 
     → length (take start l ++ (part ++ drop size (drop start l))) ≡ length l
 placed-length start size part l room kept = (placed-back start size part l room kept).sized
 
+-- a part of a finder that is lent as a slice of its own and comes back with as many numbers
+abbrev pub put_back : ℕ → ℕ → List ℕ → List ℕ → List ℕ
+put_back start size part l = take start l ++ (part ++ drop size (drop start l))
+
+pub back-sized : (start size : ℕ) (part l : List ℕ) → start + size ≤ 4640 → length part ≡ length (take size (drop start l)) → length l ≡ 4640
+    → length (put_back start size part l) ≡ 4640
+back-sized start size part l room kept size_is =
+    placed-length start size part l (omega arith) (kept ∙ part-sized start size l (omega arith)) ∙ size_is
+
+pub back-is : (start size : ℕ) (part l m : List ℕ) (f : List ℕ → List ℕ) → part ≡ f (take size (drop start l)) → l ≡ m
+    → put_back start size part l ≡ with_part start size f m
+unfolding with_part
+back-is start size part l m f filled_by same =
+    ap (λ (p : List ℕ). put_back start size p l) filled_by ∙ ap (λ (n : List ℕ). put_back start size (f (take size (drop start n))) n) same
+
 -- the high half of a word has as many digits as the word has above eight
 half_lt : (d w : ℕ) → w < 2 ^ d → w / 256 < 2 ^ (d - 8)
 half_lt d w h =
