@@ -12,20 +12,11 @@ single_pattern-single-requires c = finds-formed c.requires.finds
 pub numbers_pay-requires : goal.numbers_pay-requires
 numbers_pay-requires c = finds-formed c.requires.finds
 
-pub find_numbered-requires : goal.find_numbered-requires
-find_numbered-requires c =
-    let known = c.requires in
-    record {
-      finds = known.finds;
-      word_bound = known.word_lt;
-      sheet_bound = room-few known.finds (pays-room _ (sym c.numbers_pay.ensures ∙ c.if-numbers_pay.true));
-    }
+pub find_numbered-requires-clause-sheet_bound : goal.find_numbered-requires-clause-sheet_bound
+find_numbered-requires-clause-sheet_bound c = room-few c.requires.finds (pays-room _ (sym c.numbers_pay.ensures ∙ c.if-numbers_pay.true))
 
 pub sought-step-requires : goal.sought-step-requires
 sought-step-requires c = finds-formed c.requires.finds
-
-pub bounds-finder-slot-2 : goal.bounds-finder-slot-2
-bounds-finder-slot-2 c = simp length-set (omega arith)
 
 pub returns : goal.returns
 unfolding slot_of

@@ -19,9 +19,6 @@ pub loop-b-init : goal.loop-b-init
 unfolding listed
 loop-b-init g c = (refl, λ row powers. sym (set-set c.args.table.now 0 0 0))
 
-pub overflow_mul-count : goal.overflow_mul-count
-overflow_mul-count g c = omega (arith, count_fits c.loop-b.b c.loop-b.count (omega arith) c.loop-b.invariant.0)
-
 pub loop-b-preserved : goal.loop-b-preserved
 loop-b-preserved g c =
     let here = c.loop-b in

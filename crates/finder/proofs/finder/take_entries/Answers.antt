@@ -15,9 +15,3 @@ loop-c-preserved c =
     ap₂ (λ (l : List ℕ) (x : ℕ). set l c.loop-c.c x) c.loop-c.invariant
     (c.pattern_of.ensures ∙ ap (entry_pattern args.d) c.pair.ensures)
     ∙ sym (entries-one-more args.d args.table.now c.loop-c.c args.entries.now)
-
-pub returns : goal.returns
-returns c =
-    let args = c.args in
-    let end : c.loop-c.c ≡ length args.table.now / 2 = omega arith in
-    c.loop-c.invariant ∙ ap (λ (n : ℕ). entries_of args.d args.table.now n args.entries.now) end
