@@ -1,4 +1,5 @@
 -- `tables::copy_with` meets its contract: after c turns the first c keys stand again.
+use Rattle.std.proofs.Common.{rules}
 use mathlib.Core.Path.{refl, ap}
 use Prim.Native.Nat.{ℕ, ◌+◌, ◌*◌, ◌%◌}
 use native.Mathlib.Omega.{arith}
@@ -19,7 +20,7 @@ loop-c-preserved c =
     let m = c.loop-c.c in
     copied_more args.count args.digit m args.table.now args.costs.now c.loop-c.table c.loop-c.costs (omega arith)
           (omega (arith, c.requires.room.entries)) (omega (arith, c.requires.room.weights)) c.loop-c.invariant _ _ _
-          (λ i. (c.slice_known-in-loop-c-1.given i).fits) refl
+          (λ i. search rules) refl
           (ap (λ (x : ℕ). bit_xor x (args.digit % 256))
           (get_or-set_other c.loop-c.table (2 * (args.count + m)) (2 * m + 1) _ 0 (λ e. omega (arith, e))))
           refl
