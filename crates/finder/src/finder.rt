@@ -276,8 +276,7 @@ fn widened(number: u16) -> usize
     number as usize
 }
 
-// Puts what `of` makes of the low halves of words, and of their high halves, into the two tables. It goes through the exclusive-or, so what it
-// makes of the powers of 2 is enough.
+// Fills the tables of the low and of the high halves of words by what `of` makes of the powers of 2.
 fn tabulate_halves<F: Fn(u16) -> u16 + Copy>(of: F, d: usize, finder: &mut [u16])
     requires callable { F.IsAlwaysCallable of }
     requires finder_len { length finder.old ≡ 4640 }
@@ -288,7 +287,7 @@ fn tabulate_halves<F: Fn(u16) -> u16 + Copy>(of: F, d: usize, finder: &mut [u16]
     tabulate(of, 8, d.saturating_sub(8), &mut finder[HIGH..SLOTS]);
 }
 
-// Lists at the front of `table` what `of` makes of the numbers of so many digits, each times 2^from.
+// Lists at the front of `table`, of each number of so many digits, the exclusive-or of what `of` makes of its digits' powers of 2 times 2^from.
 fn tabulate<F: Fn(u16) -> u16>(of: F, from: usize, digits: usize, table: &mut [u16])
     requires callable { F.IsAlwaysCallable of }
     requires in_bounds { 256 ≤ length table.old }

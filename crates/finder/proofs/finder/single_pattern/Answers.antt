@@ -23,7 +23,7 @@ loop-b-preserved c =
     let left = c.left_of.ensures ∙ ap (left_in args.finder.now) is in
     elim c.if-left_of-left.branch [
       | then-left_of-left w ↦ w.found-is ∙ w.single_more-found.ensures ∙ ap₂ single_more c.loop-b.invariant is
-            ∙ single-met args.finder.now args.left c.loop-b.b (sym left ∙ w.if-left_of-left.true)
+          ∙ single-met args.finder.now args.left c.loop-b.b (sym left ∙ w.if-left_of-left.true)
       | else-left_of-left w ↦ w.found-is ∙ c.loop-b.invariant ∙ single-missed args.finder.now args.left c.loop-b.b (λ e. w.if-left_of-left.false (left ∙ e))
     ]
 

@@ -19,8 +19,8 @@ loop-c-preserved c =
     let args = c.args in
     let m = c.loop-c.c in
     copied_more args.count args.digit m args.table.now args.costs.now c.loop-c.table c.loop-c.costs (omega arith)
-          (omega (arith, c.requires.room.entries)) (omega (arith, c.requires.room.weights)) c.loop-c.invariant _ _ _
-          (λ i. search rules) refl
-          (ap (λ (x : ℕ). bit_xor x (args.digit % 256))
-          (get_or-set_other c.loop-c.table (2 * (args.count + m)) (2 * m + 1) _ 0 (λ e. omega (arith, e))))
-          refl
+    (omega (arith, c.requires.room.entries)) (omega (arith, c.requires.room.weights)) c.loop-c.invariant _ _ _
+    (λ i. search rules) refl
+    (ap (λ (x : ℕ). bit_xor x (args.digit % 256))
+    (get_or-set_other c.loop-c.table (2 * (args.count + m)) (2 * m + 1) _ 0 (λ e. omega (arith, e))))
+    refl

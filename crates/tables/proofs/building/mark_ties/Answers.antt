@@ -13,7 +13,7 @@ loop-c-preserved c =
     let args = c.args in
     let m = c.loop-c.c in
     marked_more m args.table.now args.costs.now c.loop-c.table _ _ c.loop-c.invariant (omega arith)
-          c.marked_byte.ensures
-          (c.marked_byte-in-loop-c.ensures
-          ∙ ap (marked_byte (get_or args.costs.now m 0))
-          (get_or-set_other c.loop-c.table (2 * m) (2 * m + 1) _ 0 (λ e. omega (arith, e))))
+    c.marked_byte.ensures
+    (c.marked_byte-in-loop-c.ensures
+    ∙ ap (marked_byte (get_or args.costs.now m 0))
+    (get_or-set_other c.loop-c.table (2 * m) (2 * m + 1) _ 0 (λ e. omega (arith, e))))
