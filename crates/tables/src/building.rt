@@ -105,8 +105,7 @@ fn copy_with(table: &mut [u8], costs: &mut [u8], count: usize, digit: u16)
     requires costs_low { (c : ℕ) → c < count → at costs.old c < 254 }
     ensures { Copied count digit count table.old costs.old table.new costs.new }
 {
-    let high = (digit / 256) as u8;
-    let low = (digit % 256) as u8;
+    let [high, low] = digit.to_be_bytes();
     for c in 0..count {
         costs[count + c] = costs[c] + 2;
         table[2 * (count + c)] = table[2 * c] ^ high;
@@ -191,7 +190,7 @@ fn key_at(table: &[u8], costs: &[u8], c: usize) -> u32
     requires costs_room { c + 1 ≤ length costs.now }
     ensures { (result ≡ key_at table.now costs.now c) × (result < 16777216) }
 {
-    costs[c] as u32 * 65536 + table[2 * c] as u32 * 256 + table[2 * c + 1] as u32
+    u32::from_be_bytes([0, costs[c], table[2 * c], table[2 * c + 1]])
 }
 
 // Puts the key of a class.
@@ -201,7 +200,8 @@ fn put_key(table: &mut [u8], costs: &mut [u8], c: usize, key: u32)
     requires key_bound { key < 16777216 }
     ensures { Puts c key table.old costs.old table.new costs.new }
 {
-    costs[c] = (key / 65536) as u8;
-    table[2 * c] = (key / 256 % 256) as u8;
-    table[2 * c + 1] = (key % 256) as u8;
+    let [_, cost, high, low] = key.to_be_bytes();
+    costs[c] = cost;
+    table[2 * c] = high;
+    table[2 * c + 1] = low;
 }

@@ -1,8 +1,5 @@
 -- `tables::copy_with` meets its contract: after c turns the first c keys stand again.
-use Rattle.std.proofs.Common.{rules}
-use mathlib.Core.Path.{refl, ap}
-use Prim.Native.Nat.{ℕ, ◌+◌, ◌*◌, ◌%◌}
-use native.Mathlib.Omega.{arith}
+use Rattle.std.proofs.Common.{◌≡◌, ℕ, ◌+◌, ◌*◌, ◌/◌, ◌%◌, List, refl, ap, ◌∙◌, get_or, arith, rules}
 use lib.Bits.{bit_xor}
 use lib.Seq.{get_or-set_other}
 use Rattle.bits.specs.Window.{at}
@@ -18,9 +15,14 @@ pub loop-c-preserved : goal.loop-c-preserved
 loop-c-preserved c =
     let args = c.args in
     let m = c.loop-c.c in
-    copied_more args.count args.digit m args.table.now args.costs.now c.loop-c.table c.loop-c.costs (omega arith)
+    let table = c.loop-c.table in
+    let bytes = c.to_be_bytes.ensures in
+    let high : get_or c.to_be_bytes.result 0 0 ≡ args.digit / 256 = ap (λ (l : List ℕ). get_or l 0 0) bytes ∙ omega arith in
+    let low : get_or c.to_be_bytes.result 1 0 ≡ args.digit % 256 = ap (λ (l : List ℕ). get_or l 1 0) bytes ∙ omega arith in
+    copied_more args.count args.digit m args.table.now args.costs.now table c.loop-c.costs (omega arith)
     (omega (arith, c.requires.room.entries)) (omega (arith, c.requires.room.weights)) c.loop-c.invariant _ _ _
-    (λ i. search rules) refl
-    (ap (λ (x : ℕ). bit_xor x (args.digit % 256))
-    (get_or-set_other c.loop-c.table (2 * (args.count + m)) (2 * m + 1) _ 0 (λ e. omega (arith, e))))
+    (λ i. search rules) (ap (bit_xor (get_or table (2 * m) 0)) high)
+    (ap (λ (x : ℕ). bit_xor x (get_or c.to_be_bytes.result 1 0))
+    (get_or-set_other table (2 * (args.count + m)) (2 * m + 1) _ 0 (λ e. omega (arith, e)))
+    ∙ ap (bit_xor (get_or table (2 * m + 1) 0)) low)
     refl
