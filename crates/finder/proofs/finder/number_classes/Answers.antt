@@ -10,7 +10,7 @@ use Rattle.inner_code.proofs.SheetChecks.{sound, degree-byte, count-byte}
 use Rattle.tables.specs.Answer.{table_bytes}
 use Rattle.tables.specs.Numbering.{free_mask, squeezed_by}
 use Rattle.tables.proofs.Tables.{size_is}
-use Rattle.finder.specs.Finding.{Fewer, with_part, with_halves, power_left, power_number, sheet_entries, renumbered_finder}
+use Rattle.finder.specs.Finding.{Fewer, with_halves, power_left, power_number, sheet_entries, renumbered_finder}
 use Rattle.finder.proofs.Finding.{back-is}
 use Rattle.finder.proofs.finder.number_classes.Goals as goal
 

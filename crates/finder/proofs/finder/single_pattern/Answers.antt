@@ -1,6 +1,5 @@
 -- `finder::single_pattern` meets its contract: after b turns `found` tells of the powers of 2 below 2^b.
 use mathlib.Core.Path.{◌≡◌, sym, ap, ap₂, ◌∙◌}
-use borrow.Author.Rules.{rules}
 use native.Mathlib.Omega.{arith}
 use Rattle.finder.specs.Finding.{left_in, single_more, single_below}
 use Rattle.bits.proofs.Windows.{shifted_one}

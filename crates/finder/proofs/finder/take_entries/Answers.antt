@@ -1,5 +1,5 @@
 -- `finder::take_entries` meets its contract: after c turns the patterns of the first c entries stand there.
-use Rattle.std.proofs.Common.{◌≡◌, ℕ, ◌/◌, List, refl, sym, ap, ap₂, ◌∙◌, length, set, arith}
+use Rattle.std.proofs.Common.{ℕ, List, refl, sym, ap, ap₂, ◌∙◌, set}
 use Rattle.finder.specs.Finding.{entry_pattern, entries_of}
 use Rattle.finder.proofs.Finding.{entries-one-more}
 use Rattle.finder.proofs.finder.take_entries.Goals as goal
