@@ -1,5 +1,6 @@
 -- The finder of nearest words: what its parts hold, how they come to stand there, and that the word found is the nearest word.
 --   Placed start part before after   `after` is `before` with `part` in it from `start` on
+--   put_back start size part l       l with `part` in place of its `size` numbers from `start` on
 --   Preparable, Finds, Found, Renumbered  what holds of a finder and of the functions over it (specs Finding)
 --   filled_finder sheet k basis finder    the finder with both tables, the codewords, their number and d put in; all else stays
 --   Filled sheet k basis before after    what stands in the finder that is filled: the tables, the codewords, their number, d, and the slots of
@@ -99,9 +100,15 @@ placed-back start k part before room size = record { sized = sized; inside = ins
         ∙ get_or-append-add part rest t 0 ∙ get_or-drop k (drop start before) t 0 ∙ get_or-drop start before (k + t) 0
         ∙ ap (λ (j : ℕ). get_or before j 0) (sym near)
 
-pub placed-length : (start size : ℕ) (part l : List ℕ) → start + size ≤ length l → length part ≡ size
-    → length (take start l ++ (part ++ drop size (drop start l))) ≡ length l
-placed-length start size part l room kept = (placed-back start size part l room kept).sized
+-- a part that is lent as a slice of its own, and put back
+abbrev pub put_back : ℕ → ℕ → List ℕ → List ℕ → List ℕ
+put_back start size part l = take start l ++ (part ++ drop size (drop start l))
+
+pub back-is : (start size : ℕ) (part l m : List ℕ) (f : List ℕ → List ℕ) → part ≡ f (take size (drop start l)) → l ≡ m
+    → put_back start size part l ≡ with_part start size f m
+unfolding with_part
+back-is start size part l m f filled_by same =
+    ap (λ (p : List ℕ). put_back start size p l) filled_by ∙ ap (λ (n : List ℕ). put_back start size (f (take size (drop start n))) n) same
 
 -- the high half of a word has as many digits as the word has above eight
 half_lt : (d w : ℕ) → w < 2 ^ d → w / 256 < 2 ^ (d - 8)

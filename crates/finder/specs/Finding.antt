@@ -27,7 +27,9 @@
 -- What the functions over a finder answer and leave:
 --   power_left basis k from b    what the first k rows of the basis, 11 at most, leave of 2^(from + b)
 --   power_number basis k from b  the number of its class
+--   PowersBy gives row    all that is given for 2^(from + b), of 16 bits, is row from b
 --   with_part start size f l     the list l with its `size` numbers from the place `start` on sent through f
+--   with_halves row d finder     the finder with both its tables filled by such rows
 --   codeword_by finder w  the test whether w is a codeword: the rows leave nothing
 --   slot_of left          the slot for the words of which the rows leave this
 --   single_more found p   one more pattern of a single one: p where none is found yet, and else 65,536, which is no pattern
@@ -137,8 +139,15 @@ unfoldable pub power_number : List ℕ → ℕ → ℕ → ℕ → ℕ
 unfolding power_left squeezed_by free_mask at
 power_number basis k from b = squeezed_by (free_mask (at basis) (min k 11)) 16 (power_left basis k from b)
 
+abbrev pub PowersBy : (ℕ → ℕ → Type 0) → (ℕ → ℕ → ℕ) → Type 0
+PowersBy gives row = (from b r : ℕ) → from + b < 16 → gives (2 ^ (from + b)) r → r ≡ row from b
+
 unfoldable pub with_part : ℕ → ℕ → (List ℕ → List ℕ) → List ℕ → List ℕ
 with_part start size f l = take start l ++ (f (take size (drop start l)) ++ drop size (drop start l))
+
+unfoldable pub with_halves : (ℕ → ℕ → ℕ) → ℕ → List ℕ → List ℕ
+unfolding with_part listed
+with_halves row d finder = with_part 288 256 (listed (row 8) (d - 8)) (with_part 32 256 (listed (row 0) 8) finder)
 
 unfoldable pub codeword_by : List ℕ → ℕ → Bool
 unfolding left_in

@@ -1,12 +1,12 @@
 // The finder of nearest words: one lent slice of FINDER_WORDS numbers that holds all that finding a sheet's nearest words needs, set up once by
 // `prepare_finder`, asked by `is_codeword` and `find_nearest`.
-ghost use Rattle.std.specs.Prelude.{◌≡◌, ◌+◌, ◌-◌, ◌*◌, ◌/◌, ◌^◌, ◌≤◌, ◌<◌, min, length};
+ghost use Rattle.std.specs.Prelude.{ℕ, ◌≡◌, ◌+◌, ◌-◌, ◌*◌, ◌/◌, ◌^◌, ◌≤◌, ◌<◌, min, length};
 ghost use Rattle.std.specs.Int.Bits.{bit_xor};
 ghost use Rattle.inner_code.specs.Sheet.{degree, row_count};
 ghost use Rattle.inner_code.specs.Reduction.{step_to, listed};
 ghost use Rattle.tables.specs.Folding.{Sized};
 ghost use Rattle.finder.specs.Finding.{Preparable, WellFormed, Finds, Unkept, Found, Fewer, codeword_by, digits_in, left_in, entry_in, numbers_pay};
-ghost use Rattle.finder.specs.Finding.{power_left, power_number, single_more, single_in, searched_in, sought_by, entries_of, sheet_entries};
+ghost use Rattle.finder.specs.Finding.{power_left, power_number, single_more, single_in, searched_in, sought_by, entries_of, sheet_entries, PowersBy, with_halves};
 ghost use Rattle.finder.specs.Finding.{renumbered_finder};
 
 use inner_code::{Step, check_into, double, list_codewords, nearest_listed, put_on, residue};
@@ -55,8 +55,7 @@ pub fn prepare_finder(sheet: &[u8], k: usize, basis: &[u16; 11], finder: &mut [u
     ensures { Finds sheet.now finder.new }
 {
     let d = sheet[0] as usize;
-    tabulate(basis, k, 0, 8, &mut finder[LOW..HIGH]);
-    tabulate(basis, k, 8, above_eight(d), &mut finder[HIGH..SLOTS]);
+    tabulate_halves(|word| residue(basis, k, word), d, finder);
     let count = list_codewords(sheet, k, &mut finder[WORDS..FINDER_WORDS]);
     finder[LISTED] = count as u16;
     finder[DEGREE] = d as u16;
@@ -117,7 +116,7 @@ fn find_missed(sheet: &[u8], finder: &mut [u16], word: u16, left: u16) -> Step
     let slot = SLOTS + 2 * ((left ^ left / 32) % SLOT_COUNT) as usize;
     finder[slot] = left;
     finder[slot + 1] = word ^ step.word;
-    finder[SEARCHES] = one_more(finder[SEARCHES]);
+    finder[SEARCHES] = finder[SEARCHES].saturating_add(1);
     step
 }
 
@@ -133,16 +132,6 @@ fn numbers_pay(finder: &[u16]) -> bool
         return false;
     }
     4 * words + BESIDE * listed <= (finder[SEARCHES] as u64 + 1) * listed * listed
-}
-
-// One more, as far as 16 bits go.
-fn one_more(number: u16) -> u16
-    ensures { result ≡ min (number + 1) 65535 }
-{
-    if number == 65535 {
-        return number;
-    }
-    number + 1
 }
 
 // Numbers the classes, gives each its entry, and finds the nearest word so. The sheet is known to be accepted, and is checked for its echelon
@@ -178,8 +167,8 @@ fn number_classes(sheet: &[u8], basis: &[u16; 11], finder: &mut [u16])
         &mut costs,
         &mut finder[SLOTS..WORDS],
     );
-    tabulate_numbers(basis, k, 0, 8, &mut finder[LOW..HIGH]);
-    tabulate_numbers(basis, k, 8, above_eight(d), &mut finder[HIGH..SLOTS]);
+    let mask = free_digits(basis, k);
+    tabulate_halves(|word| squeeze(mask, residue(basis, k, word)), d, finder);
     finder[NUMBERED] = 1;
 }
 
@@ -208,32 +197,8 @@ fn take_entries(table: &[u8], d: usize, entries: &mut [u16])
     ensures { entries.new ≡ entries_of d table.now (length table.now / 2) entries.old }
 {
     let count = table.len() / 2;
-    let mut c = 0;
-    while c < count {
+    for c in 0..count {
         entries[c] = pattern_of(bits::pair(table, 2 * c), d);
-        c += 1;
-    }
-}
-
-// Lists at the front of `table` the numbers of the classes of all numbers of so many digits, each times 2^from.
-fn tabulate_numbers(basis: &[u16; 11], k: usize, from: usize, digits: usize, table: &mut [u16])
-    requires in_bounds { 256 ≤ length table.old }
-    requires from_bound { from ≤ 8 }
-    requires digits_bound { digits ≤ 8 }
-    ensures { table.new ≡ listed (power_number basis.now k from) digits table.old }
-{
-    let mask = free_digits(basis, k);
-    table[0] = 0;
-    let mut count: usize = 1;
-    let mut b = 0;
-    while b < digits {
-        double(
-            table,
-            count,
-            squeeze(mask, residue(basis, k, 1u16 << (from + b))),
-        );
-        count = 2 * count;
-        b += 1;
     }
 }
 
@@ -268,13 +233,11 @@ fn single_pattern(finder: &[u16], left: u16) -> u32
     }
     let digits = digits_in(finder);
     let mut found: u32 = 0;
-    let mut b = 0;
-    while b < digits {
+    for b in 0..digits {
         let pattern = 1u16 << b;
         if left_of(finder, pattern) == left {
             found = single_more(found, pattern);
         }
-        b += 1;
     }
     found
 }
@@ -313,29 +276,29 @@ fn widened(number: u16) -> usize
     number as usize
 }
 
-// How many digits a word has in its high half.
-fn above_eight(digits: usize) -> usize
-    ensures { result ≡ digits - 8 }
+// Fills the tables of the low and of the high halves of words by what `of` makes of the powers of 2.
+fn tabulate_halves<F: Fn(u16) -> u16 + Copy>(of: F, d: usize, finder: &mut [u16])
+    requires callable { F.IsAlwaysCallable of }
+    requires finder_len { length finder.old ≡ 4640 }
+    requires d_bound { d ≤ 16 }
+    ensures { (row : ℕ → ℕ → ℕ) → PowersBy (F.post of) row → finder.new ≡ with_halves row d finder.old }
 {
-    if digits < 8 {
-        return 0;
-    }
-    digits - 8
+    tabulate(of, 0, 8, &mut finder[LOW..HIGH]);
+    tabulate(of, 8, d.saturating_sub(8), &mut finder[HIGH..SLOTS]);
 }
 
-// Lists at the front of `table` what the rows leave of the numbers of so many digits, each times 2^from.
-fn tabulate(basis: &[u16; 11], k: usize, from: usize, digits: usize, table: &mut [u16])
+// Lists at the front of `table`, of each number of so many digits, the exclusive-or of what `of` makes of its digits' powers of 2 times 2^from.
+fn tabulate<F: Fn(u16) -> u16>(of: F, from: usize, digits: usize, table: &mut [u16])
+    requires callable { F.IsAlwaysCallable of }
     requires in_bounds { 256 ≤ length table.old }
     requires from_bound { from ≤ 8 }
     requires digits_bound { digits ≤ 8 }
-    ensures { table.new ≡ listed (power_left basis.now k from) digits table.old }
+    ensures { (row : ℕ → ℕ → ℕ) → PowersBy (F.post of) row → table.new ≡ listed (row from) digits table.old }
 {
     table[0] = 0;
     let mut count: usize = 1;
-    let mut b = 0;
-    while b < digits {
-        double(table, count, residue(basis, k, 1u16 << (from + b)));
-        count = 2 * count;
-        b += 1;
+    for b in 0..digits {
+        double(table, count, of(1u16 << (from + b)));
+        count *= 2;
     }
 }

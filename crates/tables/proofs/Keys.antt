@@ -93,32 +93,7 @@ module _ (here other : ℕ) where
 lighter-self : (key digit : ℕ) → key ≡ lighter key (key + (131072 + digit))
 lighter-self key digit = lighter-here key (key + (131072 + digit)) (λ e. omega (arith, e)) (omega arith)
 
--- two keys that are put, of two classes
-pub paired : (c other digit : ℕ) (table costs mid middle after left : List ℕ) (first second : ℕ) → c < other
-    → first ≡ lighter (key_at table costs c) (key_at table costs other + (131072 + digit))
-    → second ≡ lighter (key_at table costs other) (key_at table costs c + (131072 + digit))
-    → Puts c first table costs mid middle → Puts other second mid middle after left → Paired c other digit table costs after left
-paired c other digit table costs mid middle after left first second less first-is second_is one two =
-    record {
-      sized = two.sized ∙ one.sized;
-      costed = two.costed ∙ one.costed;
-      first = two.other c (λ e. omega (arith, e)) ∙ one.here ∙ first-is;
-      second = two.here ∙ second_is;
-      rest = λ j e f. two.other j f ∙ one.other j e;
-    }
-
 -- ---- copying
-
-pub copied-start : (count digit : ℕ) (table costs : List ℕ) → Copied count digit 0 table costs table costs
-copied-start count digit table costs =
-    record {
-      sized = refl;
-      costed = refl;
-      kept-cost = λ c h. refl;
-      kept_byte = λ i h. refl;
-      new-cost = λ c h. absurd (omega arith);
-      new-pair = λ c h. absurd (omega arith);
-    }
 
 module _ (count digit m : ℕ) (table costs now left : List ℕ) (m-lt : m < count) (room : 4 * count ≤ length table)
     (weights : 2 * count ≤ length costs) (so : Copied count digit m table costs now left) where

@@ -58,11 +58,20 @@ fn fill_table(sheet: &[u8], basis: &[u16; 11], table: &mut [u8])
     ensures { table.new ≡ table_of sheet.now }
 {
     if table.len() <= 2 * FEW_CLASSES {
-        let mut few = [0u8; FEW_CLASSES];
-        fill(sheet, basis, table, &mut few);
-        return;
+        fill_in::<FEW_CLASSES>(sheet, basis, table);
+    } else {
+        fill_in::<MAX_CLASSES>(sheet, basis, table);
     }
-    let mut costs = [0u8; MAX_CLASSES];
+}
+
+// The same with room of its own for the costs of N classes.
+fn fill_in<const N: usize>(sheet: &[u8], basis: &[u16; 11], table: &mut [u8])
+    requires sized { Sized sheet.now basis.now table.old }
+    requires table_len_bound { length table.old ≤ 2 * N }
+    requires size_bound { N ≤ 32768 }
+    ensures { table.new ≡ table_of sheet.now }
+{
+    let mut costs = [0u8; N];
     fill(sheet, basis, table, &mut costs);
 }
 
@@ -77,8 +86,7 @@ pub fn fill(sheet: &[u8], basis: &[u16; 11], table: &mut [u8], costs: &mut [u8])
     let mask = free_digits(basis, k);
     put_key(table, costs, 0, 0);
     let mut count: usize = 1;
-    let mut b = 0;
-    while b < d {
+    for b in 0..d {
         let digit = 1u16 << b;
         let left = residue(basis, k, digit);
         if left == digit {
@@ -87,7 +95,6 @@ pub fn fill(sheet: &[u8], basis: &[u16; 11], table: &mut [u8], costs: &mut [u8])
         } else {
             fold(table, costs, count, squeeze(mask, left), digit);
         }
-        b += 1;
     }
     mark_ties(table, costs, count);
 }
@@ -98,14 +105,11 @@ fn copy_with(table: &mut [u8], costs: &mut [u8], count: usize, digit: u16)
     requires costs_low { (c : ℕ) → c < count → at costs.old c < 254 }
     ensures { Copied count digit count table.old costs.old table.new costs.new }
 {
-    let high = (digit / 256) as u8;
-    let low = (digit % 256) as u8;
-    let mut c = 0;
-    while c < count {
+    let [high, low] = digit.to_be_bytes();
+    for c in 0..count {
         costs[count + c] = costs[c] + 2;
         table[2 * (count + c)] = table[2 * c] ^ high;
         table[2 * (count + c) + 1] = table[2 * c + 1] ^ low;
-        c += 1;
     }
 }
 
@@ -116,13 +120,11 @@ fn fold(table: &mut [u8], costs: &mut [u8], count: usize, apart: u16, digit: u16
     requires apart_low { (c : ℕ) → c < count → bit_xor c apart < count }
     ensures { Folded count apart digit count table.old costs.old table.new costs.new }
 {
-    let mut c = 0;
-    while c < count {
+    for c in 0..count {
         let other = c ^ apart as usize;
         if c < other {
             fold_pair(table, costs, c, other, digit);
         }
-        c += 1;
     }
 }
 
@@ -166,11 +168,9 @@ fn mark_ties(table: &mut [u8], costs: &[u8], count: usize)
     requires { Room count table.old costs.now }
     ensures { Marked count table.old costs.now table.new }
 {
-    let mut c = 0;
-    while c < count {
+    for c in 0..count {
         table[2 * c] = marked_byte(costs[c], table[2 * c]);
         table[2 * c + 1] = marked_byte(costs[c], table[2 * c + 1]);
-        c += 1;
     }
 }
 
@@ -190,7 +190,7 @@ fn key_at(table: &[u8], costs: &[u8], c: usize) -> u32
     requires costs_room { c + 1 ≤ length costs.now }
     ensures { (result ≡ key_at table.now costs.now c) × (result < 16777216) }
 {
-    costs[c] as u32 * 65536 + table[2 * c] as u32 * 256 + table[2 * c + 1] as u32
+    u32::from_be_bytes([0, costs[c], table[2 * c], table[2 * c + 1]])
 }
 
 // Puts the key of a class.
@@ -200,7 +200,8 @@ fn put_key(table: &mut [u8], costs: &mut [u8], c: usize, key: u32)
     requires key_bound { key < 16777216 }
     ensures { Puts c key table.old costs.old table.new costs.new }
 {
-    costs[c] = (key / 65536) as u8;
-    table[2 * c] = (key / 256 % 256) as u8;
-    table[2 * c + 1] = (key % 256) as u8;
+    let [_, cost, high, low] = key.to_be_bytes();
+    costs[c] = cost;
+    table[2 * c] = high;
+    table[2 * c + 1] = low;
 }

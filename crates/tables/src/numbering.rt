@@ -10,13 +10,8 @@ pub fn free_digits(basis: &[u16; 11], k: usize) -> u16
     ensures { result ≡ free_mask (at basis.now) (min k 11) }
 {
     let mut mask: u16 = 65535;
-    let mut i = 0;
-    while i < k {
-        if i == 11 {
-            return mask;
-        }
-        mask = mask ^ top_digit(basis[i]);
-        i += 1;
+    for i in 0..k.min(11) {
+        mask ^= top_digit(basis[i]);
     }
     mask
 }
@@ -36,13 +31,11 @@ pub fn squeeze(mask: u16, word: u16) -> u16
     ensures { result ≡ squeezed_by mask 16 word }
 {
     let mut number: u16 = 0;
-    let mut place: usize = 0;
-    let mut b: usize = 0;
-    while b < 16 {
+    let mut place: u32 = 0;
+    for b in 0..16u32 {
         let free = (mask >> b) % 2;
-        number = number ^ (((word >> b) % 2 * free) << place);
-        place += free as usize;
-        b += 1;
+        number ^= ((word >> b) % 2 * free) << place;
+        place += free as u32;
     }
     number
 }

@@ -1,7 +1,5 @@
 -- `finder::find_missed` meets its contract: each return leads to the nearest word, and what is kept is the sheet's.
 use mathlib.Core.Path.{sym, ◌∙◌}
-use native.Mathlib.Omega.{arith}
-use lib.ListN.{length-set}
 use Rattle.finder.specs.Finding.{slot_of}
 use Rattle.finder.proofs.Finding.{finds-formed, pays-room, room-few, found-sought}
 use Rattle.finder.proofs.finder.find_missed.Goals as goal
@@ -12,20 +10,11 @@ single_pattern-single-requires c = finds-formed c.requires.finds
 pub numbers_pay-requires : goal.numbers_pay-requires
 numbers_pay-requires c = finds-formed c.requires.finds
 
-pub find_numbered-requires : goal.find_numbered-requires
-find_numbered-requires c =
-    let known = c.requires in
-    record {
-      finds = known.finds;
-      word_bound = known.word_lt;
-      sheet_bound = room-few known.finds (pays-room _ (sym c.numbers_pay.ensures ∙ c.if-numbers_pay.true));
-    }
+pub find_numbered-requires-clause-sheet_bound : goal.find_numbered-requires-clause-sheet_bound
+find_numbered-requires-clause-sheet_bound c = room-few c.requires.finds (pays-room _ (sym c.numbers_pay.ensures ∙ c.if-numbers_pay.true))
 
 pub sought-step-requires : goal.sought-step-requires
 sought-step-requires c = finds-formed c.requires.finds
-
-pub bounds-finder-slot-2 : goal.bounds-finder-slot-2
-bounds-finder-slot-2 c = simp length-set (omega arith)
 
 pub returns : goal.returns
 unfolding slot_of

@@ -8,12 +8,9 @@ pub returns-then-left-eq0 : goal.returns-then-left-eq0
 returns-then-left-eq0 c =
     found-codeword c.requires.finds c.requires.word_bound (sym c.left_of-left.ensures ∙ c.if-left-eq0.true) c.put_on.ensures
 
-pub by_entry-requires : goal.by_entry-requires
-by_entry-requires c =
-    record {
-      finder_len = c.requires.finds.sized;
-      left_bound = entry_lt c.requires.finds c.args.word c.requires.word_bound c.if-finder-eq1.true _ c.left_of-left.ensures;
-    }
+pub by_entry-requires-clause-left_bound : goal.by_entry-requires-clause-left_bound
+by_entry-requires-clause-left_bound c =
+    entry_lt c.requires.finds c.args.word c.requires.word_bound c.if-finder-eq1.true _ c.left_of-left.ensures
 
 pub returns-then-finder-eq1 : goal.returns-then-finder-eq1
 returns-then-finder-eq1 c =

@@ -1,38 +1,35 @@
 -- `finder::find_numbered` meets its contract: the classes are numbered by the sheet's echelon form, and the word's has its entry.
+use Rattle.std.proofs.Common.{◌≡◌, ℕ, ◌-◌, ◌≤◌, List}
+use lib.ListN.{replicate}
 use mathlib.Core.Path.{subst⁻¹}
-use Rattle.finder.specs.Finding.{Fewer, Renumbered}
+use Rattle.inner_code.specs.Reduction.{with_echelon}
+use Rattle.inner_code.specs.Sheet.{degree, row_count, row_of}
+use Rattle.finder.specs.Finding.{Finds, Fewer, Renumbered}
 use Rattle.finder.proofs.Finding.{checked-echelon, renumbered, renumbered-finds, entry_lt, found-numbered}
 use Rattle.finder.proofs.finder.find_numbered.Goals as goal
-use Rattle.finder.proofs.finder.find_numbered.Goals.{After-check_into, After-number_classes}
+use Rattle.finder.proofs.finder.find_numbered.Goals.{After-number_classes}
 
--- ---- the call, from where the sheet is checked, and what the check gives
+fewer-known : {sheet basis finder : List ℕ} → Finds sheet finder → degree sheet - row_count sheet ≤ 11
+    → basis ≡ with_echelon (row_of sheet) (row_count sheet) (replicate 11 0) → Fewer sheet basis
+fewer-known finds few echelon = record { accepted = finds.accepted; echelon = echelon; few = few }
 
-fewer : (c : After-check_into) → Fewer c.args.sheet.now c.check_into.new.basis
-fewer c =
+pub number_classes-requires-clause-fewer : goal.number_classes-requires-clause-fewer
+number_classes-requires-clause-fewer c =
     let known = c.requires in
-    record { accepted = known.finds.accepted; echelon = checked-echelon _ c.check_into.ensures known.finds.accepted; few = known.sheet_bound }
+    fewer-known known.finds known.sheet_bound (checked-echelon _ c.check_into.ensures known.finds.accepted)
 
-pub number_classes-requires : goal.number_classes-requires
-number_classes-requires c = record {
-  finder_len = c.requires.finds.sized;
-  fewer = fewer (goal.at.number_classes-requires c).After-check_into;
-}
-
-numbered : (c : After-number_classes)
-    → Renumbered c.args.sheet.now c.args.finder.now c.number_classes.new.finder
+numbered : (c : After-number_classes) → Renumbered c.args.sheet.now c.args.finder.now c.number_classes.new.finder
 numbered c =
-    subst⁻¹ (Renumbered c.args.sheet.now c.args.finder.now) c.number_classes.ensures
-    (renumbered c.args.sheet.now _ c.args.finder.now c.requires.finds.sized (record { accepted = c.requires.finds.accepted; echelon = checked-echelon _ c.check_into.ensures c.requires.finds.accepted; few = c.requires.sheet_bound }))
-
-pub by_entry-requires : goal.by_entry-requires
-by_entry-requires c =
     let known = c.requires in
-    let done = numbered (goal.at.by_entry-requires c).After-number_classes in
-    let finds = renumbered-finds known.finds known.sheet_bound done in
-    record {
-      finder_len = finds.sized;
-      left_bound = entry_lt finds c.args.word known.word_bound done.flag _ c.left_of.ensures;
-    }
+    subst⁻¹ (Renumbered c.args.sheet.now c.args.finder.now) c.number_classes.ensures
+    (renumbered c.args.sheet.now _ c.args.finder.now known.finds.sized
+    (fewer-known known.finds known.sheet_bound (checked-echelon _ c.check_into.ensures known.finds.accepted)))
+
+pub by_entry-requires-clause-left_bound : goal.by_entry-requires-clause-left_bound
+by_entry-requires-clause-left_bound c =
+    let known = c.requires in
+    let done = numbered (goal.at.by_entry-requires-clause-left_bound c).After-number_classes in
+    entry_lt (renumbered-finds known.finds known.sheet_bound done) c.args.word known.word_bound done.flag _ c.left_of.ensures
 
 pub returns : goal.returns
 returns c =

@@ -5,30 +5,17 @@ use Prim.Native.Nat.{ℕ, ◌/◌}
 use native.Mathlib.Omega.{arith}
 use lib.ListN.{length}
 use Rattle.inner_code.specs.Sheet.{degree}
-use Rattle.inner_code.proofs.SheetChecks.{Sound, sound}
+use Rattle.inner_code.proofs.SheetChecks.{sound}
 use Rattle.finder.specs.Finding.{entries_of, sheet_entries}
-use Rattle.tables.proofs.Tables.{table-length}
 use Rattle.finder.proofs.finder.make_entries.Goals as goal
-use Rattle.finder.proofs.finder.make_entries.Goals.{Start}
-
-fine : (c : Start) → Sound c.args.sheet.now
-fine c = sound c.args.sheet.now [] c.requires.sized.accepted
 
 pub bounds-sheet-0 : goal.bounds-sheet-0
 unfolding degree
-bounds-sheet-0 c = omega (arith, (fine (goal.at.bounds-sheet-0 c).Start).sized)
+bounds-sheet-0 c = omega (arith, (sound c.args.sheet.now [] c.requires.sized.accepted).sized)
 
-pub overflow_cast-d : goal.overflow_cast-d
-overflow_cast-d c = omega (arith, c.type_inv.sheet 0)
-
-pub take_entries-requires : goal.take_entries-requires
+pub take_entries-requires-clause-d_bound : goal.take_entries-requires-clause-d_bound
 unfolding degree
-take_entries-requires c =
-    let room = c.requires.entries_room in
-    record {
-      d_bound = omega (arith, (fine (goal.at.take_entries-requires c).Start).degree-high);
-      table_len_bound = omega (arith, ap length c.fill.ensures, c.requires.sized.sized, table-length _ (fine (goal.at.take_entries-requires c).Start), room);
-    }
+take_entries-requires-clause-d_bound c = omega (arith, (sound c.args.sheet.now [] c.requires.sized.accepted).degree-high)
 
 pub returns : goal.returns
 unfolding degree sheet_entries

@@ -1,6 +1,5 @@
 -- `finder::single_pattern` meets its contract: after b turns `found` tells of the powers of 2 below 2^b.
 use mathlib.Core.Path.{◌≡◌, sym, ap, ap₂, ◌∙◌}
-use borrow.Author.Rules.{rules}
 use native.Mathlib.Omega.{arith}
 use Rattle.finder.specs.Finding.{left_in, single_more, single_below}
 use Rattle.bits.proofs.Windows.{shifted_one}
@@ -14,24 +13,22 @@ returns-then-finder-le-FEW c =
     sym (single-few args.finder.now args.left c.if-finder-le-FEW.true)
 
 pub loop-b-init : goal.loop-b-init
-loop-b-init c = (search rules, single-start _ _)
+loop-b-init c = single-start _ _
 
 pub loop-b-preserved : goal.loop-b-preserved
 loop-b-preserved c =
     let args = c.args in
     let is = shifted_one c.loop-b.b 16 (omega arith) in
-    let left = c.left_of.ensures ∙ ap (left_in args.finder.now) is in (
-      search rules,
-      (elim c.if-left_of-left.branch [
-        | then-left_of-left w ↦ w.found-is ∙ w.single_more-found.ensures ∙ ap₂ single_more c.loop-b.invariant.1 is
-            ∙ single-met args.finder.now args.left c.loop-b.b (sym left ∙ w.if-left_of-left.true)
-        | else-left_of-left w ↦ w.found-is ∙ c.loop-b.invariant.1 ∙ single-missed args.finder.now args.left c.loop-b.b (λ e. w.if-left_of-left.false (left ∙ e))
-      ]),
-    )
+    let left = c.left_of.ensures ∙ ap (left_in args.finder.now) is in
+    elim c.if-left_of-left.branch [
+      | then-left_of-left w ↦ w.found-is ∙ w.single_more-found.ensures ∙ ap₂ single_more c.loop-b.invariant is
+          ∙ single-met args.finder.now args.left c.loop-b.b (sym left ∙ w.if-left_of-left.true)
+      | else-left_of-left w ↦ w.found-is ∙ c.loop-b.invariant ∙ single-missed args.finder.now args.left c.loop-b.b (λ e. w.if-left_of-left.false (left ∙ e))
+    ]
 
 pub returns : goal.returns
 returns c =
     let args = c.args in
     let all : c.loop-b.b ≡ c.digits_in-digits.result = omega arith in
-    c.loop-b.invariant.1 ∙ ap (single_below args.finder.now args.left) (all ∙ c.digits_in-digits.ensures)
+    c.loop-b.invariant ∙ ap (single_below args.finder.now args.left) (all ∙ c.digits_in-digits.ensures)
     ∙ sym (single-all args.finder.now args.left (omega (arith, c.if-finder-le-FEW.false)))

