@@ -5,14 +5,15 @@
 --   pattern_in sheet w table the pattern that a table has for a word: the low d bits of its class's entry, none at the mark
 --   look_up_answer            the look-up: 1 to 6, 12, 13, or the word with that pattern on it, and its ones
 --   built_reply r            the paper's number and place for each case of building's answer in the code
-use Rattle.std.specs.Prelude.{ℕ, ◌*◌, ◌-◌, ◌%◌, ◌^◌, cond, List, [], ◌∷◌, eqb, leb, ltb, length}
+use Rattle.std.specs.Prelude.{ℕ, ◌*◌, ◌-◌, ◌%◌, ◌^◌, cond, List, [], ◌∷◌, eqb, leb, ltb, length, Result}
 use Rattle.std.specs.Int.Bits.{bit_xor}
 use Rattle.std.specs.Int.Count.{ones}
 use Rattle.bits.specs.Bit.{pair_at, written}
 use Rattle.inner_code.specs.Reply.{Reply, done, refused, refuse_if, and_then, if_done}
 use Rattle.inner_code.specs.Sheet.{degree, row_count, row_of, sheet_check}
 use Rattle.tables.specs.Classes.{class_of, tie_mark, entries_below}
-use Rattle.tables.specs.declared.building.Built.{Built}
+use Rattle.inner_code.specs.Refusal.{check_reply}
+use Rattle.inner_code.specs.declared.refusal.Refusal.{Refusal}
 
 unfoldable pub table_bytes : List ℕ → ℕ
 unfolding degree row_count
@@ -44,6 +45,5 @@ look_up_answer sheet w table =
     (refuse_if (ltb (length table) (table_bytes sheet)) 13 0
     (done (bit_xor w (pattern_in sheet w table) ∷ ones (pattern_in sheet w table) ∷ []))))
 
-abbrev pub built_reply : Built → Reply
-built_reply Built.Done = done []
-built_reply (Built.Refused r) = refused r.number r.place
+abbrev pub built_reply : Result Unit Refusal → Reply
+built_reply r = check_reply r

@@ -8,14 +8,7 @@ ghost use Rattle.tables.specs.Answer.{table_of, build_answer, build_output, buil
 ghost use Rattle.tables.specs.Folding.{key_at, lighter, Room, marked_byte, Puts, Paired, Copied, Folded, Marked, Sized};
 
 use crate::numbering::{free_digits, squeeze};
-use inner_code::{Refusal, Sheet, check_into, refusal, residue};
-
-// What building answers: done, or the refusal.
-#[derive(Clone, Copy)]
-pub enum Built {
-    Done,
-    Refused(Refusal),
-}
+use inner_code::{Refusal, check_into, residue};
 
 // The mark for a tie is this byte twice.
 const MARK: u8 = 255;
@@ -31,25 +24,18 @@ const MAX_CLASSES: usize = 32768;
 // Builds the table of a sheet at the front of `output`: an entry of two bytes, high byte first, for each class of words that differ by a
 // codeword, in the order of their smallest words. It is the pattern with the fewest ones that turns words of the class into codewords, or FFFF
 // where more than one has them. What lies behind the table stays as it was, and with a refusal, 1 to 6 or 13, the whole output does.
-pub fn build_table(sheet: &[u8], output: &mut [u8]) -> Built
+pub fn build_table(sheet: &[u8], output: &mut [u8]) -> Result<(), Refusal>
     ensures result_value { built_reply result ≡ build_answer sheet.now output.old }
     ensures output_after { output.new ≡ build_output sheet.now output.old }
 {
     let mut basis = [0u16; 11];
-    match check_into(sheet, &mut basis) {
-        Sheet::Refused(r) => Built::Refused(r),
-        Sheet::Accepted { d, k } => {
-            let size = 2usize << (d - k);
-            if output.len() < size {
-                return Built::Refused(Refusal {
-                    number: refusal::OUTPUT_SHORT,
-                    place: 0,
-                });
-            }
-            fill_table(sheet, &basis, &mut output[0..size]);
-            Built::Done
-        }
+    let values = check_into(sheet, &mut basis)?;
+    let size = 2usize << (values.d - values.k);
+    if output.len() < size {
+        return Err(Refusal::OutputShort);
     }
+    fill_table(sheet, &basis, &mut output[..size]);
+    Ok(())
 }
 
 // Fills a table of the right length, by an accepted sheet and its echelon form.

@@ -5,7 +5,7 @@ mod building;
 mod looking;
 mod numbering;
 
-pub use building::{Built, build_table};
+pub use building::build_table;
 pub use looking::look_up;
 pub use numbering::{free_digits, squeeze};
 

@@ -5,7 +5,7 @@ ghost use Rattle.tables.specs.Classes.{tie_mark};
 ghost use Rattle.tables.specs.Answer.{look_up_answer};
 
 use crate::numbering::{free_digits, squeeze};
-use inner_code::{Nearest, Refusal, Sheet, check_into, refusal, residue};
+use inner_code::{Refusal, Step, check_into, residue};
 
 // The mark for a tie.
 const MARK: u16 = 65535;
@@ -13,36 +13,25 @@ const MARK: u16 = 65535;
 // The word that a table has for a word, and how many bits it changes: on a table built for the sheet the nearest word. Any bytes are taken for
 // a table: of an entry the low d bits count, and FFFF leaves the word as it is. Refusals 1 to 6, then 12 for a word at or above 2^d, then 13
 // for a table that is too short.
-pub fn look_up(sheet: &[u8], word: u64, table: &[u8]) -> Nearest
+pub fn look_up(sheet: &[u8], word: u64, table: &[u8]) -> Result<Step, Refusal>
     ensures { nearest_reply result ≡ look_up_answer sheet.now word table.now }
 {
     let mut basis = [0u16; 11];
-    match check_into(sheet, &mut basis) {
-        Sheet::Refused(r) => Nearest::Refused(r),
-        Sheet::Accepted { d, k } => {
-            if 1u64 << d <= word {
-                return Nearest::Refused(Refusal {
-                    number: refusal::STRAY_BIT,
-                    place: 0,
-                });
-            }
-            if table.len() < 2usize << (d - k) {
-                return Nearest::Refused(Refusal {
-                    number: refusal::OUTPUT_SHORT,
-                    place: 0,
-                });
-            }
-            let left = residue(&basis, k, word as u16);
-            let class = squeeze(free_digits(&basis, k), left) as usize;
-            let pattern = pattern_of(bits::pair(table, 2 * class), d);
-            let found = word ^ pattern as u64;
-            let changed = u16::count_ones(pattern) as u64;
-            Nearest::Word {
-                word: found,
-                changed,
-            }
-        }
+    let values = check_into(sheet, &mut basis)?;
+    if 1u64 << values.d <= word {
+        return Err(Refusal::StrayBit);
     }
+    if table.len() < 2usize << (values.d - values.k) {
+        return Err(Refusal::OutputShort);
+    }
+    let word = word as u16;
+    let left = residue(&basis, values.k, word);
+    let class = squeeze(free_digits(&basis, values.k), left) as usize;
+    let pattern = pattern_of(bits::pair(table, 2 * class), values.d);
+    Ok(Step {
+        word: word ^ pattern,
+        changed: pattern.count_ones(),
+    })
 }
 
 // The pattern of an entry: its low d bits, and none at the mark.

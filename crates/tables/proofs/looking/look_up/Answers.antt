@@ -1,88 +1,84 @@
 -- `tables::look_up` meets its contract: each return is the outcome of the first test that holds, and the entry that is read is that of the
 -- word's class.
-use mathlib.Core.Path.{◌≡◌, sym, ap, ◌∙◌}
-use mathlib.Core.List.{[], ◌∷◌}
-use Prim.Native.Nat.{ℕ, ◌*◌, ◌-◌, ◌%◌, ◌^◌, ◌<◌, min}
-use native.Mathlib.Omega.{arith}
+use Rattle.std.proofs.Common.{arith, rules, ◌≡◌, sym, ap, ◌∙◌, ℕ, ◌*◌, ◌-◌, ◌%◌, ◌^◌, ◌<◌, min, [], ◌∷◌}
 use lib.Bits.{bit_xor}
-use lib.Count.{ones, ones-le}
+use lib.Count.{ones}
 use lib.Pow.{pow_mono}
 use Rattle.bits.specs.Window.{at}
 use Rattle.bits.proofs.Windows.{shifted_one}
 use Rattle.inner_code.specs.Reply.{done}
 use Rattle.inner_code.specs.Reduction.{reduced_by}
 use Rattle.inner_code.specs.Sheet.{degree, row_count, row_of}
+use Rattle.inner_code.proofs.Replies.{passed-on}
 use Rattle.inner_code.proofs.SheetChecks.{Accepted, accepted, turned-back}
 use Rattle.tables.specs.Answer.{table_bytes}
 use Rattle.tables.specs.Numbering.{free_mask, squeezed_by}
 use Rattle.tables.proofs.Numbers.{class-number}
 use Rattle.tables.proofs.Tables.{size_is, number_is}
 use Rattle.tables.proofs.LookUps.{look-refused, look-high, look-short, look-done, look-pattern}
-use borrow.Author.Rules.{rules}
 use Rattle.tables.proofs.looking.look_up.Goals as goal
-use Rattle.tables.proofs.looking.look_up.Goals.{After-pattern_of-pattern, Else-d-word, In-Accepted}
+use Rattle.tables.proofs.looking.look_up.Goals.{In_ok-values}
 
--- ---- the sheet's check, the call, and what an accepted sheet gives
+-- ---- what an accepted sheet gives
 
-plan : (c : In-Accepted)
-    → Accepted c.args.sheet.now c.check_into.new.basis
-    c.in-Accepted.d c.in-Accepted.k
-plan c = accepted c.check_into.ensures c.in-Accepted.is
+module _ (c : In_ok-values) where
+  sheet : Accepted c.args.sheet.now c.check_into.new.basis c.in_ok-values.values
+  sheet = accepted c.check_into.ensures c.in_ok-values.was
 
-limit : (c : In-Accepted) → (1 * 2 ^ c.in-Accepted.d) % 2 ^ 64 ≡ 2 ^ degree c.args.sheet.now
-limit c =
-    shifted_one c.in-Accepted.d 64 (omega (arith, (plan c).d-is, (plan c).sheet-sound.degree-high))
-    ∙ ap (λ (d : ℕ). 2 ^ d) (plan c).d-is
+  limit : (1 * 2 ^ c.in_ok-values.values.d) % 2 ^ 64 ≡ 2 ^ degree c.args.sheet.now
+  limit = shifted_one c.in_ok-values.values.d 64 (omega (arith, sheet.d-is, sheet.sheet-sound.degree-high)) ∙ ap (λ (d : ℕ). 2 ^ d) sheet.d-is
 
-size : (c : In-Accepted)
-    → (2 * 2 ^ (c.in-Accepted.d - c.in-Accepted.k)) % 18446744073709551616
-    ≡ table_bytes c.args.sheet.now
-size c = size_is _ (plan c).sheet-sound _ _ (plan c).d-is (plan c).k-is
+  size : (2 * 2 ^ (c.in_ok-values.values.d - c.in_ok-values.values.k)) % 18446744073709551616 ≡ table_bytes c.args.sheet.now
+  size = size_is _ sheet.sheet-sound _ _ sheet.d-is sheet.k-is
 
-pub overflow_shl-d : goal.overflow_shl-d
-overflow_shl-d c = omega (arith, (plan c).d-is, (plan c).sheet-sound.degree-high)
+  module _ (below : c.args.word < (1 * 2 ^ c.in_ok-values.values.d) % 2 ^ 64) where
+    low : c.args.word < 2 ^ degree c.args.sheet.now
+    low = omega (arith, limit)
 
-pub returns-then-d-word : goal.returns-then-d-word
-returns-then-d-word c =
-    let args = c.args in
-    look-high args.sheet.now args.word args.table.now (plan (goal.at.returns-then-d-word c).In-Accepted).sheet-done (omega (arith, limit (goal.at.returns-then-d-word c).In-Accepted, c.if-d-word.true))
+    short : c.args.word < 65536
+    short = omega (arith, low, pow_mono {j = 16} sheet.sheet-sound.degree-high)
 
-low : (c : Else-d-word) → let args = c.args in args.word < 2 ^ degree args.sheet.now
-low c = omega (arith, limit (record { before = c.before.before; type_inv = record { basis = c.type_inv.basis; table = c.shared_slice_known-2-1.given; sheet = c.shared_slice_known-1.given } }), c.if-d-word.false)
+pub returns-in_err-values : goal.returns-in_err-values
+returns-in_err-values c =
+    rw (passed-on _ _ c.from_residual.ensures.1) (look-refused _ _ _ _ _ (turned-back c.check_into.ensures c.in_err-values.was))
 
-short : (c : Else-d-word) → c.args.word < 65536
-short c = omega (arith, low c, pow_mono {j = 16} (plan (record { before = c.before.before; type_inv = record { basis = c.type_inv.basis; table = c.shared_slice_known-2-1.given; sheet = c.shared_slice_known-1.given } })).sheet-sound.degree-high)
+pub overflow_shl-values : goal.overflow_shl-values
+overflow_shl-values c = omega (arith, (sheet c).d-is, (sheet c).sheet-sound.degree-high)
 
-pub overflow_sub-d : goal.overflow_sub-d
-overflow_sub-d c = omega (arith, (plan (goal.at.overflow_sub-d c).In-Accepted).d-is, (plan (goal.at.overflow_sub-d c).In-Accepted).k-is, (plan (goal.at.overflow_sub-d c).In-Accepted).sheet-sound.count-degree)
+pub returns-then-values-word : goal.returns-then-values-word
+returns-then-values-word c =
+    let at = (goal.at.returns-then-values-word c).In_ok-values in
+    look-high c.args.sheet.now c.args.word c.args.table.now (sheet at).sheet-done (omega (arith, limit at, c.if-values-word.true))
 
-pub overflow_shl-d-in-Accepted : goal.overflow_shl-d-in-Accepted
-overflow_shl-d-in-Accepted c = omega (arith, (plan (goal.at.overflow_shl-d-in-Accepted c).In-Accepted).d-is, (plan (goal.at.overflow_shl-d-in-Accepted c).In-Accepted).sheet-sound.degree-high)
+pub overflow_sub-values : goal.overflow_sub-values
+overflow_sub-values c =
+    let s = sheet (goal.at.overflow_sub-values c).In_ok-values in
+    omega (arith, s.d-is, s.k-is, s.sheet-sound.count-degree)
 
-pub returns-then-table-d : goal.returns-then-table-d
-returns-then-table-d c =
-    let args = c.args in
-    look-short args.sheet.now args.word args.table.now (plan (goal.at.returns-then-table-d c).In-Accepted).sheet-done (low (goal.at.returns-then-table-d c).Else-d-word)
-    (omega (arith, size (goal.at.returns-then-table-d c).In-Accepted, c.if-table-d.true))
+pub overflow_shl-values-2 : goal.overflow_shl-values-2
+overflow_shl-values-2 c =
+    let s = sheet (goal.at.overflow_shl-values-2 c).In_ok-values in
+    omega (arith, s.d-is, s.sheet-sound.degree-high)
+
+pub returns-then-table-values : goal.returns-then-table-values
+returns-then-table-values c =
+    let at = (goal.at.returns-then-table-values c).In_ok-values in
+    look-short c.args.sheet.now c.args.word c.args.table.now (sheet at).sheet-done (low at c.if-values-word.false)
+    (omega (arith, size at, c.if-table-values.true))
 
 pub overflow_cast-word : goal.overflow_cast-word
-overflow_cast-word c = omega (arith, short (goal.at.overflow_cast-word c).Else-d-word)
+overflow_cast-word c = omega (arith, short (goal.at.overflow_cast-word c).In_ok-values c.if-values-word.false)
 
 pub pattern_of-pattern-requires : goal.pattern_of-pattern-requires
-pattern_of-pattern-requires c = omega (arith, (plan (goal.at.pattern_of-pattern-requires c).In-Accepted).d-is, (plan (goal.at.pattern_of-pattern-requires c).In-Accepted).sheet-sound.degree-high)
+pattern_of-pattern-requires c =
+    let s = sheet (goal.at.pattern_of-pattern-requires c).In_ok-values in
+    omega (arith, s.d-is, s.sheet-sound.degree-high)
 
-pattern-low : (c : After-pattern_of-pattern) → c.pattern_of-pattern.result < 65536
-pattern-low c = search rules
-
-pub overflow_cast-changed : goal.overflow_cast-changed
-overflow_cast-changed c = omega (arith, ones-le 16 c.pattern_of-pattern.result (pattern-low c))
-
-pub returns-in-Refused : goal.returns-in-Refused
-returns-in-Refused c = look-refused _ _ _ _ _ (turned-back c.check_into.ensures c.in-Refused.is)
-
-pub returns-else-table-d : goal.returns-else-table-d
-returns-else-table-d c =
-    let p = plan (goal.at.returns-else-table-d c).In-Accepted in
+pub returns : goal.returns
+returns c =
+    let place = (goal.at.returns c).In_ok-values in
+    let below = c.if-values-word.false in
+    let p = sheet place in
     let args = c.args in
     let sheet = args.sheet.now in
     let basis = c.check_into.new.basis in
@@ -92,7 +88,7 @@ returns-else-table-d c =
     ∙ ap (λ (m : ℕ). squeezed_by m 16 left.result) (c.free_digits.ensures ∙ ap (free_mask (at basis)) rows)
     ∙ number_is sheet p.sheet-sound basis p.basis-is args.word left.result
     (left.ensures ∙ ap (λ (n : ℕ). reduced_by (at basis) n args.word) rows)
-    ∙ sym (class-number (row_of sheet) (row_count sheet) args.word (short (goal.at.returns-else-table-d c).Else-d-word)) in
+    ∙ sym (class-number (row_of sheet) (row_count sheet) args.word (short place below)) in
     ap (λ (x : ℕ). done (bit_xor args.word x ∷ ones x ∷ []))
     (look-pattern sheet args.word args.table.now _ _ _ _ class c.pair.ensures c.pattern_of-pattern.ensures p.d-is)
-    ∙ look-done sheet args.word args.table.now p.sheet-done (low (goal.at.returns-else-table-d c).Else-d-word) (omega (arith, size (goal.at.returns-else-table-d c).In-Accepted, c.if-table-d.false))
+    ∙ look-done sheet args.word args.table.now p.sheet-done (low place below) (omega (arith, size place, c.if-table-values.false))
