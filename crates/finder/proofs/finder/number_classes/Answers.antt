@@ -70,8 +70,9 @@ returns c =
     let args = c.args in
     let sheet = args.sheet.now in
     let finder = args.finder.now in
+    let mask = c.free_digits-mask in
     let row = power_number args.basis.now (row_count sheet) in
     ap (λ (l : List ℕ). set l 2 1)
-    (c.tabulate_halves.ensures row (λ from b r low gives. number-is args.basis.now (row_count sheet) from b c.free_digits-mask.result r c.free_digits-mask.ensures (search rules))
+    (c.tabulate_halves.ensures row (λ from b r low gives. number-is args.basis.now (row_count sheet) from b mask.result r mask.ensures (search rules))
     ∙ ap (with_halves row (degree sheet))
     (back-is 544 2048 c.make_entries.new.entries finder finder (sheet_entries sheet) c.make_entries.ensures refl))
