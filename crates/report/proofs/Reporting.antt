@@ -6,25 +6,23 @@
 --   run_start, ends_at, run_count, run_bytes, pair_bytes   where runs begin and end, their number and their bytes (specs Report)
 --   written front l      the list l with `front` at its beginning (bits specs Bit)
 --   sets l i vs          the list l with `vs` stored from index i on (lib.Seq)
---   put_mid i k l vs     the list l with `vs` in the place of the k elements from index i on (borrow.Rule.Slice.PartMut)
 --   Outcome .. reply left   `reply` is what the service answers and `left` is the list that it leaves
 -- A stretch is m bits from bit i on, at least one, that all fail the test: a run may end before it, and none begins in it.
 -- Laws are named by their subject, then by the fact: `agreeing-` is about what two blocks say, `inside-` about runs after one bit that
 -- passes, `stretch-` about runs after a stretch, `written-` about the list with the runs that have ended, `outcome-` about the service, one
 -- outcome each, in the order of its checks. At the end of a name, `-ends` is a run that ends before the stretch, `-none` no such run.
--- `stored-part` and `stored-pair` are about the stores of one run; `blocks-held` and `edges_few` lead from the checks to what a walk over the bits needs.
+-- `stored-pair` is about the stores of one run; `blocks-held` and `edges_few` lead from the checks to what a walk over the bits needs.
 use Prim.Native.Nat.{ℕ, zero, suc, ◌+◌, ◌-◌, ◌*◌, ◌/◌, ◌%◌, ◌≤◌, ◌<◌}
 use mathlib.Core.Bool.{Bool, true, false, not}
-use mathlib.Core.List.{List, [], ◌∷◌, ◌++◌, append_assoc}
+use mathlib.Core.List.{List, [], ◌∷◌, ◌++◌}
 use mathlib.Core.Path.{◌≡◌, refl, sym, ap, ◌∙◌}
 use native.Mathlib.Nat.{add-zero, add-suc, lt-suc_self, le_step, not-suc-le-zero}
 use native.Mathlib.Numerals.{add-one}
 use native.Mathlib.Omega.{arith}
-use lib.ListN.{length, get_or, take, drop}
+use lib.ListN.{length, get_or, set}
 use lib.Dec.{eqb}
-use lib.Seq.{drop-drop, sets, sets-eq, length-sets}
+use lib.Seq.{sets}
 use borrow.Author.Tests.{eqb-true, eqb-false, ne_eqb}
-use borrow.Rule.Slice.PartMut.{put_mid}
 use mir.Val.{bool_byte}
 use Rattle.bits.specs.Bit.{bit_at, written}
 use Rattle.inner_code.specs.Reply.{Reply, done, refused}
@@ -133,25 +131,15 @@ module _ (test : ℕ → Bool) (i : ℕ) where
 
 -- ---- runs stored one behind the other
 
--- a part of a list that is copied over is stores behind each other
-stored-part : (l bytes : List ℕ) (at k : ℕ) → k ≡ length bytes → at + k ≤ length l → put_mid at k l bytes ≡ sets l at bytes
-stored-part l bytes at k e room = rw (e, drop-drop) (sym (sets-eq bytes l at (omega arith) ∙ append_assoc (take at l) bytes (drop (at + length bytes) l)))
-
--- two numbers copied behind each other are a pair
-pub stored-pair : (l : List ℕ) (at a b : ℕ) {first second : List ℕ} → at + 4 ≤ length l → a < 65536 → b < 65536
-    → first ≡ a / 256 % 256 ∷ a % 256 ∷ [] → second ≡ b / 256 % 256 ∷ b % 256 ∷ []
-    → put_mid (at + 2) (at + 4 - (at + 2)) (put_mid at (at + 2 - at) l first) second ≡ sets l at (pair_bytes a b)
+-- four stores behind each other store a pair
+pub stored-pair : (l : List ℕ) (at a b : ℕ)
+    → set (set (set (set l at (a / 256)) (at + 1) (a % 256)) (at + 2) (b / 256)) (at + 3) (b % 256) ≡ sets l at (pair_bytes a b)
 unfolding pair_bytes
-stored-pair l at a b {first} {second} room low low' e f =
-    let high : a / 256 % 256 ≡ a / 256 = omega arith in
-    let high' : b / 256 % 256 ≡ b / 256 = omega arith in
+stored-pair l at a b =
+    let second : at + 1 ≡ suc at = omega arith in
     let third : at + 2 ≡ suc (suc at) = omega arith in
-    let two : at + 2 - at ≡ length first = omega (arith, ap length e) in
-    let two' : at + 4 - (at + 2) ≡ length second = omega (arith, ap length f) in
-    let one = stored-part l first at (at + 2 - at) two (omega arith) in
-    rw one
-    (stored-part (sets l at first) second (at + 2) (at + 4 - (at + 2)) two' (omega (arith, length-sets l at first))
-    ∙ rw (third, e, f, high, high'))
+    let fourth : at + 3 ≡ suc (suc (suc at)) = omega arith in
+    rw (second, third, fourth)
 
 length-pair : (a b : ℕ) → length (pair_bytes a b) ≡ 4
 unfolding pair_bytes

