@@ -8,17 +8,18 @@
 -- Laws are named by their subject, then by the fact: `-none` and `-one-more` are the start of a loop and one turn of it, `-le` and
 -- `-low` are bounds, `-walkable`, `-countable` and `-summable` lead to what the next step needs to know. The theorem is walked-spread: what
 -- the walks give is the spread of specs/Spread.antt.
-use Prim.Native.Nat.{ℕ, zero, suc, ◌+◌, ◌*◌, ◌-◌, ◌≤◌, ◌<◌, max, zero-le}
-use mathlib.Core.List.{List}
+use Prim.Native.Nat.{ℕ, zero, suc, ◌+◌, ◌*◌, ◌-◌, ◌≤◌, ◌<◌, max}
+use mathlib.Core.List.{List, ◌++◌}
 use mathlib.Core.Path.{◌≡◌, refl, sym, ap, ap₂, ◌∙◌}
 use native.Mathlib.Nat.{mul-le-mul, mul-le-mul_left, mul-le-mul_right, le_refl, le_step}
 use native.Mathlib.Decide.{ℕ_discrete}
 use native.Mathlib.Numerals.{add-one}
 use native.Mathlib.Omega.{arith}
 use lib.Dec.{eqb}
-use lib.ListN.{length, set, length-set}
+use lib.ListN.{length, set, get_or, get_or-append, length-append, replicate, length-replicate, get_or-replicate, take, drop}
+use Rattle.std.proofs.lemmas.List.{length-take, length-drop, get_or-take, get_or-drop}
 use Rattle.bits.specs.Window.{at}
-use Rattle.bits.specs.Sum.{sum, gap, flag}
+use Rattle.bits.specs.Sum.{gap, flag}
 use Rattle.bits.proofs.Sums.{count-le, flag-apart, flag-equal, sum-const, sum-ext, sum_mono, sum-one-more}
 use Rattle.bits.specs.Search.{largest}
 use Rattle.inner_code.specs.Sheet.{degree}
@@ -33,6 +34,16 @@ use Rattle.wiring.proofs.EdgeEnds.{noted-right, noted-ends}
 use Rattle.meetings.specs.Spread.{meeting, unevenness, spread}
 use Rattle.meetings.specs.Walk.{Ends, arrivals, walked, Fresh, Countable, Walkable, Counted, Summable, uneven_by, walked_uneven, largest_walked}
 use lib.Arith.{digits_lt}
+
+-- ---- d elements of a list, from one on
+
+module _ (l : List ℕ) (from d : ℕ) where
+  pub length-part : from + d ≤ length l → length (take (from + d - from) (drop from l)) ≡ d
+  length-part room = omega (arith, length-take (from + d - from) (drop from l), length-drop from l)
+
+  pub part-at : (i : ℕ) → i < d → get_or (take (from + d - from) (drop from l)) i 0 ≡ at l (from + i)
+  unfolding at
+  part-at i h = get_or-take (from + d - from) (drop from l) i 0 (omega arith) ∙ get_or-drop from l i 0
 
 -- ---- the counts
 
@@ -91,17 +102,13 @@ pub counted-low : (lefts : List ℕ) (from d m : ℕ) (before counts : List ℕ)
 counted-low lefts from d m before counts fit l r =
     omega (arith, fit.d-high, fit.count_low m l, r.count-is _ (fit.left_lt m l), arrivals-le (at lefts) from m (at lefts (from + m)))
 
-pub fresh-none : (counts : List ℕ) → Fresh 0 counts
-fresh-none counts = record { sized = zero-le; count_none = λ w l. absurd (omega arith) }
-
-pub fresh-one-more : (w : ℕ) (counts : List ℕ) → w < length counts → Fresh w counts → Fresh (w + 1) (set counts w 0)
-fresh-one-more w counts room r =
+pub fresh-filled : (n : ℕ) (zeros rest : List ℕ) → zeros ≡ replicate n 0 → Fresh n (zeros ++ rest)
+unfolding at
+fresh-filled n zeros rest e =
+    let sized : length zeros ≡ n = rw e (length-replicate n 0) in
     record {
-      sized = rw length-set (omega arith);
-      count_none = λ v l. elim (ℕ_discrete v w) [
-        | yes e ↦ rw e (at_set_same counts w 0 room)
-        | no h ↦ at_set_other counts w v 0 h ∙ r.count_none v (omega arith)
-      ];
+      sized = rw (length-append zeros rest) (omega arith);
+      count_none = λ w l. get_or-append zeros rest 0 w (omega arith) ∙ rw e (get_or-replicate n w 0 0 l);
     }
 
 -- ---- the sum over the counts
@@ -110,24 +117,13 @@ pub uneven-none : (count : ℕ → ℕ) (n d : ℕ) → uneven_by count n d 0 �
 unfolding uneven_by
 uneven-none count n d = refl
 
-uneven-one-more : (count : ℕ → ℕ) (n d m : ℕ) → uneven_by count n d (m + 1) ≡ uneven_by count n d m + gap (n * count m) (d * d)
+pub uneven-one-more : (count : ℕ → ℕ) (n d m : ℕ) → uneven_by count n d (m + 1) ≡ uneven_by count n d m + gap (n * count m) (d * d)
 unfolding uneven_by
 uneven-one-more count n d m = sum-one-more m _
 
 uneven-ext : (count other : ℕ → ℕ) (n d m : ℕ) → ((w : ℕ) → w < m → count w ≡ other w) → uneven_by count n d m ≡ uneven_by other n d m
 unfolding uneven_by
 uneven-ext count other n d m same = sum-ext m _ _ (λ w l. ap (λ (x : ℕ). gap (n * x) (d * d)) (same w l))
-
--- the count is below its even share, or not
-pub uneven-under : (count : ℕ → ℕ) (n d m sum : ℕ) → sum ≡ uneven_by count n d m → n * count m < d * d
-    → sum + (d * d - n * count m) ≡ uneven_by count n d (m + 1)
-unfolding gap
-uneven-under count n d m sum e h = omega (arith, uneven-one-more count n d m)
-
-pub uneven-over : (count : ℕ → ℕ) (n d m sum : ℕ) → sum ≡ uneven_by count n d m → d * d ≤ n * count m
-    → sum + (n * count m - d * d) ≡ uneven_by count n d (m + 1)
-unfolding gap
-uneven-over count n d m sum e h = omega (arith, uneven-one-more count n d m)
 
 module _ {nl nr : ℕ} {counts : List ℕ} (s : Summable nl nr counts) where
   pub met-le : (w : ℕ) → w < nl → nr * at counts w ≤ 524288
@@ -223,17 +219,9 @@ module _ (left right : ℕ → ℕ) (nl nr dl dr : ℕ) where
   unfolding largest_walked largest
   largest-none = refl
 
-  largest-one-more : (u : ℕ) → largest_walked left right nl nr dl dr (u + 1) ≡ max (largest_walked left right nl nr dl dr u) (walked_uneven left right nl nr dl dr u)
+  pub largest-one-more : (u : ℕ) → largest_walked left right nl nr dl dr (u + 1) ≡ max (largest_walked left right nl nr dl dr u) (walked_uneven left right nl nr dl dr u)
   unfolding largest_walked largest
   largest-one-more u = rw add-one
-
-  pub largest-raised : (u top sum : ℕ) → top ≡ largest_walked left right nl nr dl dr u → sum ≡ walked_uneven left right nl nr dl dr u → top < sum
-      → sum ≡ largest_walked left right nl nr dl dr (u + 1)
-  largest-raised u top sum e f h = omega (arith, largest-one-more u)
-
-  pub largest-kept : (u top sum : ℕ) → top ≡ largest_walked left right nl nr dl dr u → sum ≡ walked_uneven left right nl nr dl dr u → sum ≤ top
-      → top ≡ largest_walked left right nl nr dl dr (u + 1)
-  largest-kept u top sum e f h = omega (arith, largest-one-more u)
 
 -- ---- the spread
 

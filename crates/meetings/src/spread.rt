@@ -1,12 +1,12 @@
 // The spread, measured from the wiring's own entries: for each left vertex the walk goes over its edges, and then over the edges of
 // each right vertex met, and counts where it ends.
-ghost use Rattle.std.specs.Prelude.{◌≡◌, ◌≤◌, length};
+ghost use Rattle.std.specs.Prelude.{◌≡◌, ◌≤◌};
 ghost use Rattle.bits.specs.Window.{at};
 ghost use Rattle.wiring.specs.Plan.{Plan, plan_of, plan_at, side_of};
 ghost use Rattle.wiring.specs.Checking.{WiredPlan};
 ghost use Rattle.meetings.specs.Spread.{spread};
 ghost use Rattle.meetings.specs.Answer.{spread_answer, spread_reply};
-ghost use Rattle.meetings.specs.Walk.{Ends, arrivals, walked, Fresh, Countable, Walkable, Counted, Summable, uneven_by, largest_walked};
+ghost use Rattle.meetings.specs.Walk.{Ends, arrivals, walked, Countable, Walkable, Counted, Summable, uneven_by, largest_walked};
 
 use inner_code::Refusal;
 use wiring::{Checked, check_plan};
@@ -57,29 +57,12 @@ fn largest_unevenness(
 {
     let mut counts = [0u32; 2048];
     let mut largest: u64 = 0;
-    let mut u: usize = 0;
-    while u < nl {
-        clear(&mut counts, nl);
+    for u in 0..nl {
+        counts[..nl].fill(0);
         walk(lefts, rights, u * dl, dl, dr, &mut counts);
-        let sum = unevenness_of(&counts, nl, nr, dl);
-        if largest < sum {
-            largest = sum;
-        }
-        u += 1;
+        largest = largest.max(unevenness_of(&counts, nl, nr, dl));
     }
     largest
-}
-
-// Sets the first n counts to 0.
-fn clear(counts: &mut [u32], n: usize)
-    requires { n ≤ length counts.old }
-    ensures { Fresh n counts.new }
-{
-    let mut w: usize = 0;
-    while w < n {
-        counts[w] = 0;
-        w += 1;
-    }
 }
 
 // One for each edge of each right vertex that the dl edges from `base` on meet, at that edge's left vertex.
@@ -87,11 +70,8 @@ fn walk(lefts: &[u16], rights: &[u16], base: usize, dl: usize, dr: usize, counts
     requires { Walkable lefts.now rights.now base dl dr counts.old }
     ensures { Counted (walked (at lefts.now) (at rights.now) dr base dl) counts.old counts.new }
 {
-    let mut j: usize = 0;
-    while j < dl {
-        let right = rights[base + j] as usize;
-        count_edges(lefts, right * dr, dr, counts);
-        j += 1;
+    for &right in &rights[base..base + dl] {
+        count_edges(lefts, right as usize * dr, dr, counts);
     }
 }
 
@@ -100,11 +80,8 @@ fn count_edges(lefts: &[u16], from: usize, d: usize, counts: &mut [u32])
     requires { Countable lefts.now from d counts.old }
     ensures { Counted (arrivals (at lefts.now) from d) counts.old counts.new }
 {
-    let mut i: usize = 0;
-    while i < d {
-        let left = lefts[from + i] as usize;
-        counts[left] += 1;
-        i += 1;
+    for &left in &lefts[from..from + d] {
+        counts[left as usize] += 1;
     }
 }
 
@@ -117,15 +94,9 @@ fn unevenness_of(counts: &[u32], nl: usize, nr: usize, dl: usize) -> u64
     let even = (dl * dl) as u32;
     let factor = nr as u32;
     let mut sum: u32 = 0;
-    let mut w: usize = 0;
-    while w < nl {
-        let met = factor * counts[w];
-        if met < even {
-            sum += even - met;
-        } else {
-            sum += met - even;
-        }
-        w += 1;
+    for &count in &counts[..nl] {
+        let met = factor * count;
+        sum += met.abs_diff(even);
     }
     sum as u64
 }

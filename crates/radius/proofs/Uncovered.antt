@@ -3,14 +3,15 @@
 -- Names: the subject first, then the fact.
 --   beyond-covers              what is below the first F that is not covered is covered
 --   beyond-is                  which F is the first that is not covered
+--   beyond-all                 it is N + 1 where all up to N are
 use Prim.Native.Nat.{ℕ, ◌+◌, ◌≤◌, ◌<◌}
-use mathlib.Core.Path.{◌≡◌, ◌∙◌}
+use mathlib.Core.Path.{◌≡◌, sym, ◌∙◌}
 use native.Mathlib.Decide.{dec_le}
 use native.Mathlib.Omega.{arith}
 use borrow.Author.Tests.{ltb-true, lt-ltb, le-ltb}
 use Rattle.bits.proofs.Searches.{first-at, first-all, first-passed}
 use Rattle.radius.specs.Margin.{Measures, sweeps_named, beyond}
-use Rattle.radius.proofs.MarginChain.{named_small}
+use Rattle.radius.proofs.MarginChain.{named_small, named-over}
 
 module _ (m : Measures) where
   pub beyond-covers : (F : ℕ) → F < beyond m → 0 < sweeps_named m F
@@ -32,3 +33,6 @@ module _ (m : Measures) where
             | yes l ↦ omega arith
             | no h ↦ absurd (omega (arith, named_small m (m.edges + 1) (λ z. omega (arith, below (m.edges + 1) (omega arith)))))
           ]
+
+  pub beyond-all : ((F : ℕ) → F < m.edges + 1 → 0 < sweeps_named m F) → m.edges + 1 ≡ beyond m
+  beyond-all all = sym (beyond-is (m.edges + 1) all (named-over m (m.edges + 1) (omega arith)))

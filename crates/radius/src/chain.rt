@@ -24,11 +24,13 @@ pub fn first_uncovered(plan: PlanNumbers) -> u64
     requires { InRange plan }
     ensures { result ≡ beyond (measures_by plan) }
 {
-    let mut flips: u64 = 0;
-    while 0 < sweeps_named(plan, flips) {
-        flips += 1;
+    let edges = plan.nl * plan.dl;
+    for flips in 0..=edges {
+        if sweeps_named(plan, flips) == 0 {
+            return flips;
+        }
     }
-    flips
+    edges + 1
 }
 
 // The first b of the chain: 2F/D, rounded down, with the D of the left side.
@@ -50,6 +52,7 @@ fn chain(plan: PlanNumbers, first: u64) -> u64
     let mut to = SideName::Right;
     let mut b = first;
     let mut place: u64 = 1;
+    // A while: the steps go along the chain of b, whose length is what is asked for.
     while 0 < b {
         let whole = distance_to(plan, to) * plan.nr;
         let taken = 2 * plan.dl * b;

@@ -13,7 +13,7 @@ use wiring::{Checked, check_plan};
 
 // A plan's numbers, in the order in which the program `margin` writes them: the sides' vertex counts n, degrees d, row counts k and inner
 // distances, left before right, and the spread of the wiring.
-#[derive(Clone, Copy)]
+#[derive(Clone, Copy, Debug, PartialEq, Eq)]
 pub struct PlanNumbers {
     pub nl: u64,
     pub nr: u64,

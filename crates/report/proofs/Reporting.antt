@@ -20,8 +20,10 @@ use native.Mathlib.Nat.{add-zero, add-suc, lt-suc_self, le_step, not-suc-le-zero
 use native.Mathlib.Numerals.{add-one}
 use native.Mathlib.Omega.{arith}
 use lib.ListN.{length, get_or, set}
+use lib.Dec.{eqb}
 use lib.Seq.{sets}
-use borrow.Author.Tests.{ne_eqb}
+use borrow.Author.Tests.{eqb-true, eqb-false, ne_eqb}
+use mir.Val.{bool_byte}
 use Rattle.bits.specs.Bit.{bit_at, written}
 use Rattle.inner_code.specs.Reply.{Reply, done, refused}
 use Rattle.wiring.specs.Wiring.{plan_check}
@@ -60,7 +62,7 @@ module _ (a b : List ℕ) where
         }
 
     module _ (x y : ℕ) (read_a : x ≡ bit_at a i) (read-b : y ≡ bit_at b i) (inside : i ≤ N) where
-      pub agreeing-bit : x ≡ y → Agreeing a b N i 1
+      agreeing-bit : x ≡ y → Agreeing a b N i 1
       agreeing-bit e =
           record {
             within = omega arith;
@@ -68,13 +70,17 @@ module _ (a b : List ℕ) where
             each = λ j l. let same : i + j ≡ i = omega arith in rw same (differs-agree a b i (sym read_a ∙ e ∙ read-b));
           }
 
-      pub agreeing-none : (x ≡ y → ⊥) → Agreeing a b N i 0
+      agreeing-none : (x ≡ y → ⊥) → Agreeing a b N i 0
       agreeing-none e =
           record {
             within = omega arith;
             none = λ z. bits-differ i (λ q. e (read_a ∙ q ∙ sym read-b));
             each = λ j l. absurd (not-suc-le-zero l);
           }
+
+      pub agreeing-flag : (t : Bool) → eqb x y ≡ t → Agreeing a b N i (bool_byte t)
+      agreeing-flag true e = agreeing-bit (eqb-true x y e)
+      agreeing-flag false e = agreeing-none (eqb-false x y e)
 
 -- ---- runs after a bit and after a stretch
 

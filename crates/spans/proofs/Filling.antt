@@ -276,7 +276,7 @@ module _ (b i : ℕ) (block : List ℕ) (bit : b < 2) (inside : i < length block
         | no q ↦ stored_other e q ∙ sym (made-outside b (8 * i) bit 8 block e (apart e q))
       ])
 
--- the next byte, where those from `first` to before i are made: in the block, and past its end
+-- the next byte, where those from `first` to before i are made, and all up to `last` where the block ends
 module _ (b first i : ℕ) (before block : List ℕ) (low : first ≤ i) (is : block ≡ made b (8 * first) (8 * (i - first)) before) where
   bytes_next : made b (8 * i) 8 block ≡ made b (8 * first) (8 * (i + 1 - first)) before
   bytes_next =
@@ -289,8 +289,16 @@ module _ (b first i : ℕ) (before block : List ℕ) (low : first ≤ i) (is : b
   bytes-stored bit inside small =
       made-byte b i block bit inside (rw is (made_bytes b (8 * first) bit (8 * (i - first)) before small)) ∙ bytes_next
 
-  pub bytes_past : length block ≤ i → block ≡ made b (8 * first) (8 * (i + 1 - first)) before
-  bytes_past past = sym (made-past b (8 * i) 8 block (omega arith)) ∙ bytes_next
+  pub bytes-end : (last : ℕ) → i ≤ last → (i < last → length block ≤ i) → block ≡ made b (8 * first) (8 * (last - first)) before
+  bytes-end last high past =
+      elim (dec_le last i) [
+        | yes h ↦ let same : last ≡ i = omega arith in rw same is
+        | no h ↦
+            let split : 8 * (last - first) ≡ 8 * (i - first) + 8 * (last - i) = omega arith in
+            let here : 8 * first + 8 * (i - first) ≡ 8 * i = omega arith in
+            sym (rw (split, made-append b (8 * first) (8 * (i - first)) (8 * (last - i)) before, here, ← is)
+            (made-past b (8 * i) (8 * (last - i)) block (omega (arith, past (omega arith)))))
+      ]
 
 -- ---- pair after pair
 

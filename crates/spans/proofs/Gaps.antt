@@ -132,12 +132,8 @@ pub gaps-one-more : (lost a b : List ℕ) (j : ℕ)
 gaps-one-more lost a b j = ap (flips_in_gaps lost a b) (add-one j) ∙ gaps-suc lost a b j
 
 -- the farthest end after one more pair, as the code finds it
-module _ (lost : List ℕ) (j far end : ℕ) (so_far : far ≡ reach lost j) (is : end ≡ end_of lost j) where
-  pub reach-farther : far < end → end ≡ reach lost (j + 1)
-  reach-farther l = omega (arith, ap (reach lost) (add-one j), reach-suc lost j)
-
-  pub reach-stays : end ≤ far → far ≡ reach lost (j + 1)
-  reach-stays l = omega (arith, ap (reach lost) (add-one j), reach-suc lost j)
+pub reach-more : (lost : List ℕ) (j far end : ℕ) → far ≡ reach lost j → end ≡ end_of lost j → max far end ≡ reach lost (j + 1)
+reach-more lost j far end so_far is = omega (arith, ap (reach lost) (add-one j), reach-suc lost j)
 
 -- the gaps lie before the farthest end, one behind the other
 pub gaps-le : (lost a b : List ℕ) (m : ℕ) → flips_in_gaps lost a b m ≤ reach lost m

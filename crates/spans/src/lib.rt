@@ -23,22 +23,17 @@ pub fn check_spans(bits: usize, lost: &[u8]) -> Checked
     }
     let pairs = lost.len() / PAIR_BYTES;
     let mut before = 0;
-    let mut j = 0;
-    while j < pairs {
+    for j in 0..pairs {
         let start = start_of(lost, j);
         let length = length_of(lost, j);
         let end = start + length;
-        if length == 0 {
-            return refuse(refusal::SPAN_OUT_OF_BLOCK);
-        }
-        if bits < end {
+        if length == 0 || bits < end {
             return refuse(refusal::SPAN_OUT_OF_BLOCK);
         }
         if start < before {
             return refuse(refusal::SPAN_OUT_OF_ORDER);
         }
         before = end;
-        j += 1;
     }
     Checked::Passed
 }
@@ -48,11 +43,9 @@ pub fn fill(lost: &[u8], value: u64, block: &mut [u8])
     ensures { block.new ≡ filled (value % 2) lost.now block.old }
 {
     let pairs = lost.len() / PAIR_BYTES;
-    let mut j = 0;
-    while j < pairs {
+    for j in 0..pairs {
         let start = start_of(lost, j);
         make(start, start + length_of(lost, j), value, block);
-        j += 1;
     }
 }
 
@@ -64,15 +57,11 @@ pub fn flips_outside(bits: usize, lost: &[u8], a: &[u8], b: &[u8]) -> usize
     let pairs = lost.len() / PAIR_BYTES;
     let mut count = 0;
     let mut reach = 0;
-    let mut j = 0;
-    while j < pairs {
+    for j in 0..pairs {
         let start = start_of(lost, j);
         let end = start + length_of(lost, j);
         count += flips_between(a, b, reach, start);
-        if reach < end {
-            reach = end;
-        }
-        j += 1;
+        reach = reach.max(end);
     }
     count + flips_between(a, b, reach, bits)
 }
@@ -114,25 +103,19 @@ fn make_bits(from: usize, to: usize, value: u64, block: &mut [u8])
     requires { from ≤ to }
     ensures { block.new ≡ made (value % 2) from (to - from) block.old }
 {
-    let mut i = from;
-    while i < to {
+    for i in from..to {
         bits::put_bit(block, i, value);
-        i += 1;
     }
 }
 
-// The same for all bits of the bytes from `first` to before `last`. That no byte is above 255 is asked, since a store alone does not show it.
+// The same for all bits of the bytes from `first` to before `last`.
 fn make_bytes(first: usize, last: usize, value: u64, block: &mut [u8])
-    requires { (first ≤ last) × (last < 131072) × ((k : ℕ) → get_or block.old k 0 < 256) }
+    requires { first ≤ last }
     ensures { block.new ≡ made (value % 2) (8 * first) (8 * (last - first)) block.old }
 {
     let byte = (value % 2 * 255) as u8;
-    let mut i = first;
-    while i < last {
-        if i < block.len() {
-            block[i] = byte;
-        }
-        i += 1;
+    for i in first..last.min(block.len()) {
+        block[i] = byte;
     }
 }
 
@@ -143,13 +126,7 @@ fn flips_between(a: &[u8], b: &[u8], from: usize, to: usize) -> usize
 {
     let first = (from + 7) / 8;
     let last = to / 8;
-    if last <= first {
-        return flips_of_bits(a, b, from, to);
-    }
-    if a.len() < last {
-        return flips_of_bits(a, b, from, to);
-    }
-    if b.len() < last {
+    if last <= first || a.len() < last || b.len() < last {
         return flips_of_bits(a, b, from, to);
     }
     flips_of_bits(a, b, from, 8 * first)
@@ -162,10 +139,8 @@ fn flips_of_bits(a: &[u8], b: &[u8], from: usize, to: usize) -> usize
     ensures { (result ≡ flips_between a.now b.now from to) × (result ≤ to - from) }
 {
     let mut count = 0;
-    let mut i = from;
-    while i < to {
+    for i in from..to {
         count += (bits::bit(a, i) ^ bits::bit(b, i)) as usize;
-        i += 1;
     }
     count
 }
@@ -176,10 +151,8 @@ fn flips_of_bytes(a: &[u8], b: &[u8], first: usize, last: usize) -> usize
     ensures { (result ≡ flips_between a.now b.now (8 * first) (8 * last)) × (result ≤ 8 * (last - first)) }
 {
     let mut count = 0;
-    let mut i = first;
-    while i < last {
-        count += u8::count_ones(a[i] ^ b[i]) as usize;
-        i += 1;
+    for i in first..last {
+        count += (a[i] ^ b[i]).count_ones() as usize;
     }
     count
 }

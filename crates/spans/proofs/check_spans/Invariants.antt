@@ -1,4 +1,3 @@
-use Prim.Native.Nat.{◌-◌, ◌≤◌}
 use mathlib.Core.List.{[]}
 use mathlib.Core.Path.{◌≡◌}
 use Rattle.inner_code.specs.Reply.{done}
@@ -7,7 +6,4 @@ use Rattle.spans.proofs.check_spans.Given as goal
 
 abbrev pub invariant-loop-j : goal.invariant-loop-j
 invariant-loop-j l =
-    (l.j ≤ l.pairs) × (pairs_check l.bits l.lost l.j ≡ done []) × (l.before ≡ end_before l.lost l.j)
-
-abbrev pub decreases-loop-j : goal.decreases-loop-j
-decreases-loop-j l = l.pairs - l.j
+    (pairs_check l.bits l.lost l.j ≡ done []) × (l.before ≡ end_before l.lost l.j)

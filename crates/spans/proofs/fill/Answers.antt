@@ -3,41 +3,29 @@ use borrow.Author.Rules.{rules}
 use Prim.Native.Nat.{ℕ, ◌%◌}
 use mathlib.Core.Path.{◌≡◌, sym, ap, ◌∙◌}
 use native.Mathlib.Omega.{arith}
-use lib.ListN.{length}
 use Rattle.spans.specs.Spans.{pair_count}
 use Rattle.spans.specs.Walking.{pairs_made}
-use Rattle.spans.proofs.Filling.{pairs_made-zero, pairs_made-next, pairs_made-filled, length-pairs_made}
+use Rattle.spans.proofs.Filling.{pairs_made-zero, pairs_made-next, pairs_made-filled}
 use Rattle.spans.proofs.fill.Goals as goal
 use Rattle.spans.proofs.fill.Goals.{After-loop-j}
 
 pub loop-j-init : goal.loop-j-init
-loop-j-init c =
-    let args = c.args in
-    (search rules, sym (pairs_made-zero (args.value % 2) args.lost.now args.block.now))
+loop-j-init c = sym (pairs_made-zero (c.args.value % 2) c.args.lost.now c.args.block.now)
 
 pub loop-j-preserved : goal.loop-j-preserved
 loop-j-preserved c =
-    let args = c.args in
-    let b = args.value % 2 in (
-      search rules,
-      c.make.ensures
-          ∙ pairs_made-next b args.lost.now args.block.now c.loop-j.j _ _ c.loop-j.block c.start_of-start.ensures.0
-          c.length_of.ensures.0 c.loop-j.invariant.1,
-    )
+    c.make.ensures
+    ∙ pairs_made-next (c.args.value % 2) c.args.lost.now c.args.block.now c.loop-j.j _ _ c.loop-j.block c.start_of-start.ensures.0
+    c.length_of.ensures.0 c.loop-j.invariant
 
 all-pairs : (c : After-loop-j) → c.loop-j.j ≡ pair_count c.args.lost.now
 unfolding pair_count
 all-pairs c = omega arith
 
-pub shape_of-block : goal.shape_of-block
-shape_of-block c =
-    let args = c.args in
-    ap length c.loop-j.invariant.1 ∙ length-pairs_made (args.value % 2) args.lost.now args.block.now c.loop-j.j
-
 pub returns : goal.returns
 returns c =
     let args = c.args in
     let b = args.value % 2 in
-    c.loop-j.invariant.1
+    c.loop-j.invariant
     ∙ ap (λ (j : ℕ). pairs_made b args.lost.now j args.block.now) (all-pairs c)
     ∙ pairs_made-filled b args.lost.now args.block.now (omega arith) (search rules)

@@ -1,10 +1,7 @@
-use Prim.Native.Nat.{◌-◌, ◌%◌, ◌≤◌}
+use Prim.Native.Nat.{◌%◌}
 use mathlib.Core.Path.{◌≡◌}
 use Rattle.spans.specs.Walking.{pairs_made}
 use Rattle.spans.proofs.fill.Given as goal
 
 abbrev pub invariant-loop-j : goal.invariant-loop-j
-invariant-loop-j l = (l.j ≤ l.pairs) × (l.block ≡ pairs_made (l.value % 2) l.lost l.j l.initial.block)
-
-abbrev pub decreases-loop-j : goal.decreases-loop-j
-decreases-loop-j l = l.pairs - l.j
+invariant-loop-j l = l.block ≡ pairs_made (l.value % 2) l.lost l.j l.initial.block

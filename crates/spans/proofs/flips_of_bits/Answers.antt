@@ -11,8 +11,7 @@ use Rattle.spans.proofs.flips_of_bits.Goals.{After-bit-in-loop-i}
 
 pub loop-i-init : goal.loop-i-init
 loop-i-init c =
-    let args = c.args in
-    (search rules, omega arith, sym (between_none args.a.now args.b.now args.from args.from (omega arith)))
+    (search rules, sym (between_none c.args.a.now c.args.b.now c.args.from c.args.from (omega arith)))
 
 -- the count with one more bit
 counted : (c : After-bit-in-loop-i)
@@ -21,8 +20,8 @@ counted : (c : After-bit-in-loop-i)
     ≡ flips_between args.a.now args.b.now args.from (c.loop-i.i + 1)
 counted c =
     let args = c.args in
-    ap₂ ◌+◌ c.loop-i.invariant.2 (ap₂ bit_xor c.bit.ensures c.bit-in-loop-i.ensures)
-    ∙ sym (between-one-more args.a.now args.b.now args.from c.loop-i.i c.loop-i.invariant.0)
+    ap₂ ◌+◌ c.loop-i.invariant.1 (ap₂ bit_xor c.bit.ensures c.bit-in-loop-i.ensures)
+    ∙ sym (between-one-more args.a.now args.b.now args.from c.loop-i.i (omega arith))
 
 pub overflow_add-count : goal.overflow_add-count
 overflow_add-count c =
@@ -30,7 +29,7 @@ overflow_add-count c =
     omega (arith, counted c, between_le args.a.now args.b.now args.from (c.loop-i.i + 1))
 
 pub loop-i-preserved : goal.loop-i-preserved
-loop-i-preserved c = (search rules, omega arith, counted c)
+loop-i-preserved c = (omega arith, counted c)
 
 pub returns : goal.returns
 returns c =
@@ -38,5 +37,5 @@ returns c =
     let args = c.args in
     let a = args.a.now in
     let b = args.b.now in
-    let all = turn.invariant.2 ∙ between-end a b args.from turn.i args.to turn.invariant.0 turn.invariant.1 (omega arith) in
+    let all = turn.invariant.1 ∙ between-end a b args.from turn.i args.to (omega arith) turn.invariant.0 (omega arith) in
     (all, omega (arith, all, between_le a b args.from args.to))

@@ -1,10 +1,7 @@
-use Prim.Native.Nat.{◌-◌, ◌≤◌, max}
+use Prim.Native.Nat.{◌≤◌, max}
 use mathlib.Core.Path.{◌≡◌}
 use Rattle.spans.specs.Walking.{flips_between}
 use Rattle.spans.proofs.flips_of_bits.Given as goal
 
 abbrev pub invariant-loop-i : goal.invariant-loop-i
-invariant-loop-i l = (l.from ≤ l.i) × (l.i ≤ max l.from l.to) × (l.count ≡ flips_between l.a l.b l.from l.i)
-
-abbrev pub decreases-loop-i : goal.decreases-loop-i
-decreases-loop-i l = l.to - l.i
+invariant-loop-i l = (l.i ≤ max l.from l.to) × (l.count ≡ flips_between l.a l.b l.from l.i)

@@ -8,14 +8,14 @@ use lib.ListN.{length}
 use Rattle.spans.specs.Spans.{end_of}
 use Rattle.spans.specs.Walking.{flips_between, flips_in_gaps}
 use Rattle.spans.proofs.Filling.{end_is}
-use Rattle.spans.proofs.Gaps.{between_le, reach-zero, reach-farther, reach-stays, gaps-zero, gaps-one-more, gaps-le, around-is}
+use Rattle.spans.proofs.Gaps.{between_le, reach-zero, reach-more, gaps-zero, gaps-one-more, gaps-le, around-is}
 use Rattle.spans.proofs.flips_outside.Goals as goal
-use Rattle.spans.proofs.flips_outside.Goals.{After-flips_between-count, else-reach-end, then-reach-end}
+use Rattle.spans.proofs.flips_outside.Goals.{After-flips_between-count}
 
 pub loop-j-init : goal.loop-j-init
 loop-j-init c =
     let args = c.args in
-    (search rules, sym (reach-zero args.lost.now), search rules, sym (gaps-zero args.lost.now args.a.now args.b.now))
+    (sym (reach-zero args.lost.now), search rules, sym (gaps-zero args.lost.now args.a.now args.b.now))
 
 -- the count with one more gap
 counted : (c : After-flips_between-count)
@@ -24,9 +24,9 @@ counted : (c : After-flips_between-count)
 counted c =
     let args = c.args in
     let lost = args.lost.now in
-    ap₂ ◌+◌ c.loop-j.invariant.3
+    ap₂ ◌+◌ c.loop-j.invariant.2
     (c.flips_between-count.ensures
-    ∙ ap₂ (flips_between args.a.now args.b.now) c.loop-j.invariant.1 c.start_of-start.ensures.0)
+    ∙ ap₂ (flips_between args.a.now args.b.now) c.loop-j.invariant.0 c.start_of-start.ensures.0)
     ∙ sym (gaps-one-more lost args.a.now args.b.now c.loop-j.j)
 
 pub overflow_add-count : goal.overflow_add-count
@@ -48,15 +48,8 @@ loop-j-preserved c =
     let size = c.length_of.ensures in
     let end : c.start_of-start.result + c.length_of.result ≡ end_of lost turn.j =
     omega (arith, begins.0, size.0, end_is lost turn.j) in (
-      search rules,
-      (elim c.if-reach-end.branch [
-        | then-reach-end t ↦ t.reach-is ∙ reach-farther lost turn.j turn.reach _ turn.invariant.1 end t.if-reach-end.true
-        | else-reach-end t ↦ t.reach-is ∙ reach-stays lost turn.j turn.reach _ turn.invariant.1 end t.if-reach-end.false
-      ]),
-      (elim c.if-reach-end.branch [
-        | then-reach-end t ↦ omega (arith, t.reach-is, begins.1, size.1)
-        | else-reach-end t ↦ omega (arith, t.reach-is, turn.invariant.2)
-      ]),
+      c.max-reach.ensures ∙ reach-more lost turn.j turn.reach _ turn.invariant.0 end,
+      omega (arith, c.max-reach.ensures, begins.1, size.1, turn.invariant.1),
       counted (goal.at.loop-j-preserved c).After-flips_between-count,
     )
 
@@ -76,5 +69,5 @@ returns c =
     let args = c.args in
     let turn = c.loop-j in
     let all : turn.j ≡ length args.lost.now / 4 = omega arith in
-    ap₂ ◌+◌ turn.invariant.3 (c.flips_between.ensures ∙ ap (λ (r : ℕ). flips_between args.a.now args.b.now r args.bits) turn.invariant.1)
+    ap₂ ◌+◌ turn.invariant.2 (c.flips_between.ensures ∙ ap (λ (r : ℕ). flips_between args.a.now args.b.now r args.bits) turn.invariant.0)
     ∙ around-is args.bits args.lost.now args.a.now args.b.now turn.j all

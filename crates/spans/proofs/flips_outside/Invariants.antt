@@ -1,11 +1,8 @@
-use Prim.Native.Nat.{◌-◌, ◌≤◌, ◌<◌}
+use Prim.Native.Nat.{◌<◌}
 use mathlib.Core.Path.{◌≡◌}
 use Rattle.spans.specs.Walking.{reach, flips_in_gaps}
 use Rattle.spans.proofs.flips_outside.Given as goal
 
 abbrev pub invariant-loop-j : goal.invariant-loop-j
 invariant-loop-j l =
-    (l.j ≤ l.pairs) × (l.reach ≡ reach l.lost l.j) × (l.reach < 131072) × (l.count ≡ flips_in_gaps l.lost l.a l.b l.j)
-
-abbrev pub decreases-loop-j : goal.decreases-loop-j
-decreases-loop-j l = l.pairs - l.j
+    (l.reach ≡ reach l.lost l.j) × (l.reach < 131072) × (l.count ≡ flips_in_gaps l.lost l.a l.b l.j)

@@ -1,10 +1,7 @@
-use Prim.Native.Nat.{◌-◌, ◌%◌, ◌≤◌}
+use Prim.Native.Nat.{◌-◌, ◌%◌}
 use mathlib.Core.Path.{◌≡◌}
 use Rattle.spans.specs.Walking.{made}
 use Rattle.spans.proofs.make_bits.Given as goal
 
 abbrev pub invariant-loop-i : goal.invariant-loop-i
-invariant-loop-i l = (l.from ≤ l.i) × (l.i ≤ l.to) × (l.block ≡ made (l.value % 2) l.from (l.i - l.from) l.initial.block)
-
-abbrev pub decreases-loop-i : goal.decreases-loop-i
-decreases-loop-i l = l.to - l.i
+invariant-loop-i l = l.block ≡ made (l.value % 2) l.from (l.i - l.from) l.initial.block

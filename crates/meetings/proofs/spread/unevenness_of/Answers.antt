@@ -1,13 +1,13 @@
 -- `meetings::unevenness_of` meets its contract: after w turns `sum` is the sum over the first w counts. Each summand is at most 2^19, so
 -- that 2,048 of them fit 32 bits.
-use mathlib.Core.Path.{◌≡◌, sym, ap, ◌∙◌}
-use borrow.Author.Rules.{rules}
-use native.Mathlib.Omega.{arith}
+use Rattle.std.proofs.Common.{◌≡◌, sym, ap, ◌∙◌, ◌+◌, ◌<◌, take, get_or, arith}
+use Rattle.std.proofs.lemmas.List.{length-take-le, get_or-take}
+use Rattle.bits.specs.Sum.{gap}
 use Rattle.bits.specs.Window.{at}
 use Rattle.meetings.specs.Walk.{uneven_by}
-use Rattle.meetings.proofs.Walks.{uneven-none, uneven-under, uneven-over, uneven-le, met-le, degrees-le}
+use Rattle.meetings.proofs.Walks.{uneven-none, uneven-one-more, uneven-le, met-le, degrees-le}
 use Rattle.meetings.proofs.spread.unevenness_of.Goals as goal
-use Rattle.meetings.proofs.spread.unevenness_of.Goals.{else-met-even, then-met-even}
+use Rattle.meetings.proofs.spread.unevenness_of.Goals.{In-loop-count}
 
 pub overflow_mul-even : goal.overflow_mul-even
 overflow_mul-even c = omega (arith, degrees-le _ _ c.requires.dl_bound c.requires.dl_bound)
@@ -15,46 +15,46 @@ overflow_mul-even c = omega (arith, degrees-le _ _ c.requires.dl_bound c.require
 pub overflow_cast-even : goal.overflow_cast-even
 overflow_cast-even c = omega (arith, degrees-le _ _ c.requires.dl_bound c.requires.dl_bound)
 
-pub loop-w-init : goal.loop-w-init
-loop-w-init c = (search rules, sym (uneven-none (at c.args.counts.now) c.args.nr c.args.dl))
+pub loop-count-init : goal.loop-count-init
+loop-count-init c = sym (uneven-none (at c.args.counts.now) c.args.nr c.args.dl)
+
+below : (c : In-loop-count) → c.loop-count.count-index < c.args.nl
+below c = omega (arith, length-take-le c.args.nl c.args.counts.now c.requires.summable.sized)
+
+-- the count of a turn is that of the next vertex
+count_is : (c : In-loop-count) → get_or (take c.args.nl c.args.counts.now) c.loop-count.count-index 0 ≡ at c.args.counts.now c.loop-count.count-index
+unfolding at
+count_is c = get_or-take c.args.nl c.args.counts.now c.loop-count.count-index 0 (below c)
 
 pub overflow_mul-met : goal.overflow_mul-met
-unfolding at
-overflow_mul-met c = omega (arith, met-le c.requires.summable c.loop-w.w (omega arith))
+overflow_mul-met c =
+    let turn = (goal.at.overflow_mul-met c).In-loop-count in
+    rw (count_is turn) (omega (arith, met-le c.requires.summable c.loop-count.count-index (below turn)))
 
-pub overflow_add-sum : goal.overflow_add-sum
-overflow_add-sum c =
-    let before = c.loop-w in
-    let low = uneven-le c.requires.summable _ c.requires.dl_bound before.w (omega arith) in
-    omega (arith, before.invariant.1, low, c.requires.summable.nl-high, degrees-le _ _ c.requires.dl_bound c.requires.dl_bound)
-
-pub overflow_add-sum-else-met-even : goal.overflow_add-sum-else-met-even
-unfolding at
-overflow_add-sum-else-met-even c =
-    let before = c.loop-w in
-    let low = uneven-le c.requires.summable _ c.requires.dl_bound before.w (omega arith) in
-    omega (arith, before.invariant.1, low, c.requires.summable.nl-high, met-le c.requires.summable before.w (omega arith))
-
-pub loop-w-preserved : goal.loop-w-preserved
-unfolding at
-loop-w-preserved c =
-    let args = c.args in
-    let before = c.loop-w in
-    let count = at args.counts.now in (
-      search rules,
-      (elim c.if-met-even.branch [
-        | then-met-even w ↦ w.sum-is ∙ uneven-under count args.nr args.dl before.w before.sum before.invariant.1 w.if-met-even.true
-        | else-met-even w ↦ w.sum-is ∙ uneven-over count args.nr args.dl before.w before.sum before.invariant.1 w.if-met-even.false
-      ]),
+pub loop-count-preserved : goal.loop-count-preserved
+unfolding gap
+loop-count-preserved c =
+    let turn = (goal.at.loop-count-preserved c).In-loop-count in
+    omega (
+      arith,
+      rw (count_is turn) at c.abs_diff-sum.ensures,
+      uneven-one-more (at c.args.counts.now) c.args.nr c.args.dl c.loop-count.count-index,
     )
 
-pub overflow_cast-result : goal.overflow_cast-result
-overflow_cast-result c =
-    let before = c.loop-w in
-    omega (arith, before.invariant.1, uneven-le c.requires.summable _ c.requires.dl_bound before.w (omega arith), c.requires.summable.nl-high)
+pub overflow_add-sum : goal.overflow_add-sum
+unfolding gap
+overflow_add-sum c =
+    let turn = (goal.at.overflow_add-sum c).In-loop-count in
+    let l = below turn in
+    omega (
+      arith,
+      rw (count_is turn) at c.abs_diff-sum.ensures,
+      uneven-one-more (at c.args.counts.now) c.args.nr c.args.dl c.loop-count.count-index,
+      uneven-le c.requires.summable _ c.requires.dl_bound (c.loop-count.count-index + 1) (omega arith),
+      c.requires.summable.nl-high,
+    )
 
 pub returns : goal.returns
 returns c =
-    let args = c.args in
-    let end : c.loop-w.w ≡ args.nl = omega arith in
-    c.loop-w.invariant.1 ∙ ap (uneven_by (at args.counts.now) args.nr args.dl) end
+    let end : c.loop-count.count-index ≡ c.args.nl = omega (arith, length-take-le c.args.nl c.args.counts.now c.requires.summable.sized) in
+    c.loop-count.invariant ∙ ap (uneven_by (at c.args.counts.now) c.args.nr c.args.dl) end

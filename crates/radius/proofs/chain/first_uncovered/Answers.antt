@@ -1,35 +1,27 @@
--- `radius::first_uncovered` meets its contract: each F passed is covered, so it is at most N, which ends the loop.
-use Prim.Native.Nat.{◌*◌, ◌≤◌, ◌<◌}
-use mathlib.Core.Path.{sym, ◌∙◌}
-use native.Mathlib.Nat.{not-suc-le-zero}
-use native.Mathlib.Omega.{arith}
-use borrow.Author.Count.{below_more}
+-- `radius::first_uncovered` meets its contract: each F passed is covered, and N + 1 is not.
+use Rattle.std.proofs.Common.{◌≡◌, ◌*◌, ◌<◌, sym, ◌∙◌, arith, below_more}
 use Rattle.wiring.proofs.Permutation.{edges_le}
 use Rattle.radius.specs.Margin.{sweeps_named}
 use Rattle.radius.specs.Ranges.{measures_by}
-use Rattle.radius.proofs.MarginChain.{named_small}
-use Rattle.radius.proofs.Uncovered.{beyond-is}
+use Rattle.radius.proofs.Uncovered.{beyond-is, beyond-all}
 use Rattle.radius.proofs.chain.first_uncovered.Goals as goal
-use Rattle.radius.proofs.chain.first_uncovered.Goals.{In-loop-plan}
+use Rattle.radius.proofs.chain.first_uncovered.Goals.{else-loop-flips-test, then-loop-flips-test+else-sweeps_named-eq0+else-flips-edges}
 
-pub loop-plan-init : goal.loop-plan-init
-loop-plan-init c F l = absurd (not-suc-le-zero l)
+pub overflow_mul-edges : goal.overflow_mul-edges
+overflow_mul-edges c = omega (arith, edges_le _ _ c.requires.nl-high c.requires.dl-high)
 
-covered : (c : In-loop-plan) → 0 < sweeps_named (measures_by c.args.plan) c.loop-plan.flips
-covered c = omega (arith, c.sweeps_named.ensures)
+pub returns-then-sweeps_named-eq0 : goal.returns-then-sweeps_named-eq0
+returns-then-sweeps_named-eq0 c = sym (beyond-is _ _ c.loop-flips.invariant (sym c.sweeps_named.ensures ∙ c.if-sweeps_named-eq0.true))
 
--- a covered F is at most N
-within : (c : In-loop-plan) → c.loop-plan.flips ≤ c.args.plan.nl * c.args.plan.dl
-within c = named_small (measures_by c.args.plan) c.loop-plan.flips (λ none. omega (arith, covered c))
-
-pub overflow_add-flips : goal.overflow_add-flips
-overflow_add-flips c = omega (arith, within c, edges_le _ _ c.requires.nl-high c.requires.dl-high)
-
-pub loop-plan-smaller : goal.loop-plan-smaller
-loop-plan-smaller c = omega (arith, within c)
-
-pub loop-plan-preserved : goal.loop-plan-preserved
-loop-plan-preserved c = below_more _ _ c.loop-plan.invariant (covered c)
+pub loop-flips-preserved : goal.loop-flips-preserved
+loop-flips-preserved c = below_more _ _ c.loop-flips.invariant (omega (arith, c.sweeps_named.ensures))
 
 pub returns : goal.returns
-returns c = sym (beyond-is _ _ c.loop-plan.invariant (sym c.sweeps_named.ensures ∙ omega arith))
+returns c =
+    elim c.loop-flips-test.branch [
+      | else-loop-flips-test w ↦ absurd (omega arith)
+      | then-loop-flips-test+else-sweeps_named-eq0+else-flips-edges w ↦
+          let here : 0 < sweeps_named (measures_by c.args.plan) c.loop-flips.flips = omega (arith, w.sweeps_named.ensures) in
+          let last : c.loop-flips.flips ≡ c.args.plan.nl * c.args.plan.dl = omega arith in
+          beyond-all _ (rw last at (below_more _ _ c.loop-flips.invariant here))
+    ]

@@ -15,30 +15,14 @@ sheet c = (plan-sound _ c.requires).0
 pub bounds-left-0 : goal.bounds-left-0
 bounds-left-0 c = omega (arith, (sheet (goal.at.bounds-left-0 c).Start left).sized)
 
--- look: no goal for `overflow-cast-dl`
--- cast-dl : tie.Need-overflow-cast-dl
--- cast-dl c = omega (arith, c.type_inv.left 0)
-
 pub bounds-right-0 : goal.bounds-right-0
 bounds-right-0 c = omega (arith, (sheet (goal.at.bounds-right-0 c).Start right).sized)
-
--- look: no goal for `overflow-cast-dr`
--- cast-dr : tie.Need-overflow-cast-dr
--- cast-dr c = omega (arith, c.type_inv.right 0)
 
 pub bounds-left-1 : goal.bounds-left-1
 bounds-left-1 c = omega (arith, (sheet (goal.at.bounds-left-1 c).Start left).sized)
 
--- look: no goal for `overflow-cast-kl`
--- cast-kl : tie.Need-overflow-cast-kl
--- cast-kl c = omega (arith, c.type_inv.left 1)
-
 pub bounds-right-1 : goal.bounds-right-1
 bounds-right-1 c = omega (arith, (sheet (goal.at.bounds-right-1 c).Start right).sized)
-
--- look: no goal for `overflow-cast-kr`
--- cast-kr : tie.Need-overflow-cast-kr
--- cast-kr c = omega (arith, c.type_inv.right 1)
 
 pub measured_spread-requires : goal.measured_spread-requires
 measured_spread-requires c = (plan-sound _ c.requires).1
