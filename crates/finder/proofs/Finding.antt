@@ -41,6 +41,8 @@ use Rattle.inner_code.specs.Code.{combination, is_codeword, nearest_pattern, nea
 use Rattle.inner_code.specs.Reduction.{reduced, reduced_by, with_echelon, searched, step_to, listed}
 use Rattle.inner_code.specs.Checking.{SheetInto}
 use Rattle.inner_code.specs.declared.nearest.Step.{Step}
+use Rattle.std.proofs.Common.{Result, Ok, Err}
+use Rattle.inner_code.specs.declared.refusal.Refusal.{Refusal}
 use Rattle.inner_code.specs.declared.sheet.Sheet.{Sheet}
 use Rattle.inner_code.specs.Sheet.{degree, row_count, row_of, sheet_check}
 use Rattle.tables.specs.Answer.{table_bytes, table_of}
@@ -872,10 +874,10 @@ unfolding numbers_pay
 pays-room finder e = leb-true _ _ (and_both (leb (2 ^ digits_in finder) (2048 * listed_in finder)) _ e).0
 
 -- the check of an accepted sheet gives its echelon form
-pub checked-echelon : {sheet basis : List ℕ} (r : Sheet) → SheetInto sheet (replicate 11 0) r basis → sheet_check sheet ≡ done []
+pub checked-echelon : {sheet basis : List ℕ} (r : Result Sheet Refusal) → SheetInto sheet (replicate 11 0) r basis → sheet_check sheet ≡ done []
     → basis ≡ with_echelon (row_of sheet) (row_count sheet) (replicate 11 0)
-checked-echelon (Sheet.Accepted d k) checked ok = (accepted checked refl).basis-is
-checked-echelon (Sheet.Refused f) checked ok =
+checked-echelon (Ok s) checked ok = (accepted checked refl).basis-is
+checked-echelon (Err f) checked ok =
     let other = turned-back checked refl in
     let z : ◌≡◌ {A = ℕ} 0 1 = cc in
     absurd (omega arith)

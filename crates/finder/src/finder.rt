@@ -143,7 +143,7 @@ fn find_numbered(sheet: &[u8], finder: &mut [u16], word: u16) -> Step
     ensures { Found sheet.now word result finder.new }
 {
     let mut basis = [0u16; 11];
-    check_into(sheet, &mut basis);
+    let _ = check_into(sheet, &mut basis);
     number_classes(sheet, &basis, finder);
     by_entry(finder, word, left_of(finder, word))
 }

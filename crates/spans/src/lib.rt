@@ -3,23 +3,21 @@
 #![tactic(auto)]
 
 ghost use Rattle.std.specs.Prelude.{◌≡◌, ℕ, ◌+◌, ◌-◌, ◌*◌, ◌%◌, ◌^◌, ◌≤◌, ◌<◌, length, get_or};
-ghost use Rattle.inner_code.specs.Reply.{refused};
-ghost use Rattle.wiring.specs.Checking.{check_reply};
+ghost use Rattle.inner_code.specs.Refusal.{check_reply};
 ghost use Rattle.spans.specs.Spans.{start_of, length_of, spans_check, filled};
 ghost use Rattle.spans.specs.Walking.{made, flips_between, flips_around};
 
-use inner_code::{Refusal, refusal};
-use wiring::Checked;
+use inner_code::Refusal;
 
 // A pair is four bytes.
 const PAIR_BYTES: usize = 4;
 
 // Checks a list for a block of `bits` bits: its length by 24, then each pair in turn, by 25 and by 26.
-pub fn check_spans(bits: usize, lost: &[u8]) -> Checked
+pub fn check_spans(bits: usize, lost: &[u8]) -> Result<(), Refusal>
     ensures { check_reply result ≡ spans_check bits lost.now }
 {
     if lost.len() % PAIR_BYTES != 0 {
-        return refuse(refusal::SPANS_LENGTH_WRONG);
+        return Err(Refusal::SpansLengthWrong);
     }
     let pairs = lost.len() / PAIR_BYTES;
     let mut before = 0;
@@ -28,14 +26,14 @@ pub fn check_spans(bits: usize, lost: &[u8]) -> Checked
         let length = length_of(lost, j);
         let end = start + length;
         if length == 0 || bits < end {
-            return refuse(refusal::SPAN_OUT_OF_BLOCK);
+            return Err(Refusal::SpanOutOfBlock);
         }
         if start < before {
-            return refuse(refusal::SPAN_OUT_OF_ORDER);
+            return Err(Refusal::SpanOutOfOrder);
         }
         before = end;
     }
-    Checked::Passed
+    Ok(())
 }
 
 // Makes every lost bit of a block the last binary digit of `value`.
@@ -155,11 +153,4 @@ fn flips_of_bytes(a: &[u8], b: &[u8], first: usize, last: usize) -> usize
         count += (a[i] ^ b[i]).count_ones() as usize;
     }
     count
-}
-
-// The answer of a check that refuses: the list's refusals name no place.
-fn refuse(number: u32) -> Checked
-    ensures { check_reply result ≡ refused number 0 }
-{
-    Checked::Refused(Refusal { number, place: 0 })
 }

@@ -15,7 +15,7 @@ use Rattle.spans.proofs.check_spans.Goals.{After-length_of-length}
 use Rattle.spans.proofs.check_spans.Goals.{then-length-eq0-via-then-length-eq0, then-length-eq0-via-else-length-eq0+then-bits-end}
 
 pub returns-then-lost-ne0 : goal.returns-then-lost-ne0
-returns-then-lost-ne0 c = c.refuse.ensures ∙ sym (spans-unsized _ _ c.if-lost-ne0.true)
+returns-then-lost-ne0 c = sym (spans-unsized _ _ c.if-lost-ne0.true)
 
 pub loop-j-init : goal.loop-j-init
 loop-j-init c =
@@ -37,8 +37,7 @@ pub returns-then-length-eq0 : goal.returns-then-length-eq0
 returns-then-length-eq0 c =
     let read = (goal.at.returns-then-length-eq0 c).After-length_of-length in
     let args = c.args in
-    c.refuse-then-length-eq0.ensures
-    ∙ sym (stops read 25
+    sym (stops read 25
     (elim c.then-length-eq0.branch [
       | then-length-eq0-via-then-length-eq0 w ↦ span-empty args.bits args.lost.now c.loop-j.j (sym c.length_of-length.ensures.0 ∙ w.if-length-eq0.true)
       | then-length-eq0-via-else-length-eq0+then-bits-end w ↦ span-beyond args.bits args.lost.now c.loop-j.j (omega (arith, ends read))
@@ -47,8 +46,7 @@ returns-then-length-eq0 c =
 pub returns-then-start-before : goal.returns-then-start-before
 returns-then-start-before c =
     let read = (goal.at.returns-then-start-before c).After-length_of-length in
-    c.refuse-then-start-before.ensures
-    ∙ sym (stops read 26
+    sym (stops read 26
     (span-early c.args.bits c.args.lost.now c.loop-j.j (λ q. c.if-length-eq0.false (c.length_of-length.ensures.0 ∙ q))
     (omega (arith, ends read)) (omega (arith, c.start_of-start.ensures.0, c.loop-j.invariant.1))))
 
