@@ -4,7 +4,7 @@ ghost use Rattle.margin.specs.Input.{sheet_end, count_at, input_parts};
 
 // Where the parts of the input lie: the left sheet is its first `left` bytes, the right one goes on up to `right`, and the wiring begins at
 // `wiring`.
-#[derive(Clone, Copy)]
+#[derive(Clone, Copy, Debug, PartialEq, Eq)]
 pub struct MarginInput {
     pub left: usize,
     pub right: usize,
