@@ -45,7 +45,6 @@ module _ (code : SideCode) (word left : ℕ) (leaves : left ≡ reduced_by (at c
   unfolding missed_of
   word-told = rw (leaves, flag-byte) (refl, flag-le-one _)
 
-
 -- ---- the vertices before one
 
 module _ (code : SideCode) (side : SideName) (wiring block : List ℕ) where

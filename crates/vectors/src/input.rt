@@ -4,7 +4,7 @@ ghost use Rattle.std.specs.Io.{ReadsAtMost};
 
 use std::io;
 
-// The bytes that a call has room for in one field, more than any service takes.
+// The room for the bytes of one field.
 pub const SPACE: usize = 70000;
 
 // The next byte, 0 at the end of the input.

@@ -5,7 +5,6 @@ use mathlib.Core.List.{List, []}
 use mathlib.Core.Path.{◌≡◌, refl, ap, ◌∙◌}
 use Prim.Native.Nat.{ℕ, ◌+◌, ◌-◌, ◌*◌, ◌≤◌, ◌<◌}
 use native.Mathlib.Omega.{arith}
-use borrow.Author.Rules.{rules}
 use lib.Bits.{bit_xor}
 use lib.Dec.{eqb}
 use lib.ListN.{length}
@@ -23,7 +22,6 @@ use Rattle.wiring.specs.Access.{read_word}
 use Rattle.wiring.specs.Checking.{code_of}
 use Rattle.wiring.specs.declared.side.SideCode.{SideCode}
 use Rattle.wiring.specs.declared.side.SideName.{SideName}
-use Rattle.wiring.proofs.Plans.{plan-fits}
 use Rattle.wiring.proofs.Sides.{sheet-for}
 use Rattle.wiring.proofs.VertexAccess.{read-vertex, plan-readable}
 use Rattle.unsatisfied.specs.Count.{unsatisfied_at}
