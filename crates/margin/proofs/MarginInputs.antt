@@ -3,10 +3,11 @@
 --   count_at input at      the two-byte number at `at`; 0 where it is missing or cut (specs Input)
 --   input_parts input      the ends of both sheets, nl, nr, and the beginning of the wiring (specs Input)
 -- `sheet-` laws say where a sheet ends, `count-` laws what a count is, `parts-` laws what the parts are and that they lie in order within the
--- input; `-cut` is for what is missing or cut, `-whole` for what is there.
+-- input; `-cut` is for what is missing or cut, `-long` for a sheet whose k is there, `-whole` for what is
+-- there.
 use Prim.Native.Nat.{ℕ, ◌+◌, ◌*◌, ◌≤◌, ◌<◌, min}
 use mathlib.Core.List.{List}
-use mathlib.Core.Path.{◌≡◌}
+use mathlib.Core.Path.{◌≡◌, ◌∙◌}
 use native.Mathlib.Decide.{dec_le}
 use native.Mathlib.Nat.{add-zero, le_of_lt, le_refl, min-eq_left, min-eq_right}
 use native.Mathlib.Omega.{arith}
@@ -26,9 +27,12 @@ module _ (input : List ℕ) where
           | no short ↦ rw (lt-ltb (length input) (from + 2) (omega arith))
         ]
 
-    pub sheet-whole : from + (2 + 2 * get_or input (from + 1) 0) ≤ length input → sheet_end input from ≡ from + (2 + 2 * get_or input (from + 1) 0)
+    pub sheet-long : from + 2 ≤ length input → sheet_end input from ≡ min (from + (2 + 2 * get_or input (from + 1) 0)) (length input)
     unfolding sheet_end
-    sheet-whole whole = rw (le-ltb (length input) (from + 2) (omega arith)) (min-eq_left whole)
+    sheet-long long = rw (le-ltb _ _ long)
+
+    pub sheet-whole : from + (2 + 2 * get_or input (from + 1) 0) ≤ length input → sheet_end input from ≡ from + (2 + 2 * get_or input (from + 1) 0)
+    sheet-whole whole = sheet-long (omega arith) ∙ min-eq_left whole
 
     -- a sheet ends within the input, and not before it begins
     sheet-within : from ≤ length input → (from ≤ sheet_end input from) × (sheet_end input from ≤ length input)

@@ -68,13 +68,11 @@ fn write_plan(rt: &impl Print, input: &[u8], plan: PlanNumbers) -> io::Result<()
 {
     write_numbers(rt, input, plan)?;
     let beyond = radius::first_uncovered(plan);
-    let mut flips: u64 = 0;
-    while flips < beyond {
+    for flips in 0..beyond {
         let sweeps = radius::sweeps_named(plan, flips);
         write_line(rt, input, flips, sweeps)?;
-        flips += 1;
     }
-    write_beyond(rt, input, flips)
+    write_beyond(rt, input, beyond)
 }
 
 // The nine numbers, of those that each side has the left one first.

@@ -4,7 +4,7 @@ ghost use Rattle.margin.specs.Input.{sheet_end, count_at, input_parts};
 
 // Where the parts of the input lie: the left sheet is its first `left` bytes, the right one goes on up to `right`, and the wiring begins at
 // `wiring`.
-#[derive(Clone, Copy)]
+#[derive(Clone, Copy, Debug, PartialEq, Eq)]
 pub struct MarginInput {
     pub left: usize,
     pub right: usize,
@@ -22,17 +22,7 @@ pub fn split_input(input: &[u8]) -> MarginInput
     let right = sheet_end(input, left);
     let nl = count_behind(input, right, 0);
     let nr = count_behind(input, right, 2);
-    let bytes = input.len();
-    if bytes - right < 4 {
-        return MarginInput {
-            left,
-            right,
-            nl,
-            nr,
-            wiring: bytes,
-        };
-    }
-    let wiring = right + 4;
+    let wiring = (right + 4).min(input.len());
     MarginInput {
         left,
         right,
@@ -48,15 +38,11 @@ fn sheet_end(input: &[u8], from: usize) -> usize
     ensures { (result ≡ sheet_end input.now from) × (result ≤ length input.now) }
 {
     let bytes = input.len();
-    let rest = bytes - from;
-    if rest < 2 {
+    if bytes - from < 2 {
         return bytes;
     }
     let sheet = 2 + 2 * (input[from + 1] as usize);
-    if rest < sheet {
-        return bytes;
-    }
-    from + sheet
+    (from + sheet).min(bytes)
 }
 
 // The count that stands `behind` bytes behind the sheets, which end at `end`; 0 where it is missing or cut.

@@ -5,14 +5,15 @@
 --   lent_block state              the bytes of a state from byte 4 on, as the code lends them on
 --   with_block state block        a state when a block comes back in the place of those bytes
 -- Laws are named by the part, then by where it is read: `-of` is a part of a state that is made of its parts. head-stored leads from the
--- stores of the bytes before a block to the state. Of a block that is lent on, block-lent is the part that is lent, block_back, block_same and
+-- copies of the bytes before a block to the state. Of a block that is lent on, block-lent is the part that is lent, block_back, block_same and
 -- block-copied are the state when another, the same or a copied one is back.
-use Prim.Native.Nat.{ℕ, ◌+◌, ◌-◌, ◌/◌, ◌%◌, ◌≤◌}
+use Prim.Native.Nat.{ℕ, ◌+◌, ◌-◌, ◌/◌, ◌%◌, ◌≤◌, ◌<◌}
 use mathlib.Core.List.{List, [], ◌∷◌, ◌++◌, append-nil}
 use mathlib.Core.Path.{◌≡◌, refl, sym, ap, ap₂, ◌∙◌}
 use native.Mathlib.Nat.{div-add-mod'}
 use native.Mathlib.Omega.{arith}
-use lib.ListN.{length, set, take, drop, length-drop, take-append-drop, drop_of_length-le}
+use borrow.Rule.Slice.PartMut.{put_mid}
+use lib.ListN.{length, take, drop, length-drop, take-append-drop, drop_of_length-le}
 use lib.Seq.{length-take-le, take_all, drop_at, drop-drop}
 use Rattle.bits.specs.Bit.{written}
 use Rattle.inner_code.specs.Reply.{done}
@@ -40,15 +41,19 @@ module _ (count sweeps : ℕ) (block : List ℕ) where
   unfolding told
   told_of = ap₂ (λ (c s : ℕ). done (c ∷ s ∷ [])) count-of sweeps-of
 
--- the four stores of the bytes before a block
-pub head-stored : (state : List ℕ) (count sweeps : ℕ) → 4 ≤ length state
-    → set (set (set (set state 0 (count / 256)) 1 (count % 256)) 2 (sweeps / 256)) 3 (sweeps % 256) ≡ state_of count sweeps (block_in state)
+-- the bytes of the two numbers, copied before a block
+pub head-stored : (state : List ℕ) (count sweeps : ℕ) {first second : List ℕ} → 4 ≤ length state → count < 65536 → sweeps < 65536
+    → first ≡ count / 256 % 256 ∷ count % 256 ∷ [] → second ≡ sweeps / 256 % 256 ∷ sweeps % 256 ∷ []
+    → put_mid 2 (4 - 2) (put_mid 0 (2 - 0) state first) second ≡ state_of count sweeps (block_in state)
 unfolding block_in state_of
-head-stored [] count sweeps room = absurd (omega arith)
-head-stored (a ∷ []) count sweeps room = absurd (omega arith)
-head-stored (a ∷ b ∷ []) count sweeps room = absurd (omega arith)
-head-stored (a ∷ b ∷ c ∷ []) count sweeps room = absurd (omega arith)
-head-stored (a ∷ b ∷ c ∷ d ∷ block) count sweeps room = refl
+head-stored [] count sweeps room low low' e f = absurd (omega arith)
+head-stored (a ∷ []) count sweeps room low low' e f = absurd (omega arith)
+head-stored (a ∷ b ∷ []) count sweeps room low low' e f = absurd (omega arith)
+head-stored (a ∷ b ∷ c ∷ []) count sweeps room low low' e f = absurd (omega arith)
+head-stored (a ∷ b ∷ c ∷ d ∷ block) count sweeps room low low' e f =
+    let high : count / 256 % 256 ≡ count / 256 = omega arith in
+    let high' : sweeps / 256 % 256 ≡ sweeps / 256 = omega arith in
+    rw (e, f, high, high')
 
 -- ---- a block that is lent on and comes back
 

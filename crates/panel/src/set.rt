@@ -55,8 +55,5 @@ pub fn set_bit(
 fn one_or_zero(value: u64) -> u64
     ensures { result ≡ set_to value }
 {
-    if value == 0 {
-        return 0;
-    }
-    1
+    (value != 0) as u64
 }

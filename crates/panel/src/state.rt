@@ -15,7 +15,7 @@ use wiring::Checked;
 pub(crate) const HEAD: usize = 4;
 
 // The numbers before a block.
-#[derive(Clone, Copy)]
+#[derive(Clone, Copy, Debug, PartialEq, Eq)]
 pub(crate) struct Head {
     pub count: usize,
     pub sweeps: usize,
@@ -79,8 +79,6 @@ pub(crate) fn put_head(count: usize, sweeps: usize, state: &mut [u8])
     requires sweeps_bound { sweeps < 65536 }
     ensures { state.new ≡ state_of count sweeps (block_in state.old) }
 {
-    state[0] = (count / 256) as u8;
-    state[1] = (count % 256) as u8;
-    state[2] = (sweeps / 256) as u8;
-    state[3] = (sweeps % 256) as u8;
+    state[..2].copy_from_slice(&(count as u16).to_be_bytes());
+    state[2..HEAD].copy_from_slice(&(sweeps as u16).to_be_bytes());
 }

@@ -9,13 +9,11 @@ pub fn flip_some(positions: &[u8], most: u64, sent: &[u8], block: &mut [u8])
     ensures { Flipped sent.now block.old block.new most }
 {
     let mut flipped: u64 = 0;
-    let mut i: usize = 0;
-    while i < positions.len() {
+    for position in positions {
         if flipped < most {
-            let place = (positions[i] % 64) as usize;
+            let place = (*position % 64) as usize;
             flipped += flip_one(sent, block, place);
         }
-        i += 1;
     }
 }
 
@@ -38,10 +36,8 @@ pub fn differing(a: &[u8], b: &[u8]) -> u64
     ensures { result ≡ flips 64 a.now b.now }
 {
     let mut count: u64 = 0;
-    let mut i: usize = 0;
-    while i < 64 {
+    for i in 0..64 {
         count += bits::bit(a, i) ^ bits::bit(b, i);
-        i += 1;
     }
     count
 }

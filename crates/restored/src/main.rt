@@ -47,7 +47,7 @@ fn restore(received: &[u8])
     let mut output = [0u8; 8];
     let count = outcome::sweeps(plan::decode(received, &mut output, LIMIT));
     check::expect(count <= NAMED);
-    check::expect(check::same(&output, &sent));
+    check::expect(output == sent);
     let again = plan::decode(received, &mut output, count);
     check::expect(outcome::sweeps(again) == count);
     if 0 < count {

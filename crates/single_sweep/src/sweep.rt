@@ -1,6 +1,6 @@
 // The vertices of a side visited in turn. A vertex that takes another word is counted before and after, and so is, for each bit that changes,
 // the vertex of the other side that reads it: no other vertex reads another word than before.
-ghost use Rattle.std.specs.Prelude.{[], ◌≡◌, cond, eqb};
+ghost use Rattle.std.specs.Prelude.{[], ◌≡◌};
 ghost use Rattle.inner_code.specs.Reply.{done};
 ghost use Rattle.finder.specs.Finding.{Finds};
 ghost use Rattle.wiring.specs.Plan.{Plan, plan_of, side_of, sheet_of};
@@ -40,40 +40,29 @@ pub(crate) fn sweep_told(
     let n = code.n;
     let d = code.d;
     let mut change = 65536;
-    let mut v = 0;
-    while v < n {
+    for v in 0..n {
         let word = wiring::read_word(side, wiring, d, block, v);
         if finder::is_codeword(finder, word) {
-            v += 1;
-        } else {
-            let step = sweeps::nearest_on(left, right, side, finder, word);
-            let told = put_told(
-                left,
-                right,
-                nl,
-                nr,
-                wiring,
-                left_code,
-                right_code,
-                side,
-                v,
-                word ^ step.word,
-                places,
-                block,
-            );
-            change = change + told - 65536 - mended(step.changed);
-            v += 1;
+            continue;
         }
+        let step = sweeps::nearest_on(left, right, side, finder, word);
+        let told = put_told(
+            left,
+            right,
+            nl,
+            nr,
+            wiring,
+            left_code,
+            right_code,
+            side,
+            v,
+            word ^ step.word,
+            places,
+            block,
+        );
+        // A vertex that read no codeword takes one and is mended, but for a tie, which changes no bit: it stays unsatisfied.
+        let mended = (step.changed != 0) as usize;
+        change = change + told - 65536 - mended;
     }
     change
-}
-
-// 1 for a vertex that read no codeword and takes one. A tie, which changes no bit, stays unsatisfied: 0.
-fn mended(changed: u32) -> usize
-    ensures { result ≡ cond (eqb changed 0) 0 1 }
-{
-    if changed == 0 {
-        return 0;
-    }
-    1
 }

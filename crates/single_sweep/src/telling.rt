@@ -49,6 +49,7 @@ pub(crate) fn put_told(
     let base = v * d;
     let mut told = 65536;
     let mut rest = pattern;
+    // A while: each turn takes the highest digit away, and jumps over the zeros below it.
     while rest != 0 {
         let high = bits::highest(rest);
         let place = place_across(side, wiring, places, base + (d - 1 - high));

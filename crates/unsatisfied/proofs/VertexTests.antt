@@ -6,17 +6,17 @@
 --   unsatisfied_at side block             how many vertices of a side read no inner codeword (specs Count)
 --   code_of plan name                     a side of a plan as the code holds it (wiring specs Checking)
 -- Laws are named by their subject, then by the fact: `word-` is about one word, `vertex-` about one vertex, `up-to-` about the vertices before
--- one. At the end of a name, `-passed` and `-failed` are the outcomes of the test, `-none` and `-one-more` the steps of a loop, `-defined` says that in
--- an accepted plan the code's number is the definition's.
-use Prim.Native.Nat.{ℕ, ◌+◌, ◌<◌, min}
-use mathlib.Core.Bool.{Bool, not}
+-- one. At the end of a name, `-told` is what the code's cast of a test tells, `-none` and `-one-more` are the steps of a loop, `-defined` says that
+-- in an accepted plan the code's number is the definition's.
+use Prim.Native.Nat.{ℕ, ◌+◌, ◌≤◌, ◌<◌, min}
+use mathlib.Core.Bool.{Bool, true, false, not}
 use mathlib.Core.List.{List, []}
 use mathlib.Core.Path.{◌≡◌, refl, sym, ap, ap₂, ◌∙◌}
 use lib.Dec.{eqb}
-use borrow.Author.Tests.{eq-eqb, ne_eqb}
+use mir.Val.{bool_byte}
 use Rattle.bits.specs.Sum.{flag}
 use Rattle.bits.specs.Window.{at}
-use Rattle.bits.proofs.Sums.{sum-zero, sum-one-more, sum-ext, flag_true, flag-false}
+use Rattle.bits.proofs.Sums.{sum-zero, sum-one-more, sum-ext, flag-le-one}
 use Rattle.inner_code.specs.Reply.{done}
 use Rattle.inner_code.specs.Reduction.{reduced_by}
 use Rattle.inner_code.specs.Sheet.{row_count, row_of}
@@ -32,18 +32,18 @@ use Rattle.unsatisfied.specs.Count.{unsatisfied_at}
 use Rattle.unsatisfied.specs.Answer.{missed_of, missed_by, missed_up_to}
 use Rattle.unsatisfied.proofs.Counting.{missed, missed_word, missed-word}
 
+-- a test that is cast to a number is its flag
+flag-byte : (t : Bool) → bool_byte t ≡ flag t
+unfolding flag
+flag-byte true = refl
+flag-byte false = refl
+
 -- ---- one word: `left` is what the basis leaves of it
 
 module _ (code : SideCode) (word left : ℕ) (leaves : left ≡ reduced_by (at code.basis) (min code.k 11) word) where
-  word-told : flag (not (eqb left 0)) ≡ missed_of code word
+  pub word-told : (bool_byte (not (eqb left 0)) ≡ missed_of code word) × (bool_byte (not (eqb left 0)) ≤ 1)
   unfolding missed_of
-  word-told = rw leaves
-
-  pub word-passed : left ≡ 0 → 0 ≡ missed_of code word
-  word-passed none = sym (ap (λ (t : Bool). flag (not t)) (eq-eqb left 0 none) ∙ flag-false) ∙ word-told
-
-  pub word-failed : (left ≡ 0 → ⊥) → 1 ≡ missed_of code word
-  word-failed some = sym (ap (λ (t : Bool). flag (not t)) (ne_eqb left 0 some) ∙ flag_true) ∙ word-told
+  word-told = rw (leaves, flag-byte) (refl, flag-le-one _)
 
 -- ---- the vertices before one
 

@@ -46,10 +46,8 @@ fn missed_on(code: SideCode, side: SideName, wiring: &[u8], block: &[u8]) -> usi
     ensures { (result ≡ missed_up_to code side wiring.now code.n block.now) × (result ≤ code.n) }
 {
     let mut count = 0;
-    let mut v = 0;
-    while v < code.n {
+    for v in 0..code.n {
         count += missed_at(code, side, wiring, block, v);
-        v += 1;
     }
     count
 }
@@ -73,8 +71,5 @@ pub fn missed_word(code: SideCode, word: u16) -> usize
     ensures { (result ≡ missed_of code word) × (result ≤ 1) }
 {
     let basis = code.basis;
-    if inner_code::residue(&basis, code.k, word) == 0 {
-        return 0;
-    }
-    1
+    (inner_code::residue(&basis, code.k, word) != 0) as usize
 }

@@ -82,12 +82,10 @@ fn entry_with(wiring: &[u8], edge: usize) -> usize
     ensures { result ≡ entry_with wiring.now edge }
 {
     let entries = wiring.len() / 2;
-    let mut i = 0;
-    while i < entries {
+    for i in 0..entries {
         if wiring::edge_at(wiring, i) == edge {
             return i;
         }
-        i += 1;
     }
     entries
 }

@@ -1,4 +1,6 @@
 // One call of a service, with its line.
+use crate::input::SPACE;
+use crate::service::Service;
 use crate::{input, output};
 use decoder::Decoded;
 use inner_code::Nearest;
@@ -12,37 +14,34 @@ use tables::Built;
 use wiring::{Located, SideName};
 
 // Reads the fields of a record and writes what the service answers. The service says which fields there are, so it is looked at before any is read.
-pub fn answer(rt: &impl Print, from: &mut impl io::Read, service: u8) -> io::Result<()> {
+pub fn answer(rt: &impl Print, from: &mut impl io::Read, service: Service) -> io::Result<()> {
     match service {
-        1 | 10 | 11 => on_sheet(rt, from, service)?,
+        Service::Nearest | Service::BuildTable | Service::LookUp => on_sheet(rt, from, service)?,
         _ => read_plan(rt, from, service)?,
     }
     println!(rt)
 }
 
 // The services that take a sheet alone.
-fn on_sheet(rt: &impl Print, from: &mut impl io::Read, service: u8) -> io::Result<()> {
-    let mut space = [0u8; 70000];
+fn on_sheet(rt: &impl Print, from: &mut impl io::Read, service: Service) -> io::Result<()> {
+    let mut space = [0u8; SPACE];
     let sheet = input::bytes(from, &mut space)?;
-    if service == 10 {
-        return build(rt, from, &space[..sheet]);
+    match service {
+        Service::BuildTable => build(rt, from, &space[..sheet]),
+        Service::Nearest => nearest(rt, from, &space[..sheet]),
+        _ => look_up(rt, from, &space[..sheet]),
     }
-    let word = input::number(from)?;
-    if service == 1 {
-        return nearest(rt, &space[..sheet], word);
-    }
-    look_up(rt, from, &space[..sheet], word)
 }
 
 // The parts of a plan.
-fn read_plan(rt: &impl Print, from: &mut impl io::Read, service: u8) -> io::Result<()> {
-    let mut left_space = [0u8; 70000];
+fn read_plan(rt: &impl Print, from: &mut impl io::Read, service: Service) -> io::Result<()> {
+    let mut left_space = [0u8; SPACE];
     let left = input::bytes(from, &mut left_space)?;
-    let mut right_space = [0u8; 70000];
+    let mut right_space = [0u8; SPACE];
     let right = input::bytes(from, &mut right_space)?;
     let nl = input::number(from)?;
     let nr = input::number(from)?;
-    let mut wiring_space = [0u8; 70000];
+    let mut wiring_space = [0u8; SPACE];
     let wiring = input::bytes(from, &mut wiring_space)?;
     on_plan(
         rt,
@@ -60,54 +59,57 @@ fn read_plan(rt: &impl Print, from: &mut impl io::Read, service: u8) -> io::Resu
 fn on_plan(
     rt: &impl Print,
     from: &mut impl io::Read,
-    service: u8,
+    service: Service,
     left: &[u8],
     right: &[u8],
     nl: usize,
     nr: usize,
     wiring: &[u8],
 ) -> io::Result<()> {
-    if service == 2 {
-        let v = input::number(from)?;
-        print!(rt; "piece ")?;
-        return output::bytes(
-            rt,
-            wiring::piece_of(left, right, nl, nr, wiring, v as usize),
-        );
+    match service {
+        Service::Piece => piece(rt, from, left, right, nl, nr, wiring),
+        Service::Spread => spread(rt, left, right, nl, nr, wiring),
+        Service::Margin => margin(rt, from, left, right, nl, nr, wiring),
+        Service::Sweep => sweep(rt, from, left, right, nl, nr, wiring),
+        Service::SetBit => set_bit(rt, from, left, right, nl, nr, wiring),
+        _ => read_block(rt, from, service, left, right, nl, nr, wiring),
     }
-    if service == 6 {
-        return spread(rt, left, right, nl, nr, wiring);
-    }
-    if service == 7 {
-        let flips = input::number(from)?;
-        return margin(rt, left, right, nl, nr, wiring, flips);
-    }
-    if service == 13 {
-        return sweep(rt, from, left, right, nl, nr, wiring);
-    }
-    if service == 14 {
-        return set_bit(rt, from, left, right, nl, nr, wiring);
-    }
-    let mut block_space = [0u8; 70000];
-    let block = input::bytes(from, &mut block_space)?;
-    on_block(
-        rt,
-        from,
-        service,
-        left,
-        right,
-        nl,
-        nr,
-        wiring,
-        &block_space[..block],
-    )
 }
 
-// The services that take a block or a message beside the plan.
+// The block or the message beside the plan.
+fn read_block(
+    rt: &impl Print,
+    from: &mut impl io::Read,
+    service: Service,
+    left: &[u8],
+    right: &[u8],
+    nl: usize,
+    nr: usize,
+    wiring: &[u8],
+) -> io::Result<()> {
+    let mut space = [0u8; SPACE];
+    let block = input::bytes(from, &mut space)?;
+    match service {
+        Service::Locate => locate(rt, left, right, nl, nr, wiring, &space[..block]),
+        _ => on_block(
+            rt,
+            from,
+            service,
+            left,
+            right,
+            nl,
+            nr,
+            wiring,
+            &space[..block],
+        ),
+    }
+}
+
+// The services that take a second run of bytes beside a block or a message.
 fn on_block(
     rt: &impl Print,
     from: &mut impl io::Read,
-    service: u8,
+    service: Service,
     left: &[u8],
     right: &[u8],
     nl: usize,
@@ -115,13 +117,10 @@ fn on_block(
     wiring: &[u8],
     block: &[u8],
 ) -> io::Result<()> {
-    if service == 3 {
-        return locate(rt, left, right, nl, nr, wiring, block);
-    }
-    let mut space = [0u8; 70000];
+    let mut space = [0u8; SPACE];
     let second = input::bytes(from, &mut space)?;
-    if service == 5 {
-        return report(
+    match service {
+        Service::Report => report(
             rt,
             from,
             left,
@@ -131,10 +130,8 @@ fn on_block(
             wiring,
             block,
             &space[..second],
-        );
-    }
-    if service == 4 {
-        return decode_around(
+        ),
+        Service::Decode => decode_around(
             rt,
             from,
             left,
@@ -144,23 +141,20 @@ fn on_block(
             wiring,
             block,
             &space[..second],
-        );
+        ),
+        Service::Load => load(rt, left, right, nl, nr, wiring, block, &mut space[..second]),
+        Service::Encode => encode(rt, left, right, nl, nr, wiring, block, &mut space[..second]),
+        _ => read(rt, left, right, nl, nr, wiring, block, &mut space[..second]),
     }
-    if service == 12 {
-        return load(rt, left, right, nl, nr, wiring, block, &mut space[..second]);
-    }
-    if service == 8 {
-        return encode(rt, left, right, nl, nr, wiring, block, &mut space[..second]);
-    }
-    read(rt, left, right, nl, nr, wiring, block, &mut space[..second])
 }
 
-fn nearest(rt: &impl Print, sheet: &[u8], word: u64) -> io::Result<()> {
+fn nearest(rt: &impl Print, from: &mut impl io::Read, sheet: &[u8]) -> io::Result<()> {
+    let word = input::number(from)?;
     word_line(rt, inner_code::nearest_word(sheet, word))
 }
 
 fn build(rt: &impl Print, from: &mut impl io::Read, sheet: &[u8]) -> io::Result<()> {
-    let mut space = [0u8; 70000];
+    let mut space = [0u8; SPACE];
     let table = input::bytes(from, &mut space)?;
     build_into(rt, sheet, &mut space[..table])
 }
@@ -174,8 +168,9 @@ fn build_into(rt: &impl Print, sheet: &[u8], table: &mut [u8]) -> io::Result<()>
     output::bytes(rt, table)
 }
 
-fn look_up(rt: &impl Print, from: &mut impl io::Read, sheet: &[u8], word: u64) -> io::Result<()> {
-    let mut space = [0u8; 70000];
+fn look_up(rt: &impl Print, from: &mut impl io::Read, sheet: &[u8]) -> io::Result<()> {
+    let word = input::number(from)?;
+    let mut space = [0u8; SPACE];
     let table = input::bytes(from, &mut space)?;
     word_line(rt, tables::look_up(sheet, word, &space[..table]))
 }
@@ -186,6 +181,23 @@ fn word_line(rt: &impl Print, answer: Nearest) -> io::Result<()> {
         Nearest::Word { word, changed } => print!(rt; "ok {word} {changed}"),
         Nearest::Refused(r) => output::refused(rt, r.number, r.place),
     }
+}
+
+fn piece(
+    rt: &impl Print,
+    from: &mut impl io::Read,
+    left: &[u8],
+    right: &[u8],
+    nl: usize,
+    nr: usize,
+    wiring: &[u8],
+) -> io::Result<()> {
+    let v = input::number(from)?;
+    print!(rt; "piece ")?;
+    output::bytes(
+        rt,
+        wiring::piece_of(left, right, nl, nr, wiring, v as usize),
+    )
 }
 
 fn locate(
@@ -218,7 +230,7 @@ fn report(
     received: &[u8],
     settled: &[u8],
 ) -> io::Result<()> {
-    let mut space = [0u8; 70000];
+    let mut space = [0u8; SPACE];
     let list = input::bytes(from, &mut space)?;
     report_into(
         rt,
@@ -268,13 +280,14 @@ fn spread(
 
 fn margin(
     rt: &impl Print,
+    from: &mut impl io::Read,
     left: &[u8],
     right: &[u8],
     nl: usize,
     nr: usize,
     wiring: &[u8],
-    flips: u64,
 ) -> io::Result<()> {
+    let flips = input::number(from)?;
     match radius::margin_sweeps(left, right, nl, nr, wiring, flips) {
         Margin::Sweeps(sweeps) => print!(rt; "ok {sweeps}"),
         Margin::Refused(r) => output::refused(rt, r.number, r.place),
@@ -293,7 +306,7 @@ fn decode_around(
     received: &[u8],
     lost: &[u8],
 ) -> io::Result<()> {
-    let mut space = [0u8; 70000];
+    let mut space = [0u8; SPACE];
     let lent = input::bytes(from, &mut space)?;
     let limit = input::number(from)?;
     decode(
@@ -400,7 +413,7 @@ fn sweep(
     nr: usize,
     wiring: &[u8],
 ) -> io::Result<()> {
-    let mut space = [0u8; 70000];
+    let mut space = [0u8; SPACE];
     let state = input::bytes(from, &mut space)?;
     sweep_in(rt, left, right, nl, nr, wiring, &mut space[..state])
 }
@@ -430,7 +443,7 @@ fn set_bit(
 ) -> io::Result<()> {
     let bit = input::number(from)?;
     let value = input::number(from)?;
-    let mut space = [0u8; 70000];
+    let mut space = [0u8; SPACE];
     let state = input::bytes(from, &mut space)?;
     set_in(
         rt,

@@ -4,7 +4,9 @@
 mod answers;
 mod input;
 mod output;
+mod service;
 
+use service::Service;
 use std::io;
 
 // Records are worked through until the input ends.
@@ -15,7 +17,7 @@ fn main(rt: HostRuntime) -> io::Result<()> {
         if service == 0 {
             return Ok(());
         }
-        answers::answer(&rt, &mut from, service)?;
+        answers::answer(&rt, &mut from, Service::from(service))?;
     }
     Ok(())
 }

@@ -5,6 +5,7 @@ use mathlib.Core.Path.{◌≡◌, refl, sym, ◌∙◌}
 use Prim.Native.Nat.{◌<◌}
 use native.Mathlib.Omega.{arith}
 use borrow.Author.Tests.{le-leb, eq-eqb}
+use lib.Pointwise.{bytes_decides}
 use Rattle.wiring.specs.Square.{square_plan}
 use Rattle.radius.specs.Demand.{Restored}
 use Rattle.restored.specs.Sent.{sent_block}
@@ -29,7 +30,8 @@ expect-requires c = le-leb c.sweeps-count.result 2 (omega (arith, count-is c, (p
 pub expect-requires-2 : goal.expect-requires-2
 expect-requires-2 c =
     let sent = c.sent_block-sent.ensures in
-    c.same.ensures.1 (c.decode.ensures.output_after ∙ (promised (goal.at.expect-requires-2 c).After-sweeps-count).restored ∙ sent-written ∙ sym sent)
+    let same = c.decode.ensures.output_after ∙ (promised (goal.at.expect-requires-2 c).After-sweeps-count).restored ∙ sent-written ∙ sym sent in
+    c.eq.ensures ∙ (bytes_decides _ _).1 same
 
 -- ---- the limit at the count answered
 

@@ -1,12 +1,14 @@
 -- `panel::one_or_zero` meets its contract: its test is the definition's.
-use borrow.Author.Tests.{eq-eqb, ne_eqb}
+use Rattle.std.proofs.Common.{◌≡◌, Bool, true, false, not, cond, refl}
+use mir.Val.{bool_byte}
 use Rattle.panel.specs.State.{set_to}
 use Rattle.panel.proofs.set.one_or_zero.Goals as goal
 
-pub returns-then-value-eq0 : goal.returns-then-value-eq0
-unfolding set_to
-returns-then-value-eq0 c = rw (eq-eqb _ _ c.if-value-eq0.true)
+-- a test that is cast to a number, as the definition has it
+as_cond : (t : Bool) → bool_byte (not t) ≡ cond t 0 1
+as_cond true = refl
+as_cond false = refl
 
 pub returns : goal.returns
 unfolding set_to
-returns c = rw (ne_eqb _ _ c.if-value-eq0.false)
+returns c = as_cond _

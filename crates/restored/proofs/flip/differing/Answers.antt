@@ -1,16 +1,13 @@
 -- `restored::flip::differing` meets its contract: each turn adds one term of the sum, which is at most 1.
-use Prim.Native.Nat.{◌+◌, ◌<◌}
-use mathlib.Core.Path.{◌≡◌, sym, ap₂, ◌∙◌}
-use native.Mathlib.Omega.{arith}
+use Rattle.std.proofs.Common.{◌≡◌, ◌+◌, ◌<◌, sym, ap₂, ◌∙◌, arith}
 use lib.Bits.{bit_xor}
 use Rattle.bits.specs.Bit.{bit_at}
-use borrow.Author.Rules.{rules}
 use Rattle.bits.proofs.Flips.{flips-zero, flips-one-more, flips-bit}
 use Rattle.restored.proofs.flip.differing.Goals as goal
 use Rattle.restored.proofs.flip.differing.Goals.{After-bit-in-loop-i}
 
 pub loop-i-init : goal.loop-i-init
-loop-i-init c = (search rules, search rules, sym (flips-zero _ _))
+loop-i-init c = record { few = omega arith; counted = sym (flips-zero _ _) }
 
 -- the bit of a turn, 1 where the blocks differ in it
 differs : (c : After-bit-in-loop-i) → bit_xor c.bit.result c.bit-in-loop-i.result
@@ -24,9 +21,12 @@ pub overflow_add-count : goal.overflow_add-count
 overflow_add-count c = omega (arith, at_most_one c)
 
 pub loop-i-preserved : goal.loop-i-preserved
-loop-i-preserved c = (search rules, omega (arith, at_most_one c), ap₂ ◌+◌ c.loop-i.invariant.2 (differs c) ∙ sym (flips-one-more _ _ _))
+loop-i-preserved c = record {
+  few = omega (arith, at_most_one c);
+  counted = ap₂ ◌+◌ c.loop-i.invariant.counted (differs c) ∙ sym (flips-one-more _ _ _);
+}
 
 pub returns : goal.returns
 returns c =
     let end : c.loop-i.i ≡ 64 = omega arith in
-    rw end at c.loop-i.invariant.2
+    rw end at c.loop-i.invariant.counted

@@ -1,14 +1,14 @@
 -- `single_sweep::sweep_told` meets its contract: after v vertices the block is the one with the first v visited, and `change` is how the true count
 -- has changed. A codeword stays; any other word takes its nearest one, which is a codeword unless it is a tie.
-use mathlib.Core.Bool.{Bool, false, cond}
+use mathlib.Core.Bool.{Bool, true, false, cond, not}
 use mathlib.Core.List.{List, []}
 use mathlib.Core.Path.{◌≡◌, refl, ap, ◌∙◌}
 use Prim.Native.Nat.{ℕ, ◌+◌, ◌-◌, ◌*◌, ◌≤◌, ◌<◌}
 use native.Mathlib.Omega.{arith}
-use borrow.Author.Rules.{rules}
 use lib.Bits.{bit_xor}
 use lib.Dec.{eqb}
 use lib.ListN.{length}
+use mir.Val.{bool_byte}
 use Rattle.inner_code.specs.Reply.{done}
 use Rattle.inner_code.specs.Sheet.{degree}
 use Rattle.inner_code.specs.declared.nearest.Step.{Step}
@@ -22,7 +22,6 @@ use Rattle.wiring.specs.Access.{read_word}
 use Rattle.wiring.specs.Checking.{code_of}
 use Rattle.wiring.specs.declared.side.SideCode.{SideCode}
 use Rattle.wiring.specs.declared.side.SideName.{SideName}
-use Rattle.wiring.proofs.Plans.{plan-fits}
 use Rattle.wiring.proofs.Sides.{sheet-for}
 use Rattle.wiring.proofs.VertexAccess.{read-vertex, plan-readable}
 use Rattle.unsatisfied.specs.Count.{unsatisfied_at}
@@ -59,18 +58,18 @@ held : (c : After-code_of-code) → c.code_of-code.result ≡ code_of (plan_in c
 held c = c.code_of-code.ensures ∙ code-named (plan_in c) c.requires.left_code_value c.requires.right_code_value c.args.side
 
 pub loop-v-init : goal.loop-v-init
-loop-v-init c = (search rules, visited-none _ (check-accepted _ _ c.requires.block_value) c.args.side _, c.requires.finds)
+loop-v-init c = record { visited = visited-none _ (check-accepted _ _ c.requires.block_value) c.args.side _; finds = c.requires.finds }
 
 pub read_word-word-requires : goal.read_word-word-requires
 read_word-word-requires c =
     let at = (goal.at.read_word-word-requires c).After-code_of-code in
     let is = held at in
     rw (ap (λ (x : SideCode). x.d) is)
-    (plan-readable _ (check-accepted _ _ c.requires.block_value) c.loop-v.block (room _ c.requires.block_value c.loop-v.invariant.1) c.args.side c.loop-v.v
+    (plan-readable _ (check-accepted _ _ c.requires.block_value) c.loop-v.block (room _ c.requires.block_value c.loop-v.invariant.visited) c.args.side c.loop-v.v
     (below (plan_in at) c.args.side is c.loop-v-test.true))
 
 pub is_codeword-requires : goal.is_codeword-requires
-is_codeword-requires c = c.loop-v.invariant.2.sized
+is_codeword-requires c = c.loop-v.invariant.finds.sized
 
 pub loop-v-preserved-then-is_codeword : goal.loop-v-preserved-then-is_codeword
 loop-v-preserved-then-is_codeword c =
@@ -78,15 +77,15 @@ loop-v-preserved-then-is_codeword c =
     let side = c.args.side in
     let turn = c.loop-v in
     let at = (goal.at.loop-v-preserved-then-is_codeword c).After-code_of-code in
-    let stays = word-stays (ready-side _ accepted side turn.invariant.2) side turn.block (below (plan_in at) side (held at) c.loop-v-test.true)
+    let stays = word-stays (ready-side _ accepted side turn.invariant.finds) side turn.block (below (plan_in at) side (held at) c.loop-v-test.true)
     (read_is (plan_in at) side (held at) turn.block turn.v c.read_word-word.ensures) (member-means _ _ c.is_codeword.ensures) c.if-is_codeword.true in
-    (omega (arith, c.loop-v-test.true), visited-kept _ accepted side turn.invariant.1 stays, turn.invariant.2)
+    record { visited = visited-kept _ accepted side turn.invariant.visited stays; finds = turn.invariant.finds }
 
 pub nearest_on-step-requires : goal.nearest_on-step-requires
 nearest_on-step-requires c =
     let at = (goal.at.nearest_on-step-requires c).After-code_of-code in
     let read = read_is (plan_in at) c.args.side (held at) c.loop-v.block c.loop-v.v c.read_word-word.ensures in
-    let asked = nearest-asked (plan_in at) c.args.side c.loop-v.invariant.2 c.loop-v.block c.loop-v.v read in
+    let asked = nearest-asked (plan_in at) c.args.side c.loop-v.invariant.finds c.loop-v.block c.loop-v.v read in
     record { finds = asked.0; word_bound = asked.1 }
 
 -- ---- a word that is no codeword
@@ -102,13 +101,18 @@ put_told-told-requires c =
       left_code_value = c.requires.left_code_value;
       right_code_value = c.requires.right_code_value;
       v_bound = under;
-      pattern_bound = pattern_lt (ready-side _ accepted side c.loop-v.invariant.2) side c.loop-v.block under
+      pattern_bound = pattern_lt (ready-side _ accepted side c.loop-v.invariant.finds) side c.loop-v.block under
           (read_is (plan_in at) side (held at) c.loop-v.block c.loop-v.v c.read_word-word.ensures) (rw (sheet-for (plan_in at) side) at c.nearest_on-step.ensures);
       across = c.requires.across;
-      plan_in_bounds = room _ c.requires.block_value c.loop-v.invariant.1;
+      plan_in_bounds = room _ c.requires.block_value c.loop-v.invariant.visited;
     }
 
 -- ---- the vertex mended
+
+-- a test that is cast to a number, as the definition has it
+as_cond : (t : Bool) → bool_byte (not t) ≡ cond t 0 1
+as_cond true = refl
+as_cond false = refl
 
 module _ (plan : Plan) (accepted : plan_check plan ≡ done []) (name : SideName) {before block finder : List ℕ} {v change : ℕ}
     (so_far : Visited plan name before v change block) (finds : Finds (sheet_of plan name) finder) (below : v < count_of plan name)
@@ -130,8 +134,8 @@ module _ (plan : Plan) (accepted : plan_check plan ≡ done []) (name : SideName
       visited-mended plan accepted name so_far told settled below mapped puts tells
       (rw e (word-mended plan accepted name block room below missed mapped counted puts low))
 
-mended : (c : After-put_told-told) (settled : ℕ) → settled ≡ cond (eqb c.nearest_on-step.result.changed 0) 0 1
-    → (65536 + settled ≤ c.loop-v.change + c.put_told-told.result)
+mended : (c : After-put_told-told) → let settled : ℕ = bool_byte (not (eqb c.nearest_on-step.result.changed 0)) in
+    (65536 + settled ≤ c.loop-v.change + c.put_told-told.result)
     × Visited (plan_of c.args.left.now c.args.right.now c.args.nl c.args.nr c.args.wiring.now) c.args.side c.args.block.now (c.loop-v.v + 1)
     (c.loop-v.change + c.put_told-told.result - 65536 - settled) c.put_told-told.new.block
 mended c =
@@ -140,45 +144,36 @@ mended c =
     let turn = c.loop-v.invariant in
     let is = c.code_of-code.ensures ∙ code-named plan c.requires.left_code_value c.requires.right_code_value side in
     let told = c.put_told-told.ensures in
-    mends plan (check-accepted plan _ c.requires.block_value) side turn.1 turn.2 (below plan side is c.loop-v-test.true)
-    (room plan c.requires.block_value turn.1) c.put_told-told.result
+    mends plan (check-accepted plan _ c.requires.block_value) side turn.visited turn.finds (below plan side is c.loop-v-test.true)
+    (room plan c.requires.block_value turn.visited) c.put_told-told.result
     (read_is plan side is c.loop-v.block c.loop-v.v c.read_word-word.ensures) (member-means _ _ c.is_codeword.ensures)
-    c.if-is_codeword.false (rw (sheet-for plan side) at c.nearest_on-step.ensures) told.block_after told.block_value
+    c.if-is_codeword.false (rw (sheet-for plan side) at c.nearest_on-step.ensures) told.block_after told.block_value _ (as_cond _)
 
 pub overflow_add-change : goal.overflow_add-change
 overflow_add-change c =
     let accepted = check-accepted _ _ c.requires.block_value in
     omega (
       arith,
-      change-few _ accepted c.args.side c.loop-v.invariant.1,
+      change-few _ accepted c.args.side c.loop-v.invariant.visited,
       c.put_told-told.ensures.block_value,
       side-few _ accepted (other c.args.side) c.put_told-told.new.block,
     )
 
 pub overflow_sub-change : goal.overflow_sub-change
-overflow_sub-change c = omega (arith, (mended (goal.at.overflow_sub-change c).After-put_told-told _ refl).0)
+overflow_sub-change c = omega (arith, (mended (goal.at.overflow_sub-change c).After-put_told-told).0)
 
-pub overflow_sub-change-else-is_codeword : goal.overflow_sub-change-else-is_codeword
-overflow_sub-change-else-is_codeword c =
-    omega (arith, (mended (goal.at.overflow_sub-change-else-is_codeword c).After-put_told-told _ c.mended.ensures).0)
-
-pub overflow_add-v-else-is_codeword : goal.overflow_add-v-else-is_codeword
-overflow_add-v-else-is_codeword c =
-    let at = (goal.at.overflow_add-v-else-is_codeword c).After-code_of-code in
-    omega (arith, below (plan_in at) c.args.side (held at) c.loop-v-test.true, (plan-fits _ (check-accepted _ _ c.requires.block_value) c.args.side).n-high)
-
-pub loop-v-smaller : goal.loop-v-smaller
-loop-v-smaller c = omega (arith, c.loop-v-test.true)
+pub overflow_sub-change-in-loop-v : goal.overflow_sub-change-in-loop-v
+overflow_sub-change-in-loop-v c = omega (arith, (mended (goal.at.overflow_sub-change-in-loop-v c).After-put_told-told).0)
 
 pub loop-v-preserved : goal.loop-v-preserved
 loop-v-preserved c =
     let at = goal.at.loop-v-preserved c in
     let found = rw (sheet-for (plan_in at.After-code_of-code) c.args.side) at c.nearest_on-step.ensures in
-    (omega (arith, c.loop-v-test.true), (mended at.After-put_told-told _ c.mended.ensures).1, found.finds)
+    record { visited = (mended at.After-put_told-told).1; finds = found.finds }
 
 pub returns : goal.returns
 returns c =
     let is = held (goal.at.returns c).After-code_of-code in
-    let swept = visited-all _ (check-accepted _ _ c.requires.block_value) c.args.side c.loop-v.invariant.1
-    (omega (arith, c.loop-v.invariant.0, ap (λ (x : SideCode). x.n) is)) in
+    let swept = visited-all _ (check-accepted _ _ c.requires.block_value) c.args.side c.loop-v.invariant.visited
+    (omega (arith, ap (λ (x : SideCode). x.n) is)) in
     record { value = swept.0; block_after = swept.1 }

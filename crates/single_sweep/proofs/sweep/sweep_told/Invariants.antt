@@ -1,4 +1,3 @@
-use Prim.Native.Nat.{◌-◌, ◌≤◌}
 use Rattle.finder.specs.Finding.{Finds}
 use Rattle.wiring.specs.Plan.{Plan, plan_of, sheet_of}
 use Rattle.single_sweep.specs.Telling.{Visited}
@@ -7,7 +6,4 @@ use Rattle.single_sweep.proofs.sweep.sweep_told.Given as goal
 abbrev pub invariant-loop-v : goal.invariant-loop-v
 invariant-loop-v l =
     let plan : Plan = plan_of l.left l.right l.nl l.nr l.wiring in
-    (l.v ≤ l.n) × Visited plan l.side l.initial.block l.v l.change l.block × Finds (sheet_of plan l.side) l.finder
-
-abbrev pub decreases-loop-v : goal.decreases-loop-v
-decreases-loop-v l = l.n - l.v
+    record { visited : Visited plan l.side l.initial.block l.v l.change l.block; finds : Finds (sheet_of plan l.side) l.finder }
