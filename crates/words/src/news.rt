@@ -47,9 +47,5 @@ pub fn clear_marks(kept: &mut [u16; KEPT])
     requires { length kept.old ≡ 2304 }
     ensures { Cleared kept.new }
 {
-    let mut i = MAX_VERTICES;
-    while i < KEPT {
-        kept[i] = 0;
-        i += 1;
-    }
+    kept[MAX_VERTICES..].fill(0);
 }
