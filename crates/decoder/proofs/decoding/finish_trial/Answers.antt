@@ -63,15 +63,11 @@ finish-settling-requires c =
       places_noted = λ e. c.places_for-noted.ensures.places_noted_after (c.places_for-noted.ensures.value e);
     }
 
-pub returns-then-lost-eq0 : goal.returns-then-lost-eq0
-returns-then-lost-eq0 c =
-    record {
-      still_ready = c.finish-settling.ensures.still_ready;
-      places_noted_after = c.places_for-noted.ensures.places_noted_after;
-      room_after = stands (goal.at.returns-then-lost-eq0 c).After-finish-settling;
-      settles = trial (goal.at.returns-then-lost-eq0 c).After-finish-settling;
-      changed_value = λ some. absurd (some c.if-lost-eq0.true);
-    }
+pub returns-then-is_empty-clause-room_after : goal.returns-then-is_empty-clause-room_after
+returns-then-is_empty-clause-room_after c = stands (goal.at.returns-then-is_empty-clause-room_after c).After-finish-settling
+
+pub returns-then-is_empty-clause-settles : goal.returns-then-is_empty-clause-settles
+returns-then-is_empty-clause-settles c = trial (goal.at.returns-then-is_empty-clause-settles c).After-finish-settling
 
 pub slice_bounds-flips_outside-end : goal.slice_bounds-flips_outside-end
 slice_bounds-flips_outside-end c =

@@ -170,16 +170,13 @@ returns-then-all_codewords c =
       };
     }
 
-pub returns-else-all_codewords : goal.returns-else-all_codewords
-returns-else-all_codewords c =
+pub returns : goal.returns
+returns c =
     record {
       still_ready = c.sweep_firsts-firsts.ensures.still_ready;
-      opened = record { limit_is = refl; closed = λ no. absurd (true≢false (sym no)); going = λ _. (going (goal.at.returns-else-all_codewords c).After-note-2 (told-one (goal.at.returns-else-all_codewords c).After-note)) };
-    }
-
-pub returns-else-second-eq0-2 : goal.returns-else-second-eq0-2
-returns-else-second-eq0-2 c =
-    record {
-      still_ready = c.sweep_firsts-firsts.ensures.still_ready;
-      opened = record { limit_is = refl; closed = λ no. absurd (true≢false (sym no)); going = λ _. (going (goal.at.returns-else-second-eq0-2 c).After-note-2 (told-one (goal.at.returns-else-second-eq0-2 c).After-note)) };
+      opened = record {
+        limit_is = refl;
+        closed = λ no. absurd (true≢false (sym no));
+        going = λ _. going (goal.at.returns c).After-note-2 (told-one (goal.at.returns c).After-note);
+      };
     }

@@ -1,12 +1,10 @@
 -- `words::read_words` meets its contract: after v turns the list has the words of the first v right vertices.
-use mathlib.Core.List.{[]}
 use mathlib.Core.Path.{◌≡◌, refl, ◌∙◌}
 use Prim.Native.Nat.{ℕ, ◌+◌, ◌*◌, ◌≤◌, ◌<◌}
 use native.Mathlib.Nat.{le_trans}
 use native.Mathlib.Omega.{arith}
 use lib.ListN.{length, length-set}
 use Rattle.wiring.proofs.Blocks.{block_room}
-use Rattle.inner_code.specs.Reply.{done}
 use Rattle.inner_code.specs.Sheet.{degree}
 use Rattle.wiring.specs.Access.{word_from}
 use Rattle.wiring.specs.Block.{vertex_word}
