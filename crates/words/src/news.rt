@@ -39,7 +39,7 @@ pub fn numbers_of(n: usize) -> usize
     requires { n ≤ 2048 }
     ensures { (n ≤ 16 * result) × (result ≤ 128) }
 {
-    (n + 15) / 16
+    n.div_ceil(16)
 }
 
 // Takes all marks off.
