@@ -280,7 +280,7 @@ fn decode_on(
     )
 }
 
-// The same with room for the places of so many edges.
+// The same with room for the places of N edges.
 fn decode_with<const N: usize>(
     left: &[u8],
     right: &[u8],
