@@ -115,15 +115,13 @@ pub fn decode_checked(
     requires limit_value { let plan : Plan = plan_of left.now right.now nl nr wiring.now in decode_check plan received.now lost.now output.old limit ≡ done [] }
     ensures { let plan : Plan = plan_of left.now right.now nl nr wiring.now in Decodes plan received.now lost.now output.old limit result output.new }
 {
-    if lost.len() == 0 {
-        if is_codeword_at_sight(left_code, right_code, wiring, received) {
-            bits::copy_front(received, output);
-            return Decoding {
-                outcome: Decoded::Settled(0),
-                sums: [0; SUMS],
-                visits: 0,
-            };
-        }
+    if lost.is_empty() && is_codeword_at_sight(left_code, right_code, wiring, received) {
+        bits::copy_front(received, output);
+        return Decoding {
+            outcome: Decoded::Settled(0),
+            sums: [0; SUMS],
+            visits: 0,
+        };
     }
     let left_basis = left_code.basis;
     let mut left_finder = [0u16; FINDER_WORDS];
@@ -226,13 +224,7 @@ fn decode_trials(
 fn at_once(lost_bytes: usize, ended: bool, count: usize, limit: usize) -> bool
     ensures { result ≡ true → (lost_bytes ≡ 0) × ((ended ≡ true) × (count ≤ limit)) }
 {
-    if lost_bytes != 0 {
-        return false;
-    }
-    if ended {
-        return count <= limit;
-    }
-    false
+    lost_bytes == 0 && ended && count <= limit
 }
 
 // Goes on from the first two sweeps of the trial with zeros, at the front of the output. Room for the places of the edges is cleared here and not
@@ -257,8 +249,7 @@ fn decode_on(
     ensures { let plan : Plan = plan_of left.now right.now nl nr wiring.now in Decodes plan received.now lost.now output.old opening.limit result output.new }
 {
     if wiring.len() <= 2 * FEW_EDGES {
-        let mut places = [0u16; FEW_EDGES];
-        return decode_placed(
+        return decode_with::<FEW_EDGES>(
             left,
             right,
             nl,
@@ -269,12 +260,49 @@ fn decode_on(
             received,
             lost,
             opening,
-            &mut places,
             kept,
             output,
         );
     }
-    let mut places = [0u16; MAX_EDGES];
+    decode_with::<MAX_EDGES>(
+        left,
+        right,
+        nl,
+        nr,
+        wiring,
+        left_finder,
+        right_finder,
+        received,
+        lost,
+        opening,
+        kept,
+        output,
+    )
+}
+
+// The same with room for the places of N edges.
+fn decode_with<const N: usize>(
+    left: &[u8],
+    right: &[u8],
+    nl: usize,
+    nr: usize,
+    wiring: &[u8],
+    left_finder: &mut [u16],
+    right_finder: &mut [u16],
+    received: &[u8],
+    lost: &[u8],
+    opening: Opening,
+    kept: &mut [u16; KEPT],
+    output: &mut [u8],
+) -> Decoding
+    requires ready { let plan : Plan = plan_of left.now right.now nl nr wiring.now in Ready plan left_finder.old right_finder.old }
+    requires limit_value { let plan : Plan = plan_of left.now right.now nl nr wiring.now in decode_check plan received.now lost.now output.old opening.limit ≡ done [] }
+    requires n_bound { N ≤ 32768 }
+    requires plan_in_bounds { let plan : Plan = plan_of left.now right.now nl nr wiring.now in edge_count plan ≤ N }
+    requires opened { let plan : Plan = plan_of left.now right.now nl nr wiring.now in Opened plan (filled 0 lost.now received.now) opening.limit opening kept.old (take (length received.now) output.old) }
+    ensures { let plan : Plan = plan_of left.now right.now nl nr wiring.now in Decodes plan received.now lost.now output.old opening.limit result output.new }
+{
+    let mut places = [0u16; N];
     decode_placed(
         left,
         right,
@@ -437,7 +465,7 @@ fn finish_trial(
         kept,
         &mut room[0..size],
     );
-    if lost.len() == 0 {
+    if lost.is_empty() {
         return Attempt {
             settling,
             changed: 0,
@@ -461,11 +489,8 @@ fn places_for(wiring: &[u8], ended: bool, noted: bool, places: &mut [u16]) -> bo
     ensures places_noted_after { result ≡ true → PlacesNoted wiring.now places.new }
     ensures value { ended ≡ false → result ≡ true }
 {
-    if ended {
+    if ended || noted {
         return noted;
-    }
-    if noted {
-        return true;
     }
     wiring::note_places(wiring, places);
     true
@@ -476,13 +501,7 @@ fn keeps_zeros(lost_bytes: usize, limit: usize, zeros: usize, changed: usize) ->
     ensures when_true { result ≡ true → (lost_bytes ≡ 0 → ⊥) → (zeros ≤ limit) × (changed ≡ 0) }
     ensures when_false { result ≡ false → lost_bytes ≡ 0 → ⊥ }
 {
-    if lost_bytes == 0 {
-        return true;
-    }
-    if limit < zeros {
-        return false;
-    }
-    changed == 0
+    lost_bytes == 0 || zeros <= limit && changed == 0
 }
 
 // Whether the trial with ones is kept: it settles, and where the one with zeros does too, it changes fewer bits outside the spans.
@@ -496,13 +515,7 @@ fn keeps_ones(
     ensures when_true { result ≡ true → (ones ≤ limit) × (zeros ≤ limit → ones_changed < zeros_changed) }
     ensures when_false { result ≡ false → ones ≤ limit → (zeros ≤ limit) × (zeros_changed ≤ ones_changed) }
 {
-    if limit < ones {
-        return false;
-    }
-    if limit < zeros {
-        return true;
-    }
-    ones_changed < zeros_changed
+    ones <= limit && (limit < zeros || ones_changed < zeros_changed)
 }
 
 // Puts the received block at the front of a buffer, with every lost bit made the last binary digit of `value`.

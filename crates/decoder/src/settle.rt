@@ -91,16 +91,14 @@ pub(crate) fn open(
             visits: two,
         };
     }
-    if second.ties == 0 {
-        if all_codewords(left, nl, left_finder, block) {
-            return Opening {
-                limit,
-                ended: true,
-                count: 2,
-                sums,
-                visits: two,
-            };
-        }
+    if second.ties == 0 && all_codewords(left, nl, left_finder, block) {
+        return Opening {
+            limit,
+            ended: true,
+            count: 2,
+            sums,
+            visits: two,
+        };
     }
     Opening {
         limit,
@@ -221,8 +219,7 @@ pub(crate) fn finish(
         };
     }
     let mut side = SideName::Left;
-    let mut count = 2;
-    while count <= limit {
+    for count in 2..=limit {
         let here = sweep_turn(
             left,
             right,
@@ -263,7 +260,6 @@ pub(crate) fn finish(
         note(&mut sums, count, limit, here.changed);
         visits = add_visits(visits, count, limit, here.visits);
         side = other_side(side);
-        count += 1;
     }
     Settling {
         count: limit + 1,
@@ -278,10 +274,8 @@ fn note(sums: &mut [u16; SUMS], i: usize, limit: usize, changed: usize)
     requires changed_bound { changed < 65536 }
     ensures { sums.new ≡ noted sums.old i limit changed }
 {
-    if i < limit {
-        if i < SUMS {
-            sums[i] = changed as u16;
-        }
+    if i < limit && i < SUMS {
+        sums[i] = changed as u16;
     }
 }
 

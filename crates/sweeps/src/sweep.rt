@@ -22,7 +22,7 @@ use wiring::SideName;
 use words::{KEPT, Vertex, left_word, news_of, numbers_of, put_pattern, put_told};
 
 // What a sweep tells: how many bits it changed, and at how many vertices it left a tie. Every other vertex of its side now reads a codeword.
-#[derive(Clone, Copy)]
+#[derive(Clone, Copy, Debug, PartialEq, Eq)]
 pub struct Tally {
     pub changed: usize,
     pub ties: usize,
@@ -44,24 +44,20 @@ pub fn sweep_first(
     let d = sheet[0] as usize;
     let mut changed = 0;
     let mut ties = 0;
-    let mut v = 0;
-    while v < n {
+    for v in 0..n {
         let word = left_word(block, v, d);
-        if finder::is_codeword(finder, word) {
-            v += 1;
-        } else {
+        if !finder::is_codeword(finder, word) {
             let step = finder::find_nearest(sheet, finder, word);
             put_pattern(SideName::Left, wiring, v * d, d, word ^ step.word, block);
             changed += step.changed as usize;
             ties += tie(step.changed);
-            v += 1;
         }
     }
     Tally { changed, ties }
 }
 
 // What a sweep by news tells: how many bits it changed, and how many vertices it visited.
-#[derive(Clone, Copy)]
+#[derive(Clone, Copy, Debug, PartialEq, Eq)]
 pub struct News {
     pub changed: usize,
     pub visits: u64,
@@ -88,11 +84,8 @@ fn sweep_second(
     let none = [0u16; 0];
     let mut changed = 0;
     let mut ties = 0;
-    let mut v = 0;
-    while v < nr {
-        if finder::is_codeword(finder, kept[v]) {
-            v += 1;
-        } else {
+    for v in 0..nr {
+        if !finder::is_codeword(finder, kept[v]) {
             let bits = visit(
                 left,
                 right,
@@ -110,7 +103,6 @@ fn sweep_second(
             );
             changed += bits as usize;
             ties += tie(bits);
-            v += 1;
         }
     }
     Tally { changed, ties }
@@ -231,10 +223,10 @@ fn sweep_news(
     let from = news_of(side);
     let mut changed = 0;
     let mut visits: u64 = 0;
-    let mut i = 0;
-    while i < numbers {
+    for i in 0..numbers {
         let mut rest = kept[from + i];
         kept[from + i] = 0;
+        // A while: each turn takes the highest digit of what is left, and no index counts them.
         while rest != 0 {
             let high = bits::highest(rest);
             let v = 16 * i + (15 - high);
@@ -254,7 +246,6 @@ fn sweep_news(
             visits += 1;
             rest = rest - bits::power(high);
         }
-        i += 1;
     }
     News { changed, visits }
 }
@@ -341,10 +332,7 @@ pub fn nearest_on(left: &[u8], right: &[u8], side: SideName, finder: &mut [u16],
 fn tie(changed: u32) -> usize
     ensures { result ≡ cond (eqb changed 0) 1 0 }
 {
-    if changed == 0 {
-        return 1;
-    }
-    0
+    usize::from(changed == 0)
 }
 
 // Whether every word of a left side is a codeword. Its bits stand in a row, so it does not matter how it is wired.
@@ -355,13 +343,11 @@ pub fn all_codewords(sheet: &[u8], n: usize, finder: &[u16], block: &[u8]) -> bo
     ensures when_false { result ≡ false → (wiring : List ℕ) → (v : ℕ) × (v < n) × (satisfied (side_by sheet.now n wiring SideName.Left) block.now v ≡ false) }
 {
     let d = sheet[0] as usize;
-    let mut v = 0;
-    while v < n {
+    for v in 0..n {
         let word = left_word(block, v, d);
         if !finder::is_codeword(finder, word) {
             return false;
         }
-        v += 1;
     }
     true
 }
@@ -399,12 +385,7 @@ fn kept_codewords(n: usize, finder: &[u16], kept: &[u16; KEPT]) -> bool
     ensures when_true { result ≡ true → (v : ℕ) → v < n → codeword_by finder.now (at kept.now v) ≡ true }
     ensures when_false { result ≡ false → (v : ℕ) × (v < n) × (codeword_by finder.now (at kept.now v) ≡ false) }
 {
-    let mut v = 0;
-    while v < n {
-        if !finder::is_codeword(finder, kept[v]) {
-            return false;
-        }
-        v += 1;
-    }
-    true
+    kept[..n]
+        .iter()
+        .all(|word| finder::is_codeword(finder, *word))
 }

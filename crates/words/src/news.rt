@@ -39,7 +39,7 @@ pub fn numbers_of(n: usize) -> usize
     requires { n ≤ 2048 }
     ensures { (n ≤ 16 * result) × (result ≤ 128) }
 {
-    (n + 15) / 16
+    n.div_ceil(16)
 }
 
 // Takes all marks off.
@@ -47,9 +47,5 @@ pub fn clear_marks(kept: &mut [u16; KEPT])
     requires { length kept.old ≡ 2304 }
     ensures { Cleared kept.new }
 {
-    let mut i = MAX_VERTICES;
-    while i < KEPT {
-        kept[i] = 0;
-        i += 1;
-    }
+    kept[MAX_VERTICES..].fill(0);
 }

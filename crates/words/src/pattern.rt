@@ -34,6 +34,7 @@ pub fn put_pattern(
     ensures { block.new ≡ pattern_put (side_bit side wiring.now) d base pattern d block.old }
 {
     let mut rest = pattern;
+    // A while: each turn takes the highest digit of what is left, and no index counts them.
     while rest != 0 {
         let high = bits::highest(rest);
         bits::turn_bit(block, wiring::bit_of(side, wiring, base + (d - 1 - high)));
@@ -95,6 +96,7 @@ fn put_left(
     let dr = right[0] as usize;
     let base = v * d;
     let mut rest = pattern;
+    // A while: each turn takes the highest digit of what is left, and no index counts them.
     while rest != 0 {
         let high = bits::highest(rest);
         let edge = base + (d - 1 - high);
@@ -139,6 +141,7 @@ fn put_right(
     let dl = left[0] as usize;
     let base = v * d;
     let mut rest = pattern;
+    // A while: each turn takes the highest digit of what is left, and no index counts them.
     while rest != 0 {
         let high = bits::highest(rest);
         let edge = wiring::edge_at(wiring, base + (d - 1 - high));

@@ -48,9 +48,7 @@ pub fn read_words(
     ensures still_cleared { Cleared kept.new }
 {
     let d = right[0] as usize;
-    let mut v = 0;
-    while v < nr {
+    for v in 0..nr {
         kept[v] = wiring::gathered(wiring, v * d, d, block);
-        v += 1;
     }
 }

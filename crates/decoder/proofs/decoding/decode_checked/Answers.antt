@@ -3,6 +3,7 @@
 use mathlib.Core.List.{[]}
 use mathlib.Core.Path.{◌≡◌, refl}
 use native.Mathlib.Omega.{arith}
+use borrow.Author.Rules.{rules}
 use Rattle.inner_code.specs.Reply.{done}
 use Rattle.wiring.specs.Plan.{plan_of, left, right}
 use Rattle.wiring.specs.Wiring.{plan_check}
@@ -28,7 +29,7 @@ copy_front-requires c = (check-means _ _ _ _ _ c.requires.limit_value).fits
 
 pub returns-then-is_codeword_at_sight : goal.returns-then-is_codeword_at_sight
 returns-then-is_codeword_at_sight c =
-    let none = none-lost _ c.if-lost-eq0.true in
+    let none = none-lost _ (search rules) in
     answers-none (plan_of c.args.left.now c.args.right.now c.args.nl c.args.nr c.args.wiring.now) _ _ _ _ none
     (copy-codeword (plan_of c.args.left.now c.args.right.now c.args.nl c.args.nr c.args.wiring.now) _ _ _ (check-none (plan_of c.args.left.now c.args.right.now c.args.nl c.args.nr c.args.wiring.now) _ _ _ _ none c.requires.limit_value) c.args.left_code c.args.right_code c.requires.left_code_value
     c.requires.right_code_value (c.is_codeword_at_sight.ensures c.if-is_codeword_at_sight.true) c.copy_front.ensures)

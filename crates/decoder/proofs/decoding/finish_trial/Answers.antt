@@ -1,7 +1,7 @@
 -- `decoder::finish_trial` meets its contract: the part of the buffer that is swept on is the trial's block, and it comes back to its place.
 use mathlib.Core.List.{List, ◌++◌}
 use mathlib.Core.Path.{◌≡◌, sym, ap, ◌∙◌, subst}
-use Prim.Native.Nat.{ℕ, ◌-◌, ◌/◌, ◌≤◌}
+use Prim.Native.Nat.{ℕ, ◌-◌, ◌/◌}
 use native.Mathlib.Omega.{arith}
 use lib.ListN.{length, take, drop}
 use Rattle.bits.specs.Bit.{written}
@@ -12,13 +12,7 @@ use Rattle.spans.specs.Walking.{flips_around}
 use Rattle.decoder.specs.Turns.{Tried, Opened, OpenedSome}
 use Rattle.decoder.proofs.Trials.{part-lent, part-sized, part-whole, part-front}
 use Rattle.decoder.proofs.decoding.finish_trial.Goals as goal
-use Rattle.decoder.proofs.decoding.finish_trial.Goals.{After-finish-settling, Start}
-
--- ---- the call
-
-module _ (c : Start) where
-  fits : (length c.args.received.now) ≤ length c.args.room.now
-  fits = c.requires.received_in_bounds
+use Rattle.decoder.proofs.decoding.finish_trial.Goals.{After-finish-settling}
 
 -- ---- the trial is swept on
 
@@ -27,10 +21,10 @@ module _ (c : After-finish-settling) where
   kept = c.finish-settling.auto.block
 
   whole : (c.finish-settling.new.block ++ drop ((length c.args.received.now) - 0) c.args.room.now) ≡ written c.finish-settling.new.block c.args.room.now
-  whole = part-whole c.args.room.now (length c.args.received.now) (fits c.before.before.before.before.before.before.before.before.before.before.before.before.before.before.before.before.before.before.before) c.finish-settling.new.block kept
+  whole = part-whole c.args.room.now (length c.args.received.now) c.requires.received_in_bounds c.finish-settling.new.block kept
 
   front : take (length c.args.received.now) (c.finish-settling.new.block ++ drop ((length c.args.received.now) - 0) c.args.room.now) ≡ c.finish-settling.new.block
-  front = part-front c.args.room.now (length c.args.received.now) (fits c.before.before.before.before.before.before.before.before.before.before.before.before.before.before.before.before.before.before.before) c.finish-settling.new.block kept
+  front = part-front c.args.room.now (length c.args.received.now) c.requires.received_in_bounds c.finish-settling.new.block kept
 
   stands : (c.finish-settling.new.block ++ drop ((length c.args.received.now) - 0) c.args.room.now) ≡ written (take (length c.args.received.now) (c.finish-settling.new.block ++ drop ((length c.args.received.now) - 0) c.args.room.now)) c.args.room.now
   stands = whole ∙ ap (λ (block : List ℕ). written block c.args.room.now) (sym front)
@@ -63,21 +57,17 @@ finish-settling-requires c =
       places_noted = λ e. c.places_for-noted.ensures.places_noted_after (c.places_for-noted.ensures.value e);
     }
 
-pub returns-then-lost-eq0 : goal.returns-then-lost-eq0
-returns-then-lost-eq0 c =
-    record {
-      still_ready = c.finish-settling.ensures.still_ready;
-      places_noted_after = c.places_for-noted.ensures.places_noted_after;
-      room_after = stands (goal.at.returns-then-lost-eq0 c).After-finish-settling;
-      settles = trial (goal.at.returns-then-lost-eq0 c).After-finish-settling;
-      changed_value = λ some. absurd (some c.if-lost-eq0.true);
-    }
+pub returns-then-is_empty-clause-room_after : goal.returns-then-is_empty-clause-room_after
+returns-then-is_empty-clause-room_after c = stands (goal.at.returns-then-is_empty-clause-room_after c).After-finish-settling
+
+pub returns-then-is_empty-clause-settles : goal.returns-then-is_empty-clause-settles
+returns-then-is_empty-clause-settles c = trial (goal.at.returns-then-is_empty-clause-settles c).After-finish-settling
 
 pub slice_bounds-flips_outside-end : goal.slice_bounds-flips_outside-end
 slice_bounds-flips_outside-end c =
     let sized = ap length (whole (goal.at.slice_bounds-flips_outside-end c).After-finish-settling)
-    ∙ length-written c.finish-settling.new.block c.args.room.now (omega (arith, part-sized c.args.room.now (length c.args.received.now) (fits (goal.at.slice_bounds-flips_outside-end c).Start) c.finish-settling.new.block (kept (goal.at.slice_bounds-flips_outside-end c).After-finish-settling), fits (goal.at.slice_bounds-flips_outside-end c).Start)) in
-    omega (arith, sized, fits (goal.at.slice_bounds-flips_outside-end c).Start)
+    ∙ length-written c.finish-settling.new.block c.args.room.now (omega (arith, part-sized c.args.room.now (length c.args.received.now) c.requires.received_in_bounds c.finish-settling.new.block (kept (goal.at.slice_bounds-flips_outside-end c).After-finish-settling), c.requires.received_in_bounds)) in
+    omega (arith, sized, c.requires.received_in_bounds)
 
 pub returns : goal.returns
 returns c =

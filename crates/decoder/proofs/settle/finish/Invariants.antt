@@ -1,7 +1,6 @@
 use mathlib.Core.List.{List}
 use mathlib.Core.Path.{◌≡◌}
-use Prim.Native.Nat.{ℕ, ◌+◌, ◌-◌}
-use lib.ListN.{length}
+use Prim.Native.Nat.{ℕ}
 use Rattle.wiring.specs.Plan.{Plan, plan_of}
 use Rattle.sweeps.specs.Sweep.{turn}
 use Rattle.sweeps.specs.Sweeping.{Ready}
@@ -12,10 +11,6 @@ abbrev pub invariant-loop-count : goal.invariant-loop-count
 invariant-loop-count l =
     let plan : Plan = plan_of l.left l.right l.nl l.nr l.wiring in
     (l.side ≡ turn l.count)
-    × ((received : List ℕ) → Midway plan received l.limit 2 l.initial.sums l.initial.visits l.initial.kept l.initial.block → Midway plan received l.limit l.count l.sums l.visits l.kept l.block)
+    × ((received : List ℕ) → Midway plan received l.limit 2 l.initial.sums l.initial.visits l.initial.kept l.initial.block
+    → Midway plan received l.limit l.count l.sums l.visits l.kept l.block)
     × (Ready plan l.initial.left_finder l.initial.right_finder → Ready plan l.left_finder l.right_finder)
-    × (length l.left_finder ≡ length l.initial.left_finder) × (length l.right_finder ≡ length l.initial.right_finder) × (length l.block ≡ length l.initial.block)
-
-abbrev pub decreases-loop-count : goal.decreases-loop-count
-decreases-loop-count l =
-    l.limit + 1 - l.count

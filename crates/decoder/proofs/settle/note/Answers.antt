@@ -9,12 +9,7 @@ returns-then-i-lt-SUMS c =
     let args = c.args in
     sym (noted-told args.sums.now args.i args.limit args.changed c.if-i-limit.true c.if-i-lt-SUMS.true)
 
-pub returns-else-i-lt-SUMS : goal.returns-else-i-lt-SUMS
-returns-else-i-lt-SUMS c =
-    let args = c.args in
-    sym (noted-untold args.sums.now args.i args.limit args.changed (omega arith))
-
 pub returns-else-i-limit : goal.returns-else-i-limit
 returns-else-i-limit c =
     let args = c.args in
-    sym (noted-untold args.sums.now args.i args.limit args.changed (omega arith))
+    sym (noted-untold args.sums.now args.i args.limit args.changed (omega (arith, c.else-i-limit.either)))

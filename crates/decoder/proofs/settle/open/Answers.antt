@@ -1,152 +1,157 @@
 -- `decoder::open` meets its contract: each sweep of the code is a sweep of the definition, its count of changed bits is noted as its sum, and with
 -- the ties of both tells whether the block was settled before the second. Where the second changes something, the left side is tested for it.
 use mathlib.Core.Bool.{true≢false}
+use mathlib.Core.List.{List, []}
 use mathlib.Core.Path.{◌≡◌, refl, sym}
-use Prim.Native.Nat.{◌+◌, ◌≤◌, min}
+use Prim.Native.Nat.{ℕ, ◌+◌, ◌≤◌, ◌<◌, min}
 use native.Mathlib.Omega.{arith}
 use lib.ListN.{replicate}
-use Rattle.wiring.specs.Plan.{plan_of, count_of, side_of, left, right, other}
+use Rattle.inner_code.specs.Reply.{done}
+use Rattle.wiring.specs.Block.{block_check}
+use Rattle.wiring.specs.Plan.{Plan, count_of, side_of, edge_count, left, right, other}
 use Rattle.wiring.specs.declared.side.SideName.{SideName}
-use Rattle.sweeps.specs.Sweep.{turn}
-use Rattle.decoder.specs.Decode.{visits_in, visits_made}
-use Rattle.decoder.specs.Turns.{Midway}
 use Rattle.wiring.proofs.Plans.{plan-fits}
+use Rattle.sweeps.specs.Sweep.{turn}
+use Rattle.sweeps.specs.Sweeping.{Ready, BothSwept}
+use Rattle.sweeps.specs.declared.sweep.Tally.{Tally}
 use Rattle.sweeps.proofs.Sweeping.{after-zero}
 use Rattle.sweeps.proofs.Visiting.{ties-le}
+use Rattle.decoder.specs.Decode.{visits_in, visits_made}
+use Rattle.decoder.specs.Turns.{Midway, noted, added_visits}
 use Rattle.decoder.proofs.VisitCounts.{visits-full, visits-added, visits-few}
 use Rattle.decoder.proofs.Passes.{Begun, Pass, Told, Swept, turn-zero, turn_one, pass, pass-few, told-start, told_more, told-sized, swept-two}
 use Rattle.decoder.proofs.Passes.{open-first, open-second, open-limit, open-settled, open-going}
 use Rattle.decoder.proofs.settle.open.Goals as goal
-use Rattle.decoder.proofs.settle.open.Goals.{After-note, After-note-2, After-sweep_firsts-firsts, Start}
 
--- ---- the call
+begun : {plan : Plan} {l r block : List ℕ} → Ready plan l r → block_check (edge_count plan) block ≡ done [] → Begun plan block
+begun ready checked = record { plan-done = ready.plan-done; block-done = checked }
 
-begun : (c : Start) → Begun (plan_of c.args.left.now c.args.right.now c.args.nl c.args.nr c.args.wiring.now) c.args.block.now
-begun c = record { plan-done = c.requires.ready.plan-done; block-done = c.requires.block_value }
+module _ {plan : Plan} {block : List ℕ} (b : Begun plan block) where
+  few : (name : SideName) → count_of plan name ≤ 2048
+  few name = (plan-fits plan b.plan-done name).n-high
 
-few : (c : Start) (name : SideName) → count_of (plan_of c.args.left.now c.args.right.now c.args.nl c.args.nr c.args.wiring.now) name ≤ 2048
-few c name = (plan-fits (plan_of c.args.left.now c.args.right.now c.args.nl c.args.nr c.args.wiring.now) (begun c).plan-done name).n-high
+  left-visits : count_of plan left ≡ visits_in plan block 0
+  unfolding turn
+  left-visits = sym (visits-full plan block 0 (omega arith))
 
--- ---- the two sweeps
+  right-visits : count_of plan right ≡ visits_in plan block 1
+  unfolding turn other
+  right-visits = sym (visits-full plan block 1 (omega arith))
 
-first-pass : (c : After-sweep_firsts-firsts) → Pass (plan_of c.args.left.now c.args.right.now c.args.nl c.args.nr c.args.wiring.now) c.args.block.now 0 c.sweep_firsts-firsts.result.left
-    c.sweep_firsts-firsts.ensures.both_swept.between
-first-pass c =
-    pass (begun c.before.before.before.before.before.before.before.before.before.before.before.before) c.sweep_firsts-firsts.ensures.both_swept.left-swept turn-zero
-    (sym (after-zero (side_of (plan_of c.args.left.now c.args.right.now c.args.nl c.args.nr c.args.wiring.now)) c.args.block.now))
+  -- the visits of the first sweep leave room for those of the second
+  visits-fit : (limit : ℕ) {one : ℕ} → one ≡ added_visits 0 0 limit (count_of plan left) → one + count_of plan right < 18446744073709551616
+  visits-fit limit added =
+      omega (
+        arith,
+        visits-added plan block limit 0 (told-start b limit refl).visits-are left-visits added,
+        visits-few plan block few (min 1 limit),
+        few right,
+      )
 
-second-pass : (c : After-sweep_firsts-firsts) → Pass (plan_of c.args.left.now c.args.right.now c.args.nl c.args.nr c.args.wiring.now) c.args.block.now 1 c.sweep_firsts-firsts.result.right
-    c.sweep_firsts-firsts.new.block
-second-pass c = pass (begun c.before.before.before.before.before.before.before.before.before.before.before.before) c.sweep_firsts-firsts.ensures.both_swept.right-swept turn_one (first-pass c).leaves
+  -- ---- the two sweeps
 
--- how many vertices wait
-ties-few : (c : After-sweep_firsts-firsts) → c.sweep_firsts-firsts.result.left.ties + c.sweep_firsts-firsts.result.right.ties ≤ 4096
-ties-few c =
-    let both = c.sweep_firsts-firsts.ensures.both_swept in
-    omega (
-      arith,
-      both.left-swept.waiting,
-      both.right-swept.waiting,
-      ties-le (side_of (plan_of c.args.left.now c.args.right.now c.args.nl c.args.nr c.args.wiring.now) left) c.args.block.now c.args.nl,
-      ties-le (side_of (plan_of c.args.left.now c.args.right.now c.args.nl c.args.nr c.args.wiring.now) right) both.between c.args.nr,
-      few c.before.before.before.before.before.before.before.before.before.before.before.before left,
-      few c.before.before.before.before.before.before.before.before.before.before.before.before right,
-    )
+  module _ {here there : Tally} {after kept : List ℕ} (both : BothSwept plan block here there after kept) where
+    first-pass : Pass plan block 0 here both.between
+    first-pass = pass b both.left-swept turn-zero (sym (after-zero (side_of plan) block))
 
--- ---- what they tell
+    second-pass : Pass plan block 1 there after
+    second-pass = pass b both.right-swept turn_one first-pass.leaves
 
-told_none : (c : Start) → Told (plan_of c.args.left.now c.args.right.now c.args.nl c.args.nr c.args.wiring.now) c.args.block.now c.args.limit 0 (replicate 64 0) 0
-told_none c = told-start (begun c) c.args.limit refl
+    -- how many vertices wait
+    ties-few : here.ties + there.ties ≤ 4096
+    ties-few =
+        omega (
+          arith,
+          both.left-swept.waiting,
+          both.right-swept.waiting,
+          ties-le (side_of plan left) block (count_of plan left),
+          ties-le (side_of plan right) both.between (count_of plan right),
+          few left,
+          few right,
+        )
 
-left-visits : (c : Start) → c.args.nl ≡ visits_in (plan_of c.args.left.now c.args.right.now c.args.nl c.args.nr c.args.wiring.now) c.args.block.now 0
-unfolding turn
-left-visits c = sym (visits-full (plan_of c.args.left.now c.args.right.now c.args.nl c.args.nr c.args.wiring.now) c.args.block.now 0 (omega arith))
+    -- ---- what they tell
 
-right-visits : (c : Start) → c.args.nr ≡ visits_in (plan_of c.args.left.now c.args.right.now c.args.nl c.args.nr c.args.wiring.now) c.args.block.now 1
-unfolding turn other
-right-visits c = sym (visits-full (plan_of c.args.left.now c.args.right.now c.args.nl c.args.nr c.args.wiring.now) c.args.block.now 1 (omega arith))
+    module _ (limit : ℕ) {first-sums : List ℕ} {one two : ℕ} (first-noted : first-sums ≡ noted (replicate 64 0) 0 limit here.changed)
+        (one-added : one ≡ added_visits 0 0 limit (count_of plan left)) (two-added : two ≡ added_visits one 1 limit (count_of plan right)) where
+      told-one : Told plan block limit 1 first-sums one
+      told-one = told_more b (told-start b limit refl) first-pass first-noted left-visits one-added
 
-told-one : (c : After-note)
-    → Told (plan_of c.args.left.now c.args.right.now c.args.nl c.args.nr c.args.wiring.now) c.args.block.now c.args.limit 1 c.note.new.sums c.add_visits-one.result
-told-one c =
-    told_more (begun c.before.before.before.before.before.before.before.before.before.before.before.before.before.before.before.before.before.before.before.before.before.before.before.before) (told_none c.before.before.before.before.before.before.before.before.before.before.before.before.before.before.before.before.before.before.before.before.before.before.before.before) (first-pass (record { before = c.before.before.before.before.before.before.before.before.before.before.before.before.before; type_inv = record { wiring = c.shared_slice_known-3-1.given; right = c.shared_slice_known-2-1.given; left = c.shared_slice_known-1.given } })) c.note.ensures (left-visits c.before.before.before.before.before.before.before.before.before.before.before.before.before.before.before.before.before.before.before.before.before.before.before.before) c.add_visits-one.ensures
+      both-visits : two ≡ visits_made plan block (min 2 limit)
+      both-visits = visits-added plan block limit 1 told-one.visits-are right-visits two-added
 
-both-visits : (c : After-note)
-    → c.add_visits-two.result ≡ visits_made (plan_of c.args.left.now c.args.right.now c.args.nl c.args.nr c.args.wiring.now) c.args.block.now (min 2 c.args.limit)
-both-visits c =
-    visits-added (plan_of c.args.left.now c.args.right.now c.args.nl c.args.nr c.args.wiring.now) c.args.block.now c.args.limit 1 (told-one c).visits-are (right-visits c.before.before.before.before.before.before.before.before.before.before.before.before.before.before.before.before.before.before.before.before.before.before.before.before) c.add_visits-two.ensures
+      -- ---- the second changed something
 
--- ---- the second changed something
+      module _ {sums : List ℕ} (some : there.changed ≡ 0 → ⊥) (second-noted : sums ≡ noted first-sums 1 limit there.changed) where
+        swept : Swept plan block limit 2 after sums two
+        swept = swept-two b second-pass some (told_more b told-one second-pass second-noted right-visits two-added)
 
-swept : (c : After-note-2)
-    → (one : Told (plan_of c.args.left.now c.args.right.now c.args.nl c.args.nr c.args.wiring.now) c.args.block.now c.args.limit 1 c.note.new.sums c.add_visits-one.result)
-    → Swept (plan_of c.args.left.now c.args.right.now c.args.nl c.args.nr c.args.wiring.now) c.args.block.now c.args.limit 2 c.sweep_firsts-firsts.new.block c.note-2.new.sums
-    c.add_visits-two.result
-swept c one =
-    swept-two (begun c.before.before.before.before.before.before.before.before.before.before.before.before.before.before.before.before.before.before.before.before.before.before.before.before.before.before.before.before) (second-pass (record { before = c.before.before.before.before.before.before.before.before.before.before.before.before.before.before.before.before.before; type_inv = record { wiring = c.shared_slice_known-3-1.given; right = c.shared_slice_known-2-1.given; left = c.shared_slice_known-1.given } })) c.if-second-eq0.false
-    (told_more (begun c.before.before.before.before.before.before.before.before.before.before.before.before.before.before.before.before.before.before.before.before.before.before.before.before.before.before.before.before) one (second-pass (record { before = c.before.before.before.before.before.before.before.before.before.before.before.before.before.before.before.before.before; type_inv = record { wiring = c.shared_slice_known-3-1.given; right = c.shared_slice_known-2-1.given; left = c.shared_slice_known-1.given } })) c.note-2.ensures (right-visits c.before.before.before.before.before.before.before.before.before.before.before.before.before.before.before.before.before.before.before.before.before.before.before.before.before.before.before.before) c.add_visits-two.ensures)
-
--- a third sweep is made
-going : (c : After-note-2)
-    → (one : Told (plan_of c.args.left.now c.args.right.now c.args.nl c.args.nr c.args.wiring.now) c.args.block.now c.args.limit 1 c.note.new.sums c.add_visits-one.result)
-    → Midway (plan_of c.args.left.now c.args.right.now c.args.nl c.args.nr c.args.wiring.now) c.args.block.now c.args.limit 2 c.note-2.new.sums c.add_visits-two.result
-    c.sweep_firsts-firsts.new.kept c.sweep_firsts-firsts.new.block
-going c one =
-    open-going (begun c.before.before.before.before.before.before.before.before.before.before.before.before.before.before.before.before.before.before.before.before.before.before.before.before.before.before.before.before) (swept c one) (first-pass (record { before = c.before.before.before.before.before.before.before.before.before.before.before.before.before.before.before.before.before; type_inv = record { wiring = c.shared_slice_known-3-1.given; right = c.shared_slice_known-2-1.given; left = c.shared_slice_known-1.given } })).leaves c.sweep_firsts-firsts.ensures.both_swept.listening
+        -- a third sweep is made
+        going : Midway plan block limit 2 sums two kept after
+        going = open-going b swept first-pass.leaves both.listening
 
 pub add_visits-two-requires : goal.add_visits-two-requires
-add_visits-two-requires c =
-    let one = visits-added (plan_of c.args.left.now c.args.right.now c.args.nl c.args.nr c.args.wiring.now) c.args.block.now c.args.limit 0 (told_none (goal.at.add_visits-two-requires c).Start).visits-are (left-visits (goal.at.add_visits-two-requires c).Start) c.add_visits-one.ensures in
-    omega (arith, one, visits-few (plan_of c.args.left.now c.args.right.now c.args.nl c.args.nr c.args.wiring.now) c.args.block.now (few (goal.at.add_visits-two-requires c).Start) (min 1 c.args.limit), few (goal.at.add_visits-two-requires c).Start right)
+add_visits-two-requires c = visits-fit (begun c.requires.ready c.requires.block_value) c.args.limit c.add_visits-one.ensures
 
 pub note-requires : goal.note-requires
-note-requires c = record {
-  sums_len = refl;
-  changed_bound = pass-few (begun (goal.at.note-requires c).Start) (first-pass (goal.at.note-requires c).After-sweep_firsts-firsts);
-}
+note-requires c =
+    let b = begun c.requires.ready c.requires.block_value in
+    record { sums_len = refl; changed_bound = pass-few b (first-pass b c.sweep_firsts-firsts.ensures.both_swept) }
 
 pub overflow_add-first : goal.overflow_add-first
-overflow_add-first c = omega (arith, ties-few (goal.at.overflow_add-first c).After-sweep_firsts-firsts)
+overflow_add-first c = omega (arith, ties-few (begun c.requires.ready c.requires.block_value) c.sweep_firsts-firsts.ensures.both_swept)
 
 pub ended-requires : goal.ended-requires
 ended-requires c = c.requires.limit_bound
 
 pub returns-then-first-eq0 : goal.returns-then-first-eq0
 returns-then-first-eq0 c =
+    let b = begun c.requires.ready c.requires.block_value in
+    let both = c.sweep_firsts-firsts.ensures.both_swept in
     record {
       still_ready = c.sweep_firsts-firsts.ensures.still_ready;
-      opened = open-first (begun (goal.at.returns-then-first-eq0 c).Start) (first-pass (goal.at.returns-then-first-eq0 c).After-sweep_firsts-firsts) (second-pass (goal.at.returns-then-first-eq0 c).After-sweep_firsts-firsts) c.if-first-eq0.true c.if-second-eq0.true (told-one (goal.at.returns-then-first-eq0 c).After-note).sums-are
-          (both-visits (goal.at.returns-then-first-eq0 c).After-note) c.ended.ensures;
+      opened = open-first b (first-pass b both) (second-pass b both) c.if-first-eq0.true c.if-second-eq0.true
+          (told-one b both c.args.limit c.note.ensures c.add_visits-one.ensures c.add_visits-two.ensures).sums-are
+          (both-visits b both c.args.limit c.note.ensures c.add_visits-one.ensures c.add_visits-two.ensures) c.ended.ensures;
     }
 
 pub overflow_add-first-then-second-eq0 : goal.overflow_add-first-then-second-eq0
-overflow_add-first-then-second-eq0 c = omega (arith, ties-few (goal.at.overflow_add-first-then-second-eq0 c).After-sweep_firsts-firsts)
+overflow_add-first-then-second-eq0 c = omega (arith, ties-few (begun c.requires.ready c.requires.block_value) c.sweep_firsts-firsts.ensures.both_swept)
 
 pub ended-requires-then-second-eq0 : goal.ended-requires-then-second-eq0
 ended-requires-then-second-eq0 c = c.requires.limit_bound
 
 pub returns-then-second-eq0 : goal.returns-then-second-eq0
 returns-then-second-eq0 c =
+    let b = begun c.requires.ready c.requires.block_value in
+    let both = c.sweep_firsts-firsts.ensures.both_swept in
     record {
       still_ready = c.sweep_firsts-firsts.ensures.still_ready;
-      opened = open-second (begun (goal.at.returns-then-second-eq0 c).Start) (first-pass (goal.at.returns-then-second-eq0 c).After-sweep_firsts-firsts) (second-pass (goal.at.returns-then-second-eq0 c).After-sweep_firsts-firsts) c.if-first-eq0.false c.if-second-eq0.true (told-one (goal.at.returns-then-second-eq0 c).After-note)
-          (both-visits (goal.at.returns-then-second-eq0 c).After-note) c.ended-then-second-eq0.ensures;
+      opened = open-second b (first-pass b both) (second-pass b both) c.if-first-eq0.false c.if-second-eq0.true
+          (told-one b both c.args.limit c.note.ensures c.add_visits-one.ensures c.add_visits-two.ensures)
+          (both-visits b both c.args.limit c.note.ensures c.add_visits-one.ensures c.add_visits-two.ensures) c.ended-then-second-eq0.ensures;
     }
 
 pub note-requires-2 : goal.note-requires-2
 note-requires-2 c =
+    let b = begun c.requires.ready c.requires.block_value in
+    let both = c.sweep_firsts-firsts.ensures.both_swept in
     record {
-      sums_len = told-sized (begun (goal.at.note-requires-2 c).Start) (told-one (goal.at.note-requires-2 c).After-note);
-      changed_bound = pass-few (begun (goal.at.note-requires-2 c).Start) (second-pass (goal.at.note-requires-2 c).After-sweep_firsts-firsts);
+      sums_len = told-sized b (told-one b both c.args.limit c.note.ensures c.add_visits-one.ensures c.add_visits-two.ensures);
+      changed_bound = pass-few b (second-pass b both);
     }
 
 pub returns-then-limit-lt2 : goal.returns-then-limit-lt2
 returns-then-limit-lt2 c =
+    let b = begun c.requires.ready c.requires.block_value in
+    let both = c.sweep_firsts-firsts.ensures.both_swept in
     record {
       still_ready = c.sweep_firsts-firsts.ensures.still_ready;
       opened = record {
         limit_is = refl;
-        closed = λ _. open-limit (begun (goal.at.returns-then-limit-lt2 c).Start) (swept (goal.at.returns-then-limit-lt2 c).After-note-2 (told-one (goal.at.returns-then-limit-lt2 c).After-note)) c.if-limit-lt2.true;
+        closed = λ _. open-limit b
+            (swept b both c.args.limit c.note.ensures c.add_visits-one.ensures c.add_visits-two.ensures c.if-second-eq0.false c.note-2.ensures)
+            c.if-limit-lt2.true;
         going = λ no. absurd (true≢false no);
       };
     }
@@ -154,32 +159,34 @@ returns-then-limit-lt2 c =
 pub all_codewords-requires : goal.all_codewords-requires
 all_codewords-requires c =
     record {
-      n_bound = (plan-fits (plan_of c.args.left.now c.args.right.now c.args.nl c.args.nr c.args.wiring.now) (begun (goal.at.all_codewords-requires c).Start).plan-done left).n-high;
+      n_bound = few (begun c.requires.ready c.requires.block_value) left;
       finds = c.sweep_firsts-firsts.ensures.still_ready.left-finds;
     }
 
 pub returns-then-all_codewords : goal.returns-then-all_codewords
 returns-then-all_codewords c =
+    let b = begun c.requires.ready c.requires.block_value in
+    let both = c.sweep_firsts-firsts.ensures.both_swept in
     record {
       still_ready = c.sweep_firsts-firsts.ensures.still_ready;
       opened = record {
         limit_is = refl;
-        closed = λ _. open-settled (begun (goal.at.returns-then-all_codewords c).Start) (swept (goal.at.returns-then-all_codewords c).After-note-2 (told-one (goal.at.returns-then-all_codewords c).After-note)) (second-pass (goal.at.returns-then-all_codewords c).After-sweep_firsts-firsts) c.if-second-eq0-2.true c.if-limit-lt2.false
-            (c.all_codewords.ensures.when_true c.if-all_codewords.true _);
+        closed = λ _. open-settled b
+            (swept b both c.args.limit c.note.ensures c.add_visits-one.ensures c.add_visits-two.ensures c.if-second-eq0.false c.note-2.ensures)
+            (second-pass b both) c.if-second-eq0-2.true c.if-limit-lt2.false (c.all_codewords.ensures.when_true c.if-all_codewords.true _);
         going = λ no. absurd (true≢false no);
       };
     }
 
-pub returns-else-all_codewords : goal.returns-else-all_codewords
-returns-else-all_codewords c =
+pub returns : goal.returns
+returns c =
+    let b = begun c.requires.ready c.requires.block_value in
     record {
       still_ready = c.sweep_firsts-firsts.ensures.still_ready;
-      opened = record { limit_is = refl; closed = λ no. absurd (true≢false (sym no)); going = λ _. (going (goal.at.returns-else-all_codewords c).After-note-2 (told-one (goal.at.returns-else-all_codewords c).After-note)) };
-    }
-
-pub returns-else-second-eq0-2 : goal.returns-else-second-eq0-2
-returns-else-second-eq0-2 c =
-    record {
-      still_ready = c.sweep_firsts-firsts.ensures.still_ready;
-      opened = record { limit_is = refl; closed = λ no. absurd (true≢false (sym no)); going = λ _. (going (goal.at.returns-else-second-eq0-2 c).After-note-2 (told-one (goal.at.returns-else-second-eq0-2 c).After-note)) };
+      opened = record {
+        limit_is = refl;
+        closed = λ no. absurd (true≢false (sym no));
+        going = λ _. going b c.sweep_firsts-firsts.ensures.both_swept c.args.limit c.note.ensures c.add_visits-one.ensures c.add_visits-two.ensures
+            c.if-second-eq0.false c.note-2.ensures;
+      };
     }

@@ -5,7 +5,6 @@ use mathlib.Core.Path.{◌≡◌, refl, sym, ◌∙◌}
 use Prim.Native.Nat.{ℕ}
 use native.Mathlib.Omega.{arith}
 use borrow.Author.Count.{below_more}
-use borrow.Author.Rules.{rules}
 use Rattle.inner_code.specs.Sheet.{degree}
 use Rattle.inner_code.proofs.SheetChecks.{sound}
 use Rattle.finder.proofs.Finding.{member-means}
@@ -19,12 +18,8 @@ use Rattle.sweeps.proofs.sweep.all_codewords.Goals.{After-is_codeword}
 pub bounds-sheet-0 : goal.bounds-sheet-0
 bounds-sheet-0 c = let s = sound _ [] c.requires.finds.accepted in sheet-some c.args.sheet.now (omega (arith, s.degree-low))
 
--- look: no goal for `overflow-cast-d`
--- cast-d : tie.Need-overflow-cast-d invariant-loop decreases-loop
--- cast-d c = omega (arith, c.type_inv.sheet 0)
-
 pub loop-v-init : goal.loop-v-init
-loop-v-init c = (search rules, λ _ u l. absurd (omega arith))
+loop-v-init c = λ _ u l. absurd (omega arith)
 
 pub left_word-word-requires : goal.left_word-word-requires
 unfolding degree
@@ -52,11 +47,10 @@ returns-then-not-is_codeword c = record {
 
 pub loop-v-preserved : goal.loop-v-preserved
 loop-v-preserved c =
-    let turn = c.loop-v in
-    (omega arith, λ wiring. below_more _ turn.v (turn.invariant.1 wiring) (sym (tells (goal.at.loop-v-preserved c).After-is_codeword wiring) ∙ c.if-not-is_codeword.false))
+    λ wiring. below_more _ c.loop-v.v (c.loop-v.invariant wiring) (sym (tells (goal.at.loop-v-preserved c).After-is_codeword wiring) ∙ c.if-not-is_codeword.false)
 
 pub returns : goal.returns
 returns c = record {
-  when_true = λ _ wiring v l. c.loop-v.invariant.1 wiring v (omega arith);
+  when_true = λ _ wiring v l. c.loop-v.invariant wiring v (omega arith);
   when_false = λ e. absurd (true≢false e);
 }

@@ -1,7 +1,7 @@
 use mathlib.Core.Bool.{true}
 use mathlib.Core.List.{List}
 use mathlib.Core.Path.{◌≡◌}
-use Prim.Native.Nat.{ℕ, ◌-◌, ◌≤◌, ◌<◌}
+use Prim.Native.Nat.{ℕ, ◌<◌}
 use Rattle.wiring.specs.Block.{satisfied}
 use Rattle.wiring.specs.Plan.{side_by}
 use Rattle.wiring.specs.declared.side.SideName.{SideName}
@@ -9,7 +9,4 @@ use Rattle.sweeps.proofs.sweep.all_codewords.Given as goal
 
 abbrev pub invariant-loop-v : goal.invariant-loop-v
 invariant-loop-v l =
-    (l.v ≤ l.n) × ((wiring : List ℕ) (u : ℕ) → u < l.v → satisfied (side_by l.sheet l.n wiring SideName.Left) l.block u ≡ true)
-
-abbrev pub decreases-loop-v : goal.decreases-loop-v
-decreases-loop-v l = l.n - l.v
+    (wiring : List ℕ) (u : ℕ) → u < l.v → satisfied (side_by l.sheet l.n wiring SideName.Left) l.block u ≡ true

@@ -1,4 +1,3 @@
-use Prim.Native.Nat.{◌-◌, ◌≤◌}
 use Rattle.wiring.specs.Plan.{side_by}
 use Rattle.wiring.specs.declared.side.SideName.{SideName}
 use Rattle.sweeps.specs.Sweeping.{SideReady}
@@ -7,7 +6,4 @@ use Rattle.sweeps.proofs.sweep.sweep_first.Given as goal
 
 abbrev pub invariant-loop-v : goal.invariant-loop-v
 invariant-loop-v l =
-    (l.v ≤ l.n) × Visits (side_by l.sheet l.n l.wiring SideName.Left) l.initial.block l.v l.changed l.ties l.block × SideReady l.sheet l.n l.wiring l.finder
-
-abbrev pub decreases-loop-v : goal.decreases-loop-v
-decreases-loop-v l = l.n - l.v
+    Visits (side_by l.sheet l.n l.wiring SideName.Left) l.initial.block l.v l.changed l.ties l.block × SideReady l.sheet l.n l.wiring l.finder

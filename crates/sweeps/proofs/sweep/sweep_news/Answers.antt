@@ -6,64 +6,62 @@ use Prim.Native.Nat.{ℕ, ◌+◌, ◌*◌, ◌≤◌, ◌<◌}
 use native.Mathlib.Decide.{ℕ_discrete}
 use native.Mathlib.Nat.{le_refl, le_trans, le_of_eq}
 use native.Mathlib.Omega.{arith}
-use borrow.Author.Rules.{rules}
 use lib.ListN.{length, get_or, set}
 use lib.Pow.{pow_pos}
 use Rattle.bits.specs.Window.{at}
 use Rattle.finder.specs.Finding.{Finds}
-use Rattle.wiring.specs.Plan.{plan_of, sheet_of, count_of}
+use Rattle.wiring.specs.Plan.{Plan, plan_of, sheet_of, count_of}
 use Rattle.bits.proofs.Lists.{at_set_same, at_set_other}
 use Rattle.words.specs.Marks.{news_of}
-use Rattle.sweeps.specs.Sweeping.{Hears}
 use Rattle.words.proofs.Marks.{marks-high}
 use Rattle.wiring.proofs.Plans.{plan-fits}
 use Rattle.wiring.proofs.Sides.{count-for}
 use Rattle.sweeps.proofs.Rounds.{news-round-start, news-round-changed, news-round-few, news-round-end, news-round-clear}
 use Rattle.sweeps.proofs.Rounds.{NewsScan, news-scan-start, news-scan-end, news-scan-vertex, news-scan-more}
 use Rattle.sweeps.proofs.sweep.sweep_news.Goals as goal
-use Rattle.sweeps.proofs.sweep.sweep_news.Goals.{After-news_of-from, After-rest-1, At-loop-rest, Start}
+use Rattle.sweeps.proofs.sweep.sweep_news.Goals.{After-news_of-from, At-loop-rest}
 
 -- ---- the call and the loops' heads
-
-hears : (c : Start) → Hears (plan_of c.args.left.now c.args.right.now c.args.nl c.args.nr c.args.wiring.now) c.args.side c.args.block.now c.args.kept.now
-hears c = c.requires.hears
 
 -- a number of the side's marks
 marks-few : (c : After-news_of-from) → c.news_of-from.result + 128 ≤ 2304
 marks-few c = omega (arith, c.news_of-from.ensures, marks-high c.args.side)
 
-few : (c : After-rest-1) → c.loop-i.i < 128
+abbrev plan : At-loop-rest → Plan
+plan c = plan_of c.args.left.now c.args.right.now c.args.nl c.args.nr c.args.wiring.now
+
+few : (c : At-loop-rest) → c.loop-i.i < 128
 few c = omega (arith, c.numbers_of-numbers.ensures.1)
 
 -- the sixteen marks, taken off
-scanned : (c : After-rest-1)
+scanned : (c : At-loop-rest)
     → let turn = c.loop-i in
-    NewsScan (plan_of c.args.left.now c.args.right.now c.args.nl c.args.nr c.args.wiring.now) c.args.side c.args.block.now c.args.kept.now turn.i turn.changed turn.visits turn.block
+    NewsScan (plan c) c.args.side c.args.block.now c.args.kept.now turn.i turn.changed turn.visits turn.block
     (set turn.kept (c.news_of-from.result + turn.i) 0) (get_or turn.kept (c.news_of-from.result + turn.i) 0)
 unfolding at
 scanned c =
     let turn = c.loop-i in
     let place = c.news_of-from.ensures in
-    news-scan-start c.requires.plan_value (hears c.before.before.before.before.before.before.before.before.before.before.before.before.before.before) (few c) turn.invariant.1
+    news-scan-start c.requires.plan_value c.requires.hears (few c) turn.invariant.0
     (ap (λ (from : ℕ). set turn.kept (from + turn.i) 0) place)
-    (ap (λ (from : ℕ). get_or turn.kept (from + turn.i) 0) place ∙ turn.invariant.3 turn.i (le_refl _) (few c))
+    (ap (λ (from : ℕ). get_or turn.kept (from + turn.i) 0) place ∙ turn.invariant.2 turn.i (le_refl _) (few c))
 
 state : (c : At-loop-rest)
-    → NewsScan (plan_of c.args.left.now c.args.right.now c.args.nl c.args.nr c.args.wiring.now) c.args.side c.args.block.now c.args.kept.now c.loop-i.i c.loop-rest.changed c.loop-rest.visits
+    → NewsScan (plan c) c.args.side c.args.block.now c.args.kept.now c.loop-i.i c.loop-rest.changed c.loop-rest.visits
     c.loop-rest.block c.loop-rest.kept c.loop-rest.rest
-state c = c.loop-rest.invariant.0 _ _ (hears c.before.before.before.before.before.before.before.before.before.before.before.before.before.before.before) (scanned (record { before = c.before.before; type_inv = record { places = c.shared_slice_known-4-1.given; wiring = c.shared_slice_known-3-1.given; right = c.shared_slice_known-2-1.given; left = c.shared_slice_known-1.given } }))
+state c = c.loop-rest.invariant.0 _ _ c.requires.hears (scanned c)
 
-finds : (c : At-loop-rest)
-    → Finds (sheet_of (plan_of c.args.left.now c.args.right.now c.args.nl c.args.nr c.args.wiring.now) c.args.side) c.loop-rest.finder
-finds c = c.loop-rest.invariant.1 c.loop-i.invariant.2
+finds : (c : At-loop-rest) → Finds (sheet_of (plan c) c.args.side) c.loop-rest.finder
+finds c = c.loop-rest.invariant.1 c.loop-i.invariant.1
 
 pub numbers_of-numbers-requires : goal.numbers_of-numbers-requires
 numbers_of-numbers-requires c =
-    le_trans (le_of_eq (c.count_of.ensures ∙ count-for (plan_of c.args.left.now c.args.right.now c.args.nl c.args.nr c.args.wiring.now) c.args.side)) (plan-fits (plan_of c.args.left.now c.args.right.now c.args.nl c.args.nr c.args.wiring.now) c.requires.plan_value c.args.side).n-high
+    let plan : Plan = plan_of c.args.left.now c.args.right.now c.args.nl c.args.nr c.args.wiring.now in
+    le_trans (le_of_eq (c.count_of.ensures ∙ count-for plan c.args.side)) (plan-fits plan c.requires.plan_value c.args.side).n-high
 
 pub loop-i-init : goal.loop-i-init
 loop-i-init c =
-    (search rules, news-round-start c.requires.plan_value (hears (goal.at.loop-i-init c).Start), c.requires.finds, λ j l h. refl, λ j l. absurd (omega arith))
+    (news-round-start c.requires.plan_value c.requires.hears, c.requires.finds, λ j l h. refl, λ j l. absurd (omega arith))
 
 pub overflow_add-rest : goal.overflow_add-rest
 overflow_add-rest c = omega (arith, marks-few (goal.at.overflow_add-rest c).After-news_of-from)
@@ -78,41 +76,44 @@ pub overflow_add-kept : goal.overflow_add-kept
 overflow_add-kept c = omega (arith, marks-few (goal.at.overflow_add-kept c).After-news_of-from)
 
 pub offset_bounds-kept-from-in-loop-i : goal.offset_bounds-kept-from-in-loop-i
-offset_bounds-kept-from-in-loop-i c = omega (arith, marks-few (goal.at.offset_bounds-kept-from-in-loop-i c).After-news_of-from, few c)
+offset_bounds-kept-from-in-loop-i c =
+    omega (arith, marks-few (goal.at.offset_bounds-kept-from-in-loop-i c).After-news_of-from, c.numbers_of-numbers.ensures.1)
 
 pub bounds-kept-from-in-loop-i : goal.bounds-kept-from-in-loop-i
-bounds-kept-from-in-loop-i c = omega (arith, marks-few (goal.at.bounds-kept-from-in-loop-i c).After-news_of-from, few c)
+bounds-kept-from-in-loop-i c = omega (arith, marks-few (goal.at.bounds-kept-from-in-loop-i c).After-news_of-from, c.numbers_of-numbers.ensures.1)
 
 pub loop-rest-init : goal.loop-rest-init
 loop-rest-init c = (λ before marks h so_far. so_far, λ f. f, λ j l. refl)
 
 pub overflow_mul-v : goal.overflow_mul-v
-overflow_mul-v c = omega (arith, few (goal.at.overflow_mul-v c).After-rest-1)
+overflow_mul-v c = omega (arith, few (goal.at.overflow_mul-v c).At-loop-rest)
 
 pub overflow_sub-v : goal.overflow_sub-v
 overflow_sub-v c = omega (arith, c.highest-high.ensures.fits_word)
 
 pub overflow_add-v : goal.overflow_add-v
-overflow_add-v c = omega (arith, few (goal.at.overflow_add-v c).After-rest-1)
+overflow_add-v c = omega (arith, few (goal.at.overflow_add-v c).At-loop-rest)
 
 pub visit-bits-requires : goal.visit-bits-requires
 visit-bits-requires c =
-    let so_far = state (goal.at.visit-bits-requires c).At-loop-rest in record {
+    let here = (goal.at.visit-bits-requires c).At-loop-rest in
+    let so_far = state here in record {
       plan_value = c.requires.plan_value;
-      v_bound = news-scan-vertex c.requires.plan_value (hears (goal.at.visit-bits-requires c).Start) (few (goal.at.visit-bits-requires c).After-rest-1) so_far _ c.highest-high.ensures.power_low c.highest-high.ensures.power_high
-          c.highest-high.ensures.fits_word;
-      finds = finds (goal.at.visit-bits-requires c).At-loop-rest;
+      v_bound = news-scan-vertex c.requires.plan_value c.requires.hears (few here) so_far _ c.highest-high.ensures.power_low
+          c.highest-high.ensures.power_high c.highest-high.ensures.fits_word;
+      finds = finds here;
       across = c.requires.across;
       words_read = so_far.round.so_far.reads;
     }
 
 pub overflow_add-changed : goal.overflow_add-changed
 overflow_add-changed c =
-    omega (arith, news-round-changed c.requires.plan_value (hears (goal.at.overflow_add-changed c).Start) (finds (goal.at.overflow_add-changed c).At-loop-rest) (state (goal.at.overflow_add-changed c).At-loop-rest).round)
+    let here = (goal.at.overflow_add-changed c).At-loop-rest in
+    omega (arith, news-round-changed c.requires.plan_value c.requires.hears (finds here) (state here).round)
 
 pub overflow_add-visits : goal.overflow_add-visits
 overflow_add-visits c =
-    omega (arith, news-round-few c.requires.plan_value (hears (goal.at.overflow_add-visits c).Start) (state (goal.at.overflow_add-visits c).At-loop-rest).round)
+    omega (arith, news-round-few c.requires.plan_value c.requires.hears (state (goal.at.overflow_add-visits c).At-loop-rest).round)
 
 pub power-rest-requires : goal.power-rest-requires
 power-rest-requires c = c.highest-high.ensures.fits_word
@@ -127,10 +128,11 @@ loop-rest-smaller c =
 
 pub loop-rest-preserved : goal.loop-rest-preserved
 loop-rest-preserved c =
+    let here = (goal.at.loop-rest-preserved c).At-loop-rest in
     let turn = c.loop-rest in
     let visit = c.visit-bits.ensures in (
       λ before marks h so_far.
-          news-scan-more c.requires.plan_value h (few (goal.at.loop-rest-preserved c).After-rest-1) (turn.invariant.0 before marks h so_far) _ c.highest-high.ensures.power_low
+          news-scan-more c.requires.plan_value h (few here) (turn.invariant.0 before marks h so_far) _ c.highest-high.ensures.power_low
           c.highest-high.ensures.power_high c.highest-high.ensures.fits_word visit.visited_at c.power-rest.ensures,
       λ f. visit.still_finds,
       λ j l. visit.visited_at.keeps.own j l ∙ turn.invariant.2 j l,
@@ -157,40 +159,35 @@ marks-within from i kept high few sized = omega arith
 
 pub loop-i-preserved : goal.loop-i-preserved
 loop-i-preserved c =
+    let here = (goal.at.loop-i-preserved c).At-loop-rest in
     let turn = c.loop-i in
     let place = c.news_of-from.ensures in
     let kept : (j : ℕ) → j < 128
     → at c.loop-rest.kept (news_of c.args.side + j) ≡ at (set turn.kept (news_of c.args.side + turn.i) 0) (news_of c.args.side + j) =
     λ j l. c.loop-rest.invariant.2 j l ∙ ap (λ (from : ℕ). at (set turn.kept (from + turn.i) 0) (news_of c.args.side + j)) place in (
-      omega (arith, few (goal.at.loop-i-preserved c).After-rest-1),
-      news-scan-end c.requires.plan_value (hears (goal.at.loop-i-preserved c).Start) (few (goal.at.loop-i-preserved c).After-rest-1) (state (goal.at.loop-i-preserved c).At-loop-rest) c.loop-rest-test.false,
-      finds (goal.at.loop-i-preserved c).At-loop-rest,
-      λ j l h. kept j h ∙ at_set_other turn.kept _ _ 0 (marks-after (news_of c.args.side) turn.i l) ∙ turn.invariant.3 j (below_next turn.i l) h,
+      news-scan-end c.requires.plan_value c.requires.hears (few here) (state here) c.loop-rest-test.false,
+      finds here,
+      λ j l h. kept j h ∙ at_set_other turn.kept _ _ 0 (marks-after (news_of c.args.side) turn.i l) ∙ turn.invariant.2 j (below_next turn.i l) h,
       λ j l. elim (ℕ_discrete j turn.i) [
         | yes e ↦
-            kept j (below_both turn.i l (few (goal.at.loop-i-preserved c).After-rest-1))
-            ∙ rw e (at_set_same turn.kept _ 0 (marks-within (news_of c.args.side) turn.i turn.kept (marks-high c.args.side) (few (goal.at.loop-i-preserved c).After-rest-1)
-            turn.invariant.1.so_far.reads.sized))
+            kept j (below_both turn.i l (few here))
+            ∙ rw e (at_set_same turn.kept _ 0 (marks-within (news_of c.args.side) turn.i turn.kept (marks-high c.args.side) (few here)
+            turn.invariant.0.so_far.reads.sized))
         | no apart ↦
-            kept j (below_both turn.i l (few (goal.at.loop-i-preserved c).After-rest-1)) ∙ at_set_other turn.kept _ _ 0 (marks-other (news_of c.args.side) apart)
-            ∙ turn.invariant.4 j (below_other turn.i l apart)
+            kept j (below_both turn.i l (few here)) ∙ at_set_other turn.kept _ _ 0 (marks-other (news_of c.args.side) apart)
+            ∙ turn.invariant.3 j (below_other turn.i l apart)
       ],
     )
-
--- look: no goal for `same-length`
--- same_length : tie.Need-same-length invariant-loop2 decreases-loop2 invariant-loop decreases-loop
--- same_length c = c.loop-i.invariant.2.sized ∙ sym (start c.before.before).requires.finds.sized
-
--- look: no goal for `same-length-2`
--- same-length-2 : tie.Need-same-length-2 invariant-loop2 decreases-loop2 invariant-loop decreases-loop
--- same-length-2 c = visits-length c.loop-i.invariant.1.so_far.visits
 
 pub returns : goal.returns
 returns c =
     let turn = c.loop-i in
-    let enough : count_of (plan_of c.args.left.now c.args.right.now c.args.nl c.args.nr c.args.wiring.now) c.args.side ≤ 16 * c.numbers_of-numbers.result =
-    le_trans (le_of_eq (sym (c.count_of.ensures ∙ count-for (plan_of c.args.left.now c.args.right.now c.args.nl c.args.nr c.args.wiring.now) c.args.side))) c.numbers_of-numbers.ensures.0 in
-    let all : count_of (plan_of c.args.left.now c.args.right.now c.args.nl c.args.nr c.args.wiring.now) c.args.side ≤ 16 * turn.i = omega (arith, turn.invariant.0, enough) in record {
-      news_swept = news-round-end c.requires.plan_value (hears (goal.at.returns c).Start) all turn.invariant.1 (news-round-clear c.requires.plan_value (hears (goal.at.returns c).Start) turn.kept turn.i all turn.invariant.4 turn.invariant.3);
-      still_finds = turn.invariant.2;
+    let plan : Plan = plan_of c.args.left.now c.args.right.now c.args.nl c.args.nr c.args.wiring.now in
+    let enough : count_of plan c.args.side ≤ 16 * c.numbers_of-numbers.result =
+    le_trans (le_of_eq (sym (c.count_of.ensures ∙ count-for plan c.args.side))) c.numbers_of-numbers.ensures.0 in
+    let all : count_of plan c.args.side ≤ 16 * turn.i = omega (arith, enough) in
+    record {
+      news_swept = news-round-end c.requires.plan_value c.requires.hears all turn.invariant.0
+          (news-round-clear c.requires.plan_value c.requires.hears turn.kept turn.i all turn.invariant.3 turn.invariant.2);
+      still_finds = turn.invariant.1;
     }

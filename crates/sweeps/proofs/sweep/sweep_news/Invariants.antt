@@ -1,6 +1,6 @@
 use mathlib.Core.List.{List}
 use mathlib.Core.Path.{◌≡◌}
-use Prim.Native.Nat.{ℕ, ◌+◌, ◌-◌, ◌*◌, ◌≤◌, ◌<◌}
+use Prim.Native.Nat.{ℕ, ◌+◌, ◌*◌, ◌≤◌, ◌<◌}
 use Rattle.bits.specs.Window.{at}
 use Rattle.finder.specs.Finding.{Finds}
 use Rattle.wiring.specs.Plan.{Plan, plan_of, sheet_of}
@@ -24,9 +24,6 @@ decreases-loop-rest l = l.rest
 abbrev pub invariant-loop-i : goal.invariant-loop-i
 invariant-loop-i l =
     let plan : Plan = plan_of l.left l.right l.nl l.nr l.wiring in
-    (l.i ≤ l.numbers) × NewsRound plan l.side l.initial.block l.initial.kept (16 * l.i) l.changed l.visits l.block l.kept × Finds (sheet_of plan l.side) l.finder
+    NewsRound plan l.side l.initial.block l.initial.kept (16 * l.i) l.changed l.visits l.block l.kept × Finds (sheet_of plan l.side) l.finder
     × ((j : ℕ) → l.i ≤ j → j < 128 → at l.kept (news_of l.side + j) ≡ at l.initial.kept (news_of l.side + j))
     × ((j : ℕ) → j < l.i → at l.kept (news_of l.side + j) ≡ 0)
-
-abbrev pub decreases-loop-i : goal.decreases-loop-i
-decreases-loop-i l = l.numbers - l.i

@@ -1,5 +1,5 @@
 use mathlib.Core.Path.{◌≡◌}
-use Prim.Native.Nat.{ℕ, ◌+◌, ◌-◌, ◌≤◌, ◌<◌}
+use Prim.Native.Nat.{ℕ, ◌+◌, ◌<◌}
 use Rattle.bits.specs.Window.{at}
 use Rattle.finder.specs.Finding.{Finds}
 use Rattle.wiring.specs.Plan.{Plan, plan_of}
@@ -11,8 +11,5 @@ use Rattle.sweeps.proofs.sweep.sweep_second.Given as goal
 abbrev pub invariant-loop-v : goal.invariant-loop-v
 invariant-loop-v l =
     let plan : Plan = plan_of l.left l.right l.nl l.nr l.wiring in
-    (l.v ≤ l.nr) × Round plan SideName.Right l.initial.block l.v l.changed l.ties l.block l.kept × Finds l.right l.finder
+    Round plan SideName.Right l.initial.block l.v l.changed l.ties l.block l.kept × Finds l.right l.finder
     × ((i : ℕ) → i < 128 → at l.kept (news_of SideName.Right + i) ≡ at l.initial.kept (news_of SideName.Right + i))
-
-abbrev pub decreases-loop-v : goal.decreases-loop-v
-decreases-loop-v l = l.nr - l.v

@@ -1,5 +1,5 @@
 use mathlib.Core.Path.{◌≡◌}
-use Prim.Native.Nat.{ℕ, ◌-◌, ◌≤◌, ◌<◌}
+use Prim.Native.Nat.{ℕ, ◌<◌}
 use Rattle.bits.specs.Window.{at}
 use Rattle.wiring.specs.Block.{vertex_word}
 use Rattle.wiring.specs.Plan.{plan_of, side_of}
@@ -9,8 +9,5 @@ use Rattle.words.proofs.words.read_words.Given as goal
 
 abbrev pub invariant-loop-v : goal.invariant-loop-v
 invariant-loop-v l =
-    (l.v ≤ l.nr) × Cleared l.kept
+    Cleared l.kept
     × ((u : ℕ) → u < l.v → at l.kept u ≡ vertex_word (side_of (plan_of l.left l.right l.nl l.nr l.wiring) SideName.Right) l.block u)
-
-abbrev pub decreases-loop-v : goal.decreases-loop-v
-decreases-loop-v l = l.nr - l.v
