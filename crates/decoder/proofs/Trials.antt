@@ -34,7 +34,7 @@ use Rattle.inner_code.proofs.Replies.{and_then-done, refuse-done, refuse-taken, 
 use Rattle.wiring.specs.Access.{both_codes, located_by}
 use Rattle.wiring.specs.Plan.{Plan, edge_count, left, right, side_of}
 use Rattle.wiring.specs.Block.{block_bytes, block_check, is_codeword_block, located}
-use Rattle.wiring.specs.Checking.{code_of}
+use Rattle.wiring.specs.Code.{code_of}
 use Rattle.wiring.specs.declared.side.SideCode.{SideCode}
 use Rattle.wiring.proofs.Blocks.{block-sized, block-clear, block_back}
 use Rattle.wiring.proofs.CodewordBlocks.{located-some}

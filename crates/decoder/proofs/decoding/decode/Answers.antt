@@ -10,7 +10,7 @@ use Rattle.wiring.specs.Plan.{Plan, plan_of, edge_count, left, right}
 use Rattle.wiring.specs.Block.{block_check}
 use Rattle.wiring.specs.declared.block.Checked.{Checked}
 use Rattle.wiring.specs.declared.plan.CheckedPlan.{CheckedPlan}
-use Rattle.wiring.specs.Checking.{check_reply}
+use Rattle.inner_code.specs.Refusal.{check_reply}
 use Rattle.spans.specs.Spans.{spans_check}
 use Rattle.wiring.proofs.Blocks.{block-sized}
 use Rattle.wiring.proofs.Plans.{PlanAccepted, plan-accepted, plan-refused, accepted-edges}
