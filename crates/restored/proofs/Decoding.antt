@@ -52,10 +52,41 @@ module _ {received : List ℕ} (r : Received received) (output : List ℕ) (room
 
 -- ---- answers of the code
 
-pub outcome-count : (decoded : Decoded) (count : ℕ) → decode_reply decoded ≡ done (count ∷ []) → sweeps_of decoded ≡ count
-outcome-count (Decoded.Settled answered) count e = cc
-outcome-count (Decoded.Refused r) count e = let z : ◌≡◌ {A = ℕ} 0 1 = cc in absurd (omega arith)
+pub outcome-count : (outcome : Result ℕ Refusal) (count : ℕ) → decode_reply outcome ≡ done (count ∷ []) → sweeps_of outcome ≡ count
+outcome-count (Ok answered) count e = cc
+outcome-count (Err r) count e = let z : ◌≡◌ {A = ℕ} 0 1 = cc in absurd (omega arith)
 
-pub outcome-unsettled : (decoded : Decoded) → decode_reply decoded ≡ refused 15 0 → is_unsettled decoded ≡ true
-outcome-unsettled (Decoded.Settled answered) e = let z : ◌≡◌ {A = ℕ} 0 1 = cc in absurd (omega arith)
-outcome-unsettled (Decoded.Refused r) e = let same : r.number ≡ 15 = cc in eq-eqb r.number 15 same
+-- refusal 15 is one alone
+fifteen : (r : Refusal) → number_of r ≡ 15 → r ≡ Refusal.Unsettled
+fifteen Refusal.SheetShort e = absurd (omega arith)
+fifteen Refusal.DegreeOutOfRange e = absurd (omega arith)
+fifteen Refusal.RowsOutOfRange e = absurd (omega arith)
+fifteen Refusal.SheetLengthWrong e = absurd (omega arith)
+fifteen (Refusal.RowTooLarge row) e = absurd (omega arith)
+fifteen (Refusal.RowDependent row) e = absurd (omega arith)
+fifteen Refusal.VerticesOutOfRange e = absurd (omega arith)
+fifteen Refusal.EdgeCountsDiffer e = absurd (omega arith)
+fifteen Refusal.WiringLengthWrong e = absurd (omega arith)
+fifteen (Refusal.EntryTooLarge entry) e = absurd (omega arith)
+fifteen (Refusal.EntryRepeated entry) e = absurd (omega arith)
+fifteen Refusal.BlockLengthWrong e = absurd (omega arith)
+fifteen Refusal.StrayBit e = absurd (omega arith)
+fifteen Refusal.SpansLengthWrong e = absurd (omega arith)
+fifteen Refusal.SpanOutOfBlock e = absurd (omega arith)
+fifteen Refusal.SpanOutOfOrder e = absurd (omega arith)
+fifteen Refusal.OutputShort e = absurd (omega arith)
+fifteen Refusal.LimitTooLarge e = absurd (omega arith)
+fifteen Refusal.Unsettled e = refl
+fifteen Refusal.ListShort e = absurd (omega arith)
+fifteen Refusal.FlipsTooMany e = absurd (omega arith)
+fifteen Refusal.FlipsNotCovered e = absurd (omega arith)
+fifteen Refusal.BitTooLarge e = absurd (omega arith)
+fifteen Refusal.SweepsSpent e = absurd (omega arith)
+fifteen Refusal.PlanTooLarge e = absurd (omega arith)
+fifteen Refusal.MessageLengthWrong e = absurd (omega arith)
+fifteen Refusal.MessageStrayBit e = absurd (omega arith)
+fifteen Refusal.NoCodeword e = absurd (omega arith)
+
+pub outcome-unsettled : (outcome : Result ℕ Refusal) → decode_reply outcome ≡ refused 15 0 → outcome ≡ Err Refusal.Unsettled
+outcome-unsettled (Ok answered) e = let z : ◌≡◌ {A = ℕ} 0 1 = cc in absurd (omega arith)
+outcome-unsettled (Err r) e = let same : number_of r ≡ 15 = cc in ap Err (fifteen r same)
