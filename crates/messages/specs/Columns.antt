@@ -14,10 +14,9 @@
 --   Spread N p hits columns left    `left` is `columns` with row p put on every row of `hits`
 -- Of the columns before and after some checks of a side, whatever checks were made before them:
 --   CheckMade N d check wiring residues columns left  `left` holds the rows after one check more, which has this check's value on every vector
---   side_from row code wiring name   the side that the code holds, `row` being its generator rows
---   Eliminated N name code wiring m columns left  `left` holds the rows after m checks more, those of a side in order
+--   Eliminated plan name m columns left  `left` holds the rows after m checks more, those of a side of the plan in order
 -- and of all checks:
---   Solved l r wiring columns       the columns hold the final rows of every accepted plan whose sides the codes l and r are
+--   Solved plan columns             the columns hold the final rows of the plan
 --   StoredPlan plan N columns       the columns hold the final rows of an accepted plan of N edges, at most 512
 --   live_before columns j            how many rows below j have a 1 at their own place: those that are left
 --   Chosen N columns message chosen column 0 of `chosen` is the set of the rows left whose bit in the message is 1
@@ -31,12 +30,9 @@ use Rattle.bits.specs.Bit.{digit, bit_at, with_bit}
 use Rattle.bits.specs.Sum.{sum}
 use Rattle.bits.specs.Search.{first_failing}
 use Rattle.inner_code.specs.Reply.{done}
-use Rattle.inner_code.specs.Reduction.{reduced_by, with_echelon}
-use Rattle.wiring.specs.Plan.{Plan, Side, edge_count, side_bit}
+use Rattle.inner_code.specs.Reduction.{reduced_by}
+use Rattle.wiring.specs.Plan.{Plan, edge_count, side_bit, side_of}
 use Rattle.wiring.specs.Wiring.{plan_check}
-use Rattle.wiring.specs.Access.{both_codes}
-use Rattle.wiring.specs.Checking.{code_of}
-use Rattle.wiring.specs.declared.side.SideCode.{SideCode}
 use Rattle.wiring.specs.declared.side.SideName.{SideName}
 use Rattle.messages.specs.Position.{bits_put}
 use Rattle.messages.specs.Elimination.{parity, State, after, side_check, final_state}
@@ -92,17 +88,13 @@ pub record CheckMade (N d : ℕ) (check : Check) (wiring residues columns left :
   pub rows : (checks : ℕ → ℕ → ℕ) (m : ℕ) → ((f : ℕ → ℕ) → check_value d check wiring residues f ≡ parity N (checks m) f)
       → Stores N (after N checks m) columns → Stores N (after N checks (m + 1)) left
 
-abbrev pub side_from : (ℕ → ℕ) → SideCode → List ℕ → SideName → Side
-side_from rows code wiring name = record { n = code.n; d = code.d; k = code.k; row = rows; bit = side_bit name wiring }
+pub record Eliminated (plan : Plan) (name : SideName) (m : ℕ) (columns left : List ℕ) : Type 0 where
+  pub rows : (checks : ℕ → ℕ → ℕ) (first : ℕ) → ((i : ℕ) → i < m → checks (first + i) ≡ side_check (side_of plan name) i)
+      → Stores (edge_count plan) (after (edge_count plan) checks first) columns
+      → Stores (edge_count plan) (after (edge_count plan) checks (first + m)) left
 
-pub record Eliminated (N : ℕ) (name : SideName) (code : SideCode) (wiring : List ℕ) (m : ℕ) (columns left : List ℕ) : Type 0 where
-  pub rows : (row : ℕ → ℕ) → code.basis ≡ with_echelon row code.k (replicate 11 0) → code.k ≤ 11
-      → (checks : ℕ → ℕ → ℕ) (first : ℕ) → ((i : ℕ) → i < m → checks (first + i) ≡ side_check (side_from row code wiring name) i)
-      → Stores N (after N checks first) columns → Stores N (after N checks (first + m)) left
-
-pub record Solved (l r : SideCode) (wiring columns : List ℕ) : Type 0 where
-  pub rows : (plan : Plan) → plan_check plan ≡ done [] → plan.wiring ≡ wiring → ((name : SideName) → both_codes l r name ≡ code_of plan name)
-      → Stores (edge_count plan) (final_state plan) columns
+abbrev pub Solved : Plan → List ℕ → Type 0
+Solved plan columns = Stores (edge_count plan) (final_state plan) columns
 
 pub record StoredPlan (plan : Plan) (N : ℕ) (columns : List ℕ) : Type 0 where
   pub accepted : plan_check plan ≡ done []
