@@ -4,7 +4,7 @@ ghost use Rattle.inner_code.specs.Refusal.{check_reply};
 ghost use Rattle.wiring.specs.PlanParts.{plan_in};
 ghost use Rattle.messages.specs.Message.{message_check};
 ghost use Rattle.messages.specs.Answer.{encode_reply, encode_answer, encode_output};
-ghost use Rattle.messages.specs.Columns.{no_rows, Chosen, column_parity, BitsPut};
+ghost use Rattle.messages.specs.Columns.{Chosen, column_parity, BitsPut};
 
 use crate::columns::{COLUMN_WORDS, MAX_EDGES, SET_WORDS, WORD_BITS, count_live, row_bit};
 use crate::output::clear;
@@ -30,8 +30,7 @@ pub fn encode(plan: PlanParts<'_>, message: &[u8], output: &mut [u8]) -> Result<
     if output.len() < bytes {
         return Err(Refusal::OutputShort);
     }
-    let mut chosen = [0u64; SET_WORDS];
-    choose(edges, &columns, message, &mut chosen);
+    let chosen = choose(edges, &columns, message);
     clear(bytes, output);
     put_bits(edges, &columns, &chosen, output);
     Ok(())
@@ -49,16 +48,11 @@ fn check_message(bits: usize, message: &[u8]) -> Result<(), Refusal>
 }
 
 // The rows left whose bit in the message is 1, the message's bits in rising order of the rows.
-fn choose(
-    edges: usize,
-    columns: &[u64; COLUMN_WORDS],
-    message: &[u8],
-    chosen: &mut [u64; SET_WORDS],
-)
-    requires edges_bound { edges ≤ 512 }
-    requires chosen_value { chosen.old ≡ no_rows }
-    ensures { Chosen edges columns.now message.now chosen.new }
+fn choose(edges: usize, columns: &[u64; COLUMN_WORDS], message: &[u8]) -> [u64; SET_WORDS]
+    requires { edges ≤ 512 }
+    ensures { Chosen edges columns.now message.now result }
 {
+    let mut chosen = [0u64; SET_WORDS];
     let mut rank = 0;
     for p in 0..edges {
         let live = row_bit(columns, p, p);
@@ -66,6 +60,7 @@ fn choose(
         chosen[p / WORD_BITS] ^= bit << (p % WORD_BITS);
         rank += live as usize;
     }
+    chosen
 }
 
 // Puts the bits of the chosen rows, put together, at the front of `output`.

@@ -2,11 +2,11 @@
 ghost use Rattle.std.specs.Prelude.{◌≡◌, ◌+◌, ◌*◌, ◌<◌, ◌≤◌, length};
 ghost use Rattle.wiring.specs.Plan.{edge_count};
 ghost use Rattle.wiring.specs.PlanParts.{plan_in};
-ghost use Rattle.messages.specs.Columns.{no_columns, no_rows, UnitResidues, Uses, Within, FailSet, lowest_row, Spread, CheckMade, Eliminated, Solved};
+ghost use Rattle.messages.specs.Columns.{no_columns, UnitResidues, Uses, Within, FailSet, lowest_row, Spread, CheckMade, Eliminated, Solved};
 
 use crate::columns::{COLUMN_WORDS, SET_WORDS, WORD_BITS, add_column, row_bit, unit_columns};
 use inner_code::MAX_DEGREE;
-use wiring::{CheckedPlan, SideName};
+use wiring::{CheckedPlan, SideCode, SideName};
 
 // One check: a digit of what the reduction leaves at a vertex, of which `base` is the first entry on its side.
 #[derive(Clone, Copy)]
@@ -34,9 +34,7 @@ fn eliminate(plan: CheckedPlan<'_>, side: SideName, columns: &mut [u64; COLUMN_W
 {
     let edges = plan.edges();
     let code = plan.side(side);
-    let basis = code.basis;
-    let mut residues = [0u16; MAX_DEGREE];
-    unit_residues(&basis, code.k, code.d, &mut residues);
+    let residues = unit_residues(code);
     let used = used_digits(&residues, code.d);
     for m in 0..edges {
         let digit = m % code.d;
@@ -48,19 +46,22 @@ fn eliminate(plan: CheckedPlan<'_>, side: SideName, columns: &mut [u64; COLUMN_W
     }
 }
 
-// What the basis leaves of each word with a single 1, that at edge i as entry i.
-fn unit_residues(basis: &[u16; 11], k: usize, d: usize, residues: &mut [u16; MAX_DEGREE])
-    requires d_bound { d ≤ 16 }
-    ensures { UnitResidues basis.now k d residues.new }
+// What the side's basis leaves of each word with a single 1, that at edge i as entry i.
+fn unit_residues(code: SideCode) -> [u16; MAX_DEGREE]
+    requires { code.d ≤ 16 }
+    ensures { UnitResidues code.basis code.k code.d result }
 {
-    for i in 0..d {
-        residues[i] = inner_code::residue(basis, k, 1 << (d - 1 - i));
+    let basis = code.basis;
+    let mut residues = [0u16; MAX_DEGREE];
+    for i in 0..code.d {
+        residues[i] = inner_code::residue(&basis, code.k, 1 << (code.d - 1 - i));
     }
+    residues
 }
 
 // The digits that some residue of an edge has.
 fn used_digits(residues: &[u16; MAX_DEGREE], d: usize) -> u16
-    requires d_bound { d ≤ 16 }
+    requires { d ≤ 16 }
     ensures { Uses d residues.now result }
 {
     let mut used = 0;
@@ -83,8 +84,7 @@ fn put_check(
     requires edges_bound { edges ≤ 512 }
     ensures { CheckMade edges d check wiring.now residues.now columns.old columns.new }
 {
-    let mut hits = [0u64; SET_WORDS];
-    find_hits(check, residues, d, wiring, columns, &mut hits);
+    let hits = find_hits(check, residues, d, wiring, columns);
     let pivot = lowest(edges, &hits);
     if pivot < edges {
         spread(edges, pivot, &hits, columns);
@@ -98,23 +98,28 @@ fn find_hits(
     d: usize,
     wiring: &[u8],
     columns: &[u64; COLUMN_WORDS],
-    hits: &mut [u64; SET_WORDS],
-)
-    requires within { Within d wiring.now check }
-    requires hits_value { hits.old ≡ no_rows }
-    ensures { FailSet d check wiring.now residues.now columns.now hits.new }
+) -> [u64; SET_WORDS]
+    requires { Within d wiring.now check }
+    ensures { FailSet d check wiring.now residues.now columns.now result }
 {
     let Check { side, base, digit } = check;
+    let mut hits = [0u64; SET_WORDS];
     for i in 0..d {
         if (residues[i] >> digit) % 2 == 1 {
-            add_column(columns, wiring::bit_of(side, wiring, base + i), hits, 0);
+            add_column(
+                columns,
+                wiring::bit_of(side, wiring, base + i),
+                &mut hits,
+                0,
+            );
         }
     }
+    hits
 }
 
 // The lowest row in a set, `edges` where none below it is.
 fn lowest(edges: usize, hits: &[u64; SET_WORDS]) -> usize
-    requires edges_bound { edges ≤ 512 }
+    requires { edges ≤ 512 }
     ensures { result ≡ lowest_row hits.now edges }
 {
     for (w, word) in hits.iter().enumerate() {

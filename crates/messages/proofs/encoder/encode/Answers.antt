@@ -6,7 +6,7 @@ use Rattle.wiring.specs.Plan.{edge_count}
 use Rattle.wiring.specs.Block.{block_bytes}
 use Rattle.wiring.specs.PlanParts.{plan_in}
 use Rattle.wiring.proofs.Plans.{plan-refused}
-use Rattle.messages.specs.Columns.{no_columns, no_rows, StoredPlan}
+use Rattle.messages.specs.Columns.{no_columns, StoredPlan}
 use Rattle.messages.proofs.Answers.{encode-plan, encode-long, encode-message, encode-output, encode-done}
 use Rattle.messages.proofs.LiveRows.{stored-bits}
 use Rattle.messages.proofs.Solving.{plan-stored}
@@ -53,10 +53,6 @@ returns-then-output-bytes c =
     let back = encode-output (plan_in r.parts) c.args.message.now c.args.output.now r.passed (rw s.edges at s.short) passes few in
     rw (← c.in_ok-checked.ensures.parts) (record { result_value = sym back.answer; output_after = sym back.leaves })
 
-pub choose-requires-clause-chosen_value : goal.choose-requires-clause-chosen_value
-unfolding no_rows
-choose-requires-clause-chosen_value c = refl
-
 pub returns : goal.returns
 unfolding block_bytes
 returns c =
@@ -66,5 +62,5 @@ returns c =
     let sized : c.div_ceil-bytes.result ≡ block_bytes c.edges-edges.result = omega (arith, c.div_ceil-bytes.ensures) in
     let enough : block_bytes (edge_count (plan_in r.parts)) ≤ length c.args.output.now = omega (arith, s.edges, c.if-output-bytes.false) in
     let whole = encode-done (plan_in r.parts) c.args.message.now c.args.output.now r.passed (rw s.edges at s.short) passes enough in
-    let put = put-encoded s c.args.message.now _ c.args.output.now _ c.choose.ensures (rw (c.clear.ensures, sized) at c.put_bits.ensures) in
+    let put = put-encoded s c.args.message.now _ c.args.output.now _ c.choose-chosen.ensures (rw (c.clear.ensures, sized) at c.put_bits.ensures) in
     rw (← c.in_ok-checked.ensures.parts) (record { result_value = sym whole.answer; output_after = put ∙ sym whole.leaves })

@@ -13,11 +13,11 @@ use Rattle.messages.proofs.solver.eliminate.Goals.{After-side-code, else-used-di
 fits : (c : After-side-code) → Fitted c.side-code.result.d c.side-code.result.n c.args.plan.parts.wiring.now
 fits c = side-fits (plan_in c.args.plan.parts) c.args.plan.passed c.args.side _ c.side-code.ensures
 
-pub unit_residues-requires : goal.unit_residues-requires
-unit_residues-requires c = record { d_bound = (fits (goal.at.unit_residues-requires c).After-side-code).d-high }
+pub unit_residues-residues-requires : goal.unit_residues-residues-requires
+unit_residues-residues-requires c = (fits (goal.at.unit_residues-residues-requires c).After-side-code).d-high
 
 pub used_digits-used-requires : goal.used_digits-used-requires
-used_digits-used-requires c = record { d_bound = (fits (goal.at.used_digits-used-requires c).After-side-code).d-high }
+used_digits-used-requires c = (fits (goal.at.used_digits-used-requires c).After-side-code).d-high
 
 pub loop-m-init : goal.loop-m-init
 loop-m-init c = eliminated-none _ _ _
@@ -50,7 +50,7 @@ loop-m-preserved c =
     let plan = c.args.plan in
     let low : before.m < edge_count (plan_in plan.parts) = omega arith in
     let more =
-    eliminated-one-more (plan_in plan.parts) plan.passed c.args.side _ c.side-code.ensures before.m low _ c.unit_residues.ensures _ _ before.invariant in
+    eliminated-one-more (plan_in plan.parts) plan.passed c.args.side _ c.side-code.ensures before.m low _ c.unit_residues-residues.ensures _ _ before.invariant in
     (elim c.if-used-digit-eq1.branch [
       | then-used-digit-eq1 w ↦ rw w.columns-is (more _ (rw c.edges-edges.ensures at w.put_check.ensures))
       | else-used-digit-eq1 w ↦
