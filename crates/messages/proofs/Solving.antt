@@ -7,24 +7,24 @@
 --   StoredPlan plan N columns        the columns hold the final rows of an accepted plan of N edges (specs Columns)
 -- Laws are named by their subject, then by the fact: `residues-` is about the masks, `uses-` about the digits in use, `eliminated-` about
 -- the checks of a side in turn, `side-` about a side as the code holds it, `solved-` about the checks of a plan, `plan-` about a checked plan.
-use Prim.Native.Nat.{ℕ, ◌+◌, ◌-◌, ◌*◌, ◌^◌, ◌≤◌, ◌<◌}
-use mathlib.Core.List.{List, []}
+use Prim.Native.Nat.{ℕ, ◌+◌, ◌-◌, ◌*◌, ◌^◌, ◌%◌, ◌≤◌, ◌<◌}
+use mathlib.Core.List.{List}
+use mathlib.Core.Logic.{◌≢◌}
 use mathlib.Core.Path.{◌≡◌, refl, sym, ap, ap₂, ◌∙◌}
 use native.Mathlib.Nat.{add-zero, zero-add, add_assoc, min-eq_left}
 use native.Mathlib.Decide.{ℕ_discrete}
 use native.Mathlib.Omega.{arith}
 use lib.Bits.{bit_or}
+use Rattle.std.specs.Borrow.{Bor}
 use Rattle.std.proofs.lemmas.Nat.Bits.{bit_at_or}
 use lib.ListN.{get_or, replicate}
 use Rattle.bits.specs.Window.{at}
 use Rattle.bits.specs.Bit.{digit}
-use Rattle.inner_code.specs.Reply.{done}
 use Rattle.inner_code.specs.Reduction.{reduced, reduced_by, with_echelon}
 use Rattle.inner_code.specs.Sheet.{row_of}
 use Rattle.inner_code.proofs.EchelonForm.{reduced_by-stored}
 use Rattle.wiring.specs.Plan.{Plan, edge_count, left, right, sheet_of, side_of}
 use Rattle.wiring.specs.PlanParts.{plan_in}
-use Rattle.wiring.specs.Wiring.{plan_check}
 use Rattle.wiring.specs.Checking.{Fitted, Permuted}
 use Rattle.wiring.specs.Code.{code_of}
 use Rattle.wiring.specs.declared.parts.CheckedPlan.{CheckedPlan}
@@ -35,7 +35,7 @@ use Rattle.messages.specs.Elimination.{parity, after, start, plan_checks, final_
 use Rattle.messages.specs.Columns.{UnitResidues, Uses, Stores, check_of, Within, CheckMade, Eliminated, Solved, StoredPlan}
 use Rattle.messages.proofs.Elimination.{after-zero}
 use Rattle.messages.proofs.Checks.{check-left, check-past}
-use Rattle.messages.proofs.Pivots.{check-within, check-value}
+use Rattle.messages.proofs.Pivots.{check-within, check-value, made-unused}
 
 -- ---- the masks
 
@@ -70,36 +70,47 @@ module _ (plan : Plan) (name : SideName) (columns : List ℕ) where
   pub eliminated-none : Eliminated plan name 0 columns columns
   eliminated-none = record { rows = λ checks first same s. rw add-zero s }
 
--- the side as the code holds it
-module _ (plan : Plan) (accepted : plan_check plan ≡ done []) (name : SideName) (code : SideCode) (held : code ≡ code_of plan name) where
+-- a side of a checked plan as the code holds it
+module _ (r : CheckedPlan) (name : SideName) (code : SideCode) (held : code ≡ code_of (plan_in r.parts) name) where
+  abbrev plan : Plan
+  plan = plan_in r.parts
+
   pub side-fits : Fitted code.d code.n plan.wiring
-  side-fits = rw held (plan-fits plan accepted name)
+  side-fits = rw held (plan-fits plan r.passed name)
 
   side-entries : code.n * code.d ≡ edge_count plan
-  side-entries = rw held (plan-whole plan accepted name).entries
+  side-entries = rw held (plan-whole plan r.passed name).entries
 
   permuted : Permuted (edge_count plan) plan.wiring
-  permuted = (plan-sound plan accepted).1.permuted
+  permuted = (plan-sound plan r.passed).1.permuted
 
-  module _ (m : ℕ) (low : m < edge_count plan) where
-    pub side-within : edge_count plan ≤ 512 → Within code.d plan.wiring (check_of name code.d m)
-    side-within = check-within side-fits side-entries permuted name m low
+  module _ (residues : Bor (List ℕ)) (m : ℕ) (low : m < edge_count plan) where
+    pub side-within : edge_count plan ≤ 512 → Within (check_of name r.parts.wiring residues code.d m)
+    side-within = check-within r.parts.wiring residues side-fits side-entries permuted name m low
 
-    pub eliminated-one-more : (residues : List ℕ) → UnitResidues code.basis code.k code.d residues
-        → (columns so_far : List ℕ) → Eliminated plan name m columns so_far
-        → (next : List ℕ) → CheckMade (edge_count plan) code.d (check_of name code.d m) plan.wiring residues so_far next
+    pub eliminated-one-more : UnitResidues code.basis code.k code.d residues.now → (columns so_far : List ℕ) → Eliminated plan name m columns so_far
+        → (next : List ℕ) → CheckMade (edge_count plan) (check_of name r.parts.wiring residues code.d m) so_far next
         → Eliminated plan name (m + 1) columns next
-    eliminated-one-more residues units columns so_far earlier next made =
-        let masks = residues-masks (row_of (sheet_of plan name)) _ _ _ residues (rw held at units) refl ((plan-sound plan accepted).0 name).count-high in
-        let fits = plan-fits plan accepted name in
-        let here = check-value fits (plan-whole plan accepted name).entries permuted name m low residues _ _ masks in
+    eliminated-one-more units columns so_far earlier next made =
+        let masks = residues-masks (row_of (sheet_of plan name)) _ _ _ residues.now (rw held at units) refl ((plan-sound plan r.passed).0 name).count-high in
+        let entries = (plan-whole plan r.passed name).entries in
+        let value = check-value r.parts.wiring residues (plan-fits plan r.passed name) entries permuted name m low _ _ masks in
         record {
           rows = λ checks first same s.
               rw (← add_assoc first m 1)
               ((rw held at made).rows checks (first + m)
-              (λ g. here g ∙ ap (λ (a : ℕ → ℕ). parity (edge_count plan) a g) (sym (same m (omega arith))))
+              (λ g. value g ∙ ap (λ (a : ℕ → ℕ). parity (edge_count plan) a g) (sym (same m (omega arith))))
               (earlier.rows checks first (λ i l. same i (omega arith)) s));
         }
+
+  -- a check whose digit is in no residue leaves the rows as they are
+  pub eliminated-unused : (residues : List ℕ) (m : ℕ) → m < edge_count plan → edge_count plan ≤ 512 → UnitResidues code.basis code.k code.d residues
+      → (used : ℕ) → Uses code.d residues used → digit used (m % code.d) ≢ 1
+      → (columns so_far : List ℕ) → Eliminated plan name m columns so_far → Eliminated plan name (m + 1) columns so_far
+  eliminated-unused residues m low few units used uses other columns so_far earlier =
+      let lent : Bor (List ℕ) = record { ref_ptr = r.parts.wiring.ref_ptr; now = residues } in
+      let kept = made-unused _ few (check_of name r.parts.wiring lent code.d m) so_far used uses other in
+      eliminated-one-more lent m low units columns so_far earlier so_far kept
 
 -- ---- both sides
 

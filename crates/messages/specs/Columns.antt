@@ -6,14 +6,14 @@
 --   UnitResidues basis k d residues entry i is what the first k rows of the basis leave of the word whose one digit is at edge i
 --   Uses d residues used            a digit that `used` does not have is in none of the first d residues
 --   Stores N s columns              the columns hold the rows of the state s
---   check_of name d m                check m of a side as the code holds it: the side, the first entry of the vertex, and the digit
---   Within d wiring check           the check's digit and all its bits are within their ranges
---   check_value i check wiring residues f          its value on the vector f, by the first i edges of the vertex
---   FailSet i check wiring residues columns hits  column 0 of `hits` is the set of the rows on which that is 1
+--   check_of name wiring residues d m  check m of a side as the code holds it
+--   Within check                    the check's digit and all its bits are within their ranges
+--   check_value i check f            its value on the vector f, by the first i edges of the vertex
+--   FailSet i check columns hits    column 0 of `hits` is the set of the rows on which that is 1
 --   lowest_row hits N                the lowest row of column 0, N where it has none below N
 --   Spread N p hits columns left    `left` is `columns` with row p put on every row of `hits`
 -- Of the columns before and after some checks of a side, whatever checks were made before them:
---   CheckMade N d check wiring residues columns left  `left` holds the rows after one check more, which has this check's value on every vector
+--   CheckMade N check columns left  `left` holds the rows after one check more, which has this check's value on every vector
 --   Eliminated plan name m columns left  `left` holds the rows after m checks more, those of a side of the plan in order
 -- and of all checks:
 --   Solved plan columns             the columns hold the final rows of the plan
@@ -24,6 +24,7 @@
 --   BitsPut N chosen columns l left `left` is the byte string l with those bits at its places 0 .. N - 1
 --   bits_taken columns block j l     the byte string l with the block's bits at the rows left below j put at its front
 use Rattle.std.specs.Prelude.{ℕ, zero, suc, ◌+◌, ◌-◌, ◌*◌, ◌/◌, ◌%◌, ◌^◌, ◌≤◌, ◌<◌, min, cond, not, List, [], ◌≡◌, eqb, length, get_or, replicate}
+use Rattle.std.specs.Borrow.{Bor}
 use Rattle.std.specs.Int.Bits.{bit_xor}
 use Rattle.bits.specs.Window.{at}
 use Rattle.bits.specs.Bit.{digit, bit_at, with_bit}
@@ -61,21 +62,21 @@ pub record Uses (d : ℕ) (residues : List ℕ) (used : ℕ) : Type 0 where
 pub record Stores (N : ℕ) (s : State) (columns : List ℕ) : Type 0 where
   pub bits : (p e : ℕ) → p < 512 → e < N → row_bit columns p e ≡ s.row p e
 
-abbrev pub check_of : SideName → ℕ → ℕ → Check
-check_of name d m = record { side = name; base = m / d * d; digit = m % d }
+abbrev pub check_of : SideName → Bor (List ℕ) → Bor (List ℕ) → ℕ → ℕ → Check
+check_of name w r c m = record { side = name; wiring = w; residues = r; d = c; base = m / c * c; digit = m % c }
 
-pub record Within (d : ℕ) (wiring : List ℕ) (check : Check) : Type 0 where
-  pub narrow : d ≤ 16
+pub record Within (check : Check) : Type 0 where
+  pub narrow : check.d ≤ 16
   pub digit_lt : check.digit < 16
-  pub sized : 2 * (check.base + d) ≤ length wiring
-  pub bit-lt : (i : ℕ) → i < d → side_bit check.side wiring (check.base + i) < 512
+  pub sized : 2 * (check.base + check.d) ≤ length check.wiring.now
+  pub bit-lt : (i : ℕ) → i < check.d → side_bit check.side check.wiring.now (check.base + i) < 512
 
-abbrev pub check_value : ℕ → Check → List ℕ → List ℕ → (ℕ → ℕ) → ℕ
-check_value i check wiring residues f =
-    parity i (λ x. digit (get_or residues x 0) check.digit) (λ x. f (side_bit check.side wiring (check.base + x)))
+abbrev pub check_value : ℕ → Check → (ℕ → ℕ) → ℕ
+check_value i check f =
+    parity i (λ x. digit (get_or check.residues.now x 0) check.digit) (λ x. f (side_bit check.side check.wiring.now (check.base + x)))
 
-pub record FailSet (i : ℕ) (check : Check) (wiring residues columns hits : List ℕ) : Type 0 where
-  pub bits : (p : ℕ) → p < 512 → row_bit hits p 0 ≡ check_value i check wiring residues (row_bit columns p)
+pub record FailSet (i : ℕ) (check : Check) (columns hits : List ℕ) : Type 0 where
+  pub bits : (p : ℕ) → p < 512 → row_bit hits p 0 ≡ check_value i check (row_bit columns p)
 
 unfoldable pub lowest_row : List ℕ → ℕ → ℕ
 unfolding first_failing row_bit
@@ -84,8 +85,8 @@ lowest_row hits N = first_failing N (λ p. not (eqb (row_bit hits p 0) 1))
 pub record Spread (N p : ℕ) (hits columns left : List ℕ) : Type 0 where
   pub bits : (q e : ℕ) → q < 512 → e < N → row_bit left q e ≡ bit_xor (row_bit columns q e) (row_bit hits q 0 * row_bit columns p e)
 
-pub record CheckMade (N d : ℕ) (check : Check) (wiring residues columns left : List ℕ) : Type 0 where
-  pub rows : (checks : ℕ → ℕ → ℕ) (m : ℕ) → ((f : ℕ → ℕ) → check_value d check wiring residues f ≡ parity N (checks m) f)
+pub record CheckMade (N : ℕ) (check : Check) (columns left : List ℕ) : Type 0 where
+  pub rows : (checks : ℕ → ℕ → ℕ) (m : ℕ) → ((f : ℕ → ℕ) → check_value check.d check f ≡ parity N (checks m) f)
       → Stores N (after N checks m) columns → Stores N (after N checks (m + 1)) left
 
 pub record Eliminated (plan : Plan) (name : SideName) (m : ℕ) (columns left : List ℕ) : Type 0 where

@@ -8,10 +8,14 @@ use crate::columns::{COLUMN_WORDS, SET_WORDS, WORD_BITS, add_column, row_bit, un
 use inner_code::MAX_DEGREE;
 use wiring::{CheckedPlan, SideCode, SideName};
 
-// One check: a digit of what the reduction leaves at a vertex, of which `base` is the first entry on its side.
+// One check: a digit of what the reduction leaves at a vertex, of whose d entries on its side `base` is the first. `residues` has what it
+// leaves of each word with a single 1.
 #[derive(Clone, Copy)]
-struct Check {
+struct Check<'a> {
     side: SideName,
+    wiring: &'a [u8],
+    residues: &'a [u16; MAX_DEGREE],
+    d: usize,
     base: usize,
     digit: usize,
 }
@@ -39,9 +43,15 @@ fn eliminate(plan: CheckedPlan<'_>, side: SideName, columns: &mut [u64; COLUMN_W
     for m in 0..edges {
         let digit = m % code.d;
         if (used >> digit) % 2 == 1 {
-            let base = m / code.d * code.d;
-            let check = Check { side, base, digit };
-            put_check(check, edges, &residues, code.d, plan.parts.wiring, columns);
+            let check = Check {
+                side,
+                wiring: plan.parts.wiring,
+                residues: &residues,
+                d: code.d,
+                base: m / code.d * code.d,
+                digit,
+            };
+            put_check(check, edges, columns);
         }
     }
 }
@@ -72,19 +82,12 @@ fn used_digits(residues: &[u16; MAX_DEGREE], d: usize) -> u16
 }
 
 // A check done: its pivot, the lowest row that fails it, is put on every row that fails, and so is 0 from then on.
-fn put_check(
-    check: Check,
-    edges: usize,
-    residues: &[u16; MAX_DEGREE],
-    d: usize,
-    wiring: &[u8],
-    columns: &mut [u64; COLUMN_WORDS],
-)
-    requires within { Within d wiring.now check }
+fn put_check(check: Check<'_>, edges: usize, columns: &mut [u64; COLUMN_WORDS])
+    requires within { Within check }
     requires edges_bound { edges ≤ 512 }
-    ensures { CheckMade edges d check wiring.now residues.now columns.old columns.new }
+    ensures { CheckMade edges check.entry columns.old columns.new }
 {
-    let hits = find_hits(check, residues, d, wiring, columns);
+    let hits = find_hits(check, columns);
     let pivot = lowest(edges, &hits);
     if pivot < edges {
         spread(edges, pivot, &hits, columns);
@@ -92,17 +95,18 @@ fn put_check(
 }
 
 // The rows that fail a check.
-fn find_hits(
-    check: Check,
-    residues: &[u16; MAX_DEGREE],
-    d: usize,
-    wiring: &[u8],
-    columns: &[u64; COLUMN_WORDS],
-) -> [u64; SET_WORDS]
-    requires { Within d wiring.now check }
-    ensures { FailSet d check wiring.now residues.now columns.now result }
+fn find_hits(check: Check<'_>, columns: &[u64; COLUMN_WORDS]) -> [u64; SET_WORDS]
+    requires { Within check }
+    ensures { FailSet check.entry.d check.entry columns.now result }
 {
-    let Check { side, base, digit } = check;
+    let Check {
+        side,
+        wiring,
+        residues,
+        d,
+        base,
+        digit,
+    } = check;
     let mut hits = [0u64; SET_WORDS];
     for i in 0..d {
         if (residues[i] >> digit) % 2 == 1 {

@@ -4,9 +4,9 @@ use Rattle.messages.proofs.solver.put_check.Goals as goal
 
 pub returns-then-pivot-edges : goal.returns-then-pivot-edges
 returns-then-pivot-edges c =
-    made-spread _ c.requires.edges_bound _ _ _ _ _ _ c.find_hits-hits.ensures _ _ c.lowest-pivot.ensures c.if-pivot-edges.true
+    made-spread _ c.requires.edges_bound _ _ _ c.find_hits-hits.ensures _ _ c.lowest-pivot.ensures c.if-pivot-edges.true
     c.spread.ensures
 
 pub returns-else-pivot-edges : goal.returns-else-pivot-edges
 returns-else-pivot-edges c =
-    made_none _ c.requires.edges_bound _ _ _ _ _ _ c.find_hits-hits.ensures _ c.lowest-pivot.ensures c.if-pivot-edges.false
+    made_none _ c.requires.edges_bound _ _ _ c.find_hits-hits.ensures _ c.lowest-pivot.ensures c.if-pivot-edges.false
