@@ -1,5 +1,5 @@
 // The encoder: the codeword that carries a message.
-ghost use Rattle.std.specs.Prelude.{◌≡◌, ◌+◌, ◌*◌, ◌<◌, ◌≤◌, length};
+ghost use Rattle.std.specs.Prelude.{◌≡◌, ◌<◌, ◌≤◌};
 ghost use Rattle.inner_code.specs.Refusal.{check_reply};
 ghost use Rattle.wiring.specs.PlanParts.{plan_in};
 ghost use Rattle.messages.specs.Message.{message_check};

@@ -1,5 +1,5 @@
 // The reader: the message that a codeword carries.
-ghost use Rattle.std.specs.Prelude.{◌≡◌, ◌≤◌, length};
+ghost use Rattle.std.specs.Prelude.{◌≡◌, ◌≤◌};
 ghost use Rattle.wiring.specs.PlanParts.{plan_in};
 ghost use Rattle.messages.specs.Answer.{taken_reply, read_answer, read_output};
 ghost use Rattle.messages.specs.Columns.{bits_taken};

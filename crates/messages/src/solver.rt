@@ -1,5 +1,5 @@
 // The rows that are left once every check of a plan has dropped its pivot.
-ghost use Rattle.std.specs.Prelude.{◌≡◌, ◌+◌, ◌*◌, ◌<◌, ◌≤◌, length};
+ghost use Rattle.std.specs.Prelude.{◌≡◌, ◌<◌, ◌≤◌};
 ghost use Rattle.wiring.specs.Plan.{edge_count};
 ghost use Rattle.wiring.specs.PlanParts.{plan_in};
 ghost use Rattle.messages.specs.Columns.{no_columns, UnitResidues, Uses, Within, FailSet, lowest_row, Spread, CheckMade, Eliminated, Solved};
