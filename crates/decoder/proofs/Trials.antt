@@ -34,7 +34,7 @@ use Rattle.inner_code.proofs.Replies.{and_then-done, refuse-done, refuse-taken, 
 use Rattle.wiring.specs.Access.{both_codes, located_by}
 use Rattle.wiring.specs.Plan.{Plan, edge_count, left, right, side_of}
 use Rattle.wiring.specs.Block.{block_bytes, block_check, is_codeword_block, located}
-use Rattle.wiring.specs.Checking.{code_of}
+use Rattle.wiring.specs.Code.{code_of}
 use Rattle.wiring.specs.declared.side.SideCode.{SideCode}
 use Rattle.wiring.proofs.Blocks.{block-sized, block-clear, block_back}
 use Rattle.wiring.proofs.CodewordBlocks.{located-some}
@@ -48,7 +48,8 @@ use Rattle.spans.proofs.Checking.{spans-done, filled-block}
 use Rattle.spans.proofs.Gaps.{flips-around}
 use Rattle.decoder.specs.Decode.{swept_block, settles_at, sweep_sums, visits_made, Trial, trial, keeps_ones, decoding}
 use Rattle.decoder.specs.Turns.{Passed, Tried, Opened, ByTrial}
-use Rattle.decoder.specs.declared.decoding.Decoded.{Decoded}
+use Rattle.std.proofs.Common.{Ok, Err}
+use Rattle.inner_code.specs.declared.refusal.Refusal.{Refusal}
 use Rattle.decoder.specs.declared.decoding.Decoding.{Decoding}
 use Rattle.decoder.specs.declared.settle.Opening.{Opening}
 use Rattle.decoder.specs.declared.settle.Settling.{Settling}
@@ -186,7 +187,7 @@ module _ (block room : List ℕ) {laid : List ℕ} (size : ℕ) (put : laid ≡ 
 
 module _ (received : List ℕ) (H : ℕ) (trial : Settling) (out : List ℕ) where
   pub by-settled : trial.count ≤ H
-      → ByTrial received H trial out (record { outcome = Decoded.Settled trial.count; sums = trial.sums; visits = trial.visits }) out
+      → ByTrial received H trial out (record { outcome = Ok trial.count; sums = trial.sums; visits = trial.visits }) out
   by-settled l =
       let within = le-ltb H trial.count l in
       record {
@@ -198,7 +199,7 @@ module _ (received : List ℕ) (H : ℕ) (trial : Settling) (out : List ℕ) whe
 
   pub by-unsettled : {after : List ℕ} → H < trial.count → after ≡ written received out
       → ByTrial received H trial out
-      (record { outcome = Decoded.Refused (record { number = 15; place = 0 }); sums = trial.sums; visits = trial.visits }) after
+      (record { outcome = Err Refusal.Unsettled; sums = trial.sums; visits = trial.visits }) after
   by-unsettled l e =
       let past = lt-ltb H trial.count l in
       record {
@@ -315,7 +316,7 @@ module _ (plan : Plan) (received output : List ℕ) (H : ℕ) (checked : decode_
       (λ j l. absurd (omega arith))
 
   pub copy-codeword : {after : List ℕ} → after ≡ written received output
-      → Decodes plan received [] output H (record { outcome = Decoded.Settled 0; sums = replicate 64 0; visits = 0 }) after
+      → Decodes plan received [] output H (record { outcome = Ok 0; sums = replicate 64 0; visits = 0 }) after
   copy-codeword e =
       let d = decode-settled plan received output H checked 0 codeword-settled (omega arith) in
       record {

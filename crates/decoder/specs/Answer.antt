@@ -6,7 +6,7 @@
 --   decode_visits ..              how many vertices were visited, which it tells beside: the decoding's, and 0 where it is stopped before it decodes
 --   decode_reply r                the paper's number, place and values for each case of the decoder's answer in the code
 --   Decodes plan received lost output H r after  what a function that decodes ensures: its whole answer r, and the output at exit
-use Rattle.std.specs.Prelude.{ℕ, ◌≡◌, List, [], ◌∷◌, not, length, replicate, ltb}
+use Rattle.std.specs.Prelude.{ℕ, ◌≡◌, List, [], ◌∷◌, not, length, replicate, ltb, Result, Ok, Err}
 use Rattle.bits.specs.Bit.{written}
 use Rattle.inner_code.specs.Reply.{Reply, done, refused, refuse_if, and_then, if_done}
 use Rattle.wiring.specs.Plan.{Plan, edge_count}
@@ -14,7 +14,8 @@ use Rattle.wiring.specs.Wiring.{plan_check}
 use Rattle.wiring.specs.Block.{block_bytes, block_check}
 use Rattle.spans.specs.Spans.{spans_check}
 use Rattle.decoder.specs.Decode.{decoding}
-use Rattle.decoder.specs.declared.decoding.Decoded.{Decoded}
+use Rattle.inner_code.specs.Refusal.{number_of, place_of}
+use Rattle.inner_code.specs.declared.refusal.Refusal.{Refusal}
 use Rattle.decoder.specs.declared.decoding.Decoding.{Decoding}
 
 unfoldable pub decode_check : Plan → List ℕ → List ℕ → List ℕ → ℕ → Reply
@@ -49,9 +50,9 @@ unfoldable pub decode_visits : Plan → List ℕ → List ℕ → List ℕ → �
 unfolding number_if_done decode_check decoding
 decode_visits plan received lost output H = number_if_done (decode_check plan received lost output H) (decoding plan received lost H).visits
 
-abbrev pub decode_reply : Decoded → Reply
-decode_reply (Decoded.Settled count) = done (count ∷ [])
-decode_reply (Decoded.Refused r) = refused r.number r.place
+abbrev pub decode_reply : Result ℕ Refusal → Reply
+decode_reply (Ok count) = done (count ∷ [])
+decode_reply (Err r) = refused (number_of r) (place_of r)
 
 pub record Decodes (plan : Plan) (received lost output : List ℕ) (H : ℕ) (r : Decoding) (after : List ℕ) : Type 0 where
   pub answer : decode_reply r.outcome ≡ decode_answer plan received lost output H

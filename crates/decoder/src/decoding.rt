@@ -1,22 +1,24 @@
 // The decoder: refusals 1 to 15 and 23 to 26.
-ghost use Rattle.std.specs.Prelude.{true, false, List, [], ◌≡◌, ℕ, ◌/◌, ◌%◌, ◌≤◌, ◌<◌, length, take, replicate};
+ghost use Rattle.std.specs.Prelude.{true, false, List, [], ◌≡◌, ℕ, ◌/◌, ◌%◌, ◌≤◌, ◌<◌, length, take, replicate, IfOk, Err};
 ghost use Rattle.bits.specs.Bit.{written};
-ghost use Rattle.inner_code.specs.Reply.{done, refused};
-ghost use Rattle.wiring.specs.Plan.{Plan, plan_of, plan_at, edge_count};
+ghost use Rattle.inner_code.specs.Reply.{done};
+ghost use Rattle.wiring.specs.Plan.{Plan, plan_of, edge_count};
+ghost use Rattle.wiring.specs.PlanParts.{plan_in};
 ghost use Rattle.wiring.specs.Access.{both_codes, AllReadable, located_by};
-ghost use Rattle.wiring.specs.Checking.{Permuted, code_of};
+ghost use Rattle.wiring.specs.Checking.{plan_reply, Permuted};
+ghost use Rattle.wiring.specs.Code.{code_of};
 ghost use Rattle.wiring.specs.declared.side.SideName.{SideName};
 ghost use Rattle.spans.specs.Spans.{filled};
 ghost use Rattle.spans.specs.Walking.{flips_around};
 ghost use Rattle.sweeps.specs.Sweeping.{Ready};
 ghost use Rattle.wiring.specs.Places.{PlacesNoted};
 ghost use Rattle.decoder.specs.Turns.{Tried, Opened, OpenedSome, ByTrial};
-ghost use Rattle.decoder.specs.Answer.{decode_check, decode_reply, Decodes};
+ghost use Rattle.decoder.specs.Answer.{decode_check, Decodes};
 
 use crate::settle::{Opening, SUMS, Settling, finish, open};
 use finder::FINDER_WORDS;
-use inner_code::{Refusal, refusal};
-use wiring::{Checked, Located, MAX_EDGES, SideCode};
+use inner_code::Refusal;
+use wiring::{CheckedPlan, MAX_EDGES, PlanParts, SideCode};
 use words::KEPT;
 
 // The most sweeps that a call may allow.
@@ -31,18 +33,11 @@ const FEW_EDGES: usize = 1024;
 // A block of so few bytes is first tested by the rows.
 const SMALL_BLOCK: usize = 32;
 
-// What the decoder answers: the sweeps after which the block settled, or the refusal.
-#[derive(Clone, Copy)]
-pub enum Decoded {
-    Settled(usize),
-    Refused(Refusal),
-}
-
-// The whole answer of a decoder call: with what is answered, how many bits each of the first sweeps changed, 0 for a sweep that was not made, and
+// The whole answer of a decoder call: the sweeps after which the block settled, or the refusal, and with either how many bits each of the first sweeps changed, 0 for a sweep that was not made, and
 // how many vertices the sweeps visited.
 #[derive(Clone, Copy)]
 pub struct Decoding {
-    pub outcome: Decoded,
+    pub outcome: Result<usize, Refusal>,
     pub sums: [u16; SUMS],
     pub visits: u64,
 }
@@ -52,88 +47,77 @@ pub struct Decoding {
 // is kept, the first where they change as many. Refusals 1 to 15 and 23 to 26; with 15 the front of `output` holds the received block, and no
 // other refusal writes a byte. Sums and visits are those of the trial that is kept, with 15 those of the first; with any other refusal they are 0.
 pub fn decode(
-    left: &[u8],
-    right: &[u8],
-    nl: usize,
-    nr: usize,
-    wiring: &[u8],
+    plan: PlanParts<'_>,
     received: &[u8],
     lost: &[u8],
     output: &mut [u8],
     limit: usize,
 ) -> Decoding
-    ensures { Decodes (plan_at left right nl nr wiring) received.now lost.now output.old limit result output.new }
+    ensures { Decodes (plan_in plan.entry) received.now lost.now output.old limit result output.new }
 {
-    let plan = wiring::check_plan(left, right, nl, nr, wiring);
-    let checked = plan.checked;
-    match checked {
-        Checked::Refused(r) => refuse(r),
-        Checked::Passed => match wiring::check_block(plan.left.n * plan.left.d, received) {
-            Checked::Refused(r) => refuse(r),
-            Checked::Passed => match spans::check_spans(plan.left.n * plan.left.d, lost) {
-                Checked::Refused(r) => refuse(r),
-                Checked::Passed => {
-                    if output.len() < received.len() {
-                        return refuse(Refusal {
-                            number: refusal::OUTPUT_SHORT,
-                            place: 0,
-                        });
-                    }
-                    if MAX_LIMIT < limit {
-                        return refuse(Refusal {
-                            number: refusal::LIMIT_TOO_LARGE,
-                            place: 0,
-                        });
-                    }
-                    decode_checked(
-                        left, right, nl, nr, wiring, plan.left, plan.right, received, lost, output,
-                        limit,
-                    )
-                }
-            },
-        },
+    match check_call(plan, received, lost, output, limit) {
+        Ok(checked) => decode_checked(checked, received, lost, output, limit),
+        Err(refusal) => refuse(refusal),
     }
+}
+
+// What stops a call before it decodes: refusals 1 to 14 and 23 to 26; else the checked plan.
+fn check_call<'a>(
+    plan: PlanParts<'a>,
+    received: &[u8],
+    lost: &[u8],
+    output: &[u8],
+    limit: usize,
+) -> Result<CheckedPlan<'a>, Refusal>
+    ensures answer { plan_reply result ≡ decode_check (plan_in plan.entry) received.now lost.now output.now limit }
+    ensures parts { IfOk result (λ p. plan_in p.parts ≡ plan_in plan.entry) }
+{
+    let checked = wiring::check_plan(plan)?;
+    wiring::check_block(checked.edges(), received)?;
+    spans::check_spans(checked.edges(), lost)?;
+    if output.len() < received.len() {
+        return Err(Refusal::OutputShort);
+    }
+    if MAX_LIMIT < limit {
+        return Err(Refusal::LimitTooLarge);
+    }
+    Ok(checked)
 }
 
 // Decodes where nothing stops the call, with the sides that the plan's check has told, so that a caller with many blocks checks their plan once.
 // One finder serves both sides where they have the same sheet.
 pub fn decode_checked(
-    left: &[u8],
-    right: &[u8],
-    nl: usize,
-    nr: usize,
-    wiring: &[u8],
-    left_code: SideCode,
-    right_code: SideCode,
+    plan: CheckedPlan<'_>,
     received: &[u8],
     lost: &[u8],
     output: &mut [u8],
     limit: usize,
 ) -> Decoding
-    requires left_code_value { let plan : Plan = plan_of left.now right.now nl nr wiring.now in left_code ≡ code_of plan SideName.Left }
-    requires right_code_value { let plan : Plan = plan_of left.now right.now nl nr wiring.now in right_code ≡ code_of plan SideName.Right }
-    requires limit_value { let plan : Plan = plan_of left.now right.now nl nr wiring.now in decode_check plan received.now lost.now output.old limit ≡ done [] }
-    ensures { let plan : Plan = plan_of left.now right.now nl nr wiring.now in Decodes plan received.now lost.now output.old limit result output.new }
+    requires { decode_check (plan_in plan.parts) received.now lost.now output.old limit ≡ done [] }
+    ensures { Decodes (plan_in plan.entry.parts) received.now lost.now output.old limit result output.new }
 {
-    if lost.is_empty() && is_codeword_at_sight(left_code, right_code, wiring, received) {
+    let parts = plan.parts;
+    let left = plan.left;
+    let right = plan.right;
+    if lost.is_empty() && is_codeword_at_sight(left, right, parts.wiring, received) {
         bits::copy_front(received, output);
         return Decoding {
-            outcome: Decoded::Settled(0),
+            outcome: Ok(0),
             sums: [0; SUMS],
             visits: 0,
         };
     }
-    let left_basis = left_code.basis;
+    let left_basis = left.basis;
     let mut left_finder = [0u16; FINDER_WORDS];
-    finder::prepare_finder(left, left_code.k, &left_basis, &mut left_finder);
-    if bits::same(left, right) {
+    finder::prepare_finder(parts.left_sheet, left.k, &left_basis, &mut left_finder);
+    if bits::same(parts.left_sheet, parts.right_sheet) {
         let mut none = [0u16; 0];
         return decode_trials(
-            left,
-            right,
-            nl,
-            nr,
-            wiring,
+            parts.left_sheet,
+            parts.right_sheet,
+            parts.nl,
+            parts.nr,
+            parts.wiring,
             &mut left_finder,
             &mut none,
             received,
@@ -142,15 +126,15 @@ pub fn decode_checked(
             limit,
         );
     }
-    let right_basis = right_code.basis;
+    let right_basis = right.basis;
     let mut right_finder = [0u16; FINDER_WORDS];
-    finder::prepare_finder(right, right_code.k, &right_basis, &mut right_finder);
+    finder::prepare_finder(parts.right_sheet, right.k, &right_basis, &mut right_finder);
     decode_trials(
-        left,
-        right,
-        nl,
-        nr,
-        wiring,
+        parts.left_sheet,
+        parts.right_sheet,
+        parts.nl,
+        parts.nr,
+        parts.wiring,
         &mut left_finder,
         &mut right_finder,
         received,
@@ -199,7 +183,7 @@ fn decode_trials(
     let visits = opening.visits;
     if at_once(lost.len(), opening.ended, count, limit) {
         return Decoding {
-            outcome: Decoded::Settled(count),
+            outcome: Ok(count),
             sums,
             visits,
         };
@@ -540,16 +524,13 @@ fn answer_by(limit: usize, trial: Settling, received: &[u8], output: &mut [u8]) 
     if limit < count {
         bits::copy_front(received, output);
         return Decoding {
-            outcome: Decoded::Refused(Refusal {
-                number: refusal::UNSETTLED,
-                place: 0,
-            }),
+            outcome: Err(Refusal::Unsettled),
             sums,
             visits,
         };
     }
     Decoding {
-        outcome: Decoded::Settled(count),
+        outcome: Ok(count),
         sums,
         visits,
     }
@@ -557,12 +538,12 @@ fn answer_by(limit: usize, trial: Settling, received: &[u8], output: &mut [u8]) 
 
 // The answer of a call that is stopped before it decodes: no sweep is made.
 fn refuse(refusal: Refusal) -> Decoding
-    ensures outcome_value { decode_reply result.outcome ≡ refused refusal.number refusal.place }
+    ensures outcome_value { result.outcome ≡ Err refusal }
     ensures sums_value { result.sums ≡ replicate 64 0 }
     ensures visits_value { result.visits ≡ 0 }
 {
     Decoding {
-        outcome: Decoded::Refused(refusal),
+        outcome: Err(refusal),
         sums: [0; SUMS],
         visits: 0,
     }
@@ -580,9 +561,5 @@ fn is_codeword_at_sight(left: SideCode, right: SideCode, wiring: &[u8], block: &
     if SMALL_BLOCK < block.len() {
         return false;
     }
-    match wiring::first_unsatisfied(left, right, wiring, block) {
-        Located::Nowhere => true,
-        Located::At { side: _, vertex: _ } => false,
-        Located::Refused(_) => false,
-    }
+    wiring::first_unsatisfied(left, right, wiring, block).is_none()
 }

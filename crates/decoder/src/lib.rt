@@ -4,7 +4,7 @@
 mod decoding;
 mod settle;
 
-pub use decoding::{Decoded, Decoding, decode};
+pub use decoding::{Decoding, decode};
 pub use settle::SUMS;
 
 // Lent to the crates above: this asks what its callers prove.

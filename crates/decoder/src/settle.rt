@@ -9,7 +9,7 @@ ghost use Rattle.wiring.specs.Places.{PlacesNoted};
 ghost use Rattle.decoder.specs.Turns.{Tried, noted, added_visits, ended_to, Opened, OpenedSome};
 
 use sweeps::{Tally, all_codewords, all_satisfied, sweep_first, sweep_right, sweep_turn};
-use wiring::{SideName, other_side};
+use wiring::SideName;
 use words::{KEPT, clear_marks, read_words};
 
 // The sweeps whose sums are told.
@@ -259,7 +259,7 @@ pub(crate) fn finish(
         }
         note(&mut sums, count, limit, here.changed);
         visits = add_visits(visits, count, limit, here.visits);
-        side = other_side(side);
+        side = side.other();
     }
     Settling {
         count: limit + 1,

@@ -30,7 +30,7 @@ use Rattle.inner_code.proofs.SheetChecks.{Sound, sound, sound-accepted}
 use Rattle.finder.proofs.Finding.{Member}
 use Rattle.wiring.specs.Plan.{Plan, Side, left, sheet_of, count_of, side_bit, side_by, side_of}
 use Rattle.wiring.specs.Wiring.{plan_check}
-use Rattle.wiring.specs.Checking.{code_of}
+use Rattle.wiring.specs.Code.{code_of}
 use Rattle.wiring.specs.declared.side.SideCode.{SideCode}
 use Rattle.wiring.specs.declared.side.SideName.{SideName}
 use Rattle.wiring.proofs.VertexWords.{vertex-lt}

@@ -15,11 +15,11 @@ ghost use Rattle.sweeps.specs.Sweeping.{Ready, SideReady, SideSwept, VisitedAt, 
 ghost use Rattle.words.specs.Words.{WordsRead};
 ghost use Rattle.wiring.specs.Places.{Across};
 ghost use Rattle.words.specs.Marks.{Listening};
-ghost use Rattle.wiring.specs.Access.{sheet_for};
+ghost use Rattle.wiring.specs.Access.{sheet_for, count_for};
 
 use inner_code::Step;
-use wiring::SideName;
-use words::{KEPT, Vertex, left_word, news_of, numbers_of, put_pattern, put_told};
+use wiring::{SideName, Vertex};
+use words::{KEPT, left_word, news_of, numbers_of, put_pattern, put_told};
 
 // What a sweep tells: how many bits it changed, and at how many vertices it left a tie. Every other vertex of its side now reads a codeword.
 #[derive(Clone, Copy, Debug, PartialEq, Eq)]
@@ -219,7 +219,7 @@ fn sweep_news(
     ensures news_swept { let plan : Plan = plan_of left.now right.now nl nr wiring.now in NewsSwept plan side block.old kept.old result block.new kept.new }
     ensures still_finds { let plan : Plan = plan_of left.now right.now nl nr wiring.now in Finds (sheet_of plan side) finder.new }
 {
-    let numbers = numbers_of(wiring::count_of(side, nl, nr));
+    let numbers = numbers_of(count_of(side, nl, nr));
     let from = news_of(side);
     let mut changed = 0;
     let mut visits: u64 = 0;
@@ -248,6 +248,16 @@ fn sweep_news(
         }
     }
     News { changed, visits }
+}
+
+// The number of vertices of a side.
+fn count_of(side: SideName, nl: usize, nr: usize) -> usize
+    ensures { result ≡ count_for side nl nr }
+{
+    match side {
+        SideName::Left => nl,
+        SideName::Right => nr,
+    }
 }
 
 // Visits a vertex: puts the nearest word there, and tells how many bits that changes.

@@ -6,7 +6,6 @@ mod pattern;
 mod words;
 
 pub use news::{KEPT, news_of};
-pub use pattern::Vertex;
 
 // Lent to the crates above: these ask what their callers prove.
 pub use news::{clear_marks, numbers_of};

@@ -10,14 +10,7 @@ ghost use Rattle.wiring.specs.Places.{PlacesNoted, Across};
 ghost use Rattle.words.specs.Marks.{told_right, PutAt};
 
 use crate::news::{KEPT, mark, news_of};
-use wiring::SideName;
-
-// A vertex: its side and its number there.
-#[derive(Clone, Copy)]
-pub struct Vertex {
-    pub side: SideName,
-    pub v: usize,
-}
+use wiring::{SideName, Vertex};
 
 // Puts a pattern on the d bits at the entries of a side from `base` on, its highest digit at the first.
 pub fn put_pattern(

@@ -5,7 +5,8 @@ use mathlib.Core.Path.{◌≡◌, refl}
 use native.Mathlib.Omega.{arith}
 use borrow.Author.Rules.{rules}
 use Rattle.inner_code.specs.Reply.{done}
-use Rattle.wiring.specs.Plan.{plan_of, left, right}
+use Rattle.wiring.specs.Plan.{left, right}
+use Rattle.wiring.specs.PlanParts.{plan_in}
 use Rattle.wiring.specs.Wiring.{plan_check}
 use Rattle.wiring.proofs.VertexAccess.{codes-readable}
 use Rattle.wiring.proofs.Blocks.{block_room}
@@ -14,31 +15,31 @@ use Rattle.decoder.proofs.Trials.{check-means, none-lost, check-none, answers-no
 use Rattle.decoder.proofs.decoding.decode_checked.Goals as goal
 use Rattle.decoder.proofs.decoding.decode_checked.Goals.{Start}
 
-accepted : (c : Start) → plan_check (plan_of c.args.left.now c.args.right.now c.args.nl c.args.nr c.args.wiring.now) ≡ done []
-accepted c = (check-means _ _ _ _ _ c.requires.limit_value).plan-done
+accepted : (c : Start) → plan_check (plan_in c.args.plan.parts) ≡ done []
+accepted c = (check-means _ _ _ _ _ c.requires).plan-done
 
 pub is_codeword_at_sight-requires : goal.is_codeword_at_sight-requires
 is_codeword_at_sight-requires c =
-    let passed = check-means _ _ _ _ _ c.requires.limit_value in
-    codes-readable (plan_of c.args.left.now c.args.right.now c.args.nl c.args.nr c.args.wiring.now) (accepted (goal.at.is_codeword_at_sight-requires c).Start) _ (block_room _ _ passed.block-done) c.requires.left_code_value c.requires.right_code_value
+    let passed = check-means _ _ _ _ _ c.requires in
+    codes-readable (plan_in c.args.plan.parts) (accepted (goal.at.is_codeword_at_sight-requires c).Start) _ (block_room _ _ passed.block-done) c.args.plan.left_is c.args.plan.right_is
 
 -- ---- a block that is a codeword at sight
 
 pub copy_front-requires : goal.copy_front-requires
-copy_front-requires c = (check-means _ _ _ _ _ c.requires.limit_value).fits
+copy_front-requires c = (check-means _ _ _ _ _ c.requires).fits
 
 pub returns-then-is_codeword_at_sight : goal.returns-then-is_codeword_at_sight
 returns-then-is_codeword_at_sight c =
     let none = none-lost _ (search rules) in
-    answers-none (plan_of c.args.left.now c.args.right.now c.args.nl c.args.nr c.args.wiring.now) _ _ _ _ none
-    (copy-codeword (plan_of c.args.left.now c.args.right.now c.args.nl c.args.nr c.args.wiring.now) _ _ _ (check-none (plan_of c.args.left.now c.args.right.now c.args.nl c.args.nr c.args.wiring.now) _ _ _ _ none c.requires.limit_value) c.args.left_code c.args.right_code c.requires.left_code_value
-    c.requires.right_code_value (c.is_codeword_at_sight.ensures c.if-is_codeword_at_sight.true) c.copy_front.ensures)
+    answers-none (plan_in c.args.plan.parts) _ _ _ _ none
+    (copy-codeword (plan_in c.args.plan.parts) _ _ _ (check-none (plan_in c.args.plan.parts) _ _ _ _ none c.requires) c.args.plan.left c.args.plan.right c.args.plan.left_is
+    c.args.plan.right_is (c.is_codeword_at_sight.ensures c.if-is_codeword_at_sight.true) c.copy_front.ensures)
 
 -- ---- any other
 
 pub prepare_finder-requires : goal.prepare_finder-requires
 prepare_finder-requires c =
-    side-preparable (plan_of c.args.left.now c.args.right.now c.args.nl c.args.nr c.args.wiring.now) (accepted (goal.at.prepare_finder-requires c).Start) left c.requires.left_code_value refl
+    side-preparable (plan_in c.args.plan.parts) (accepted (goal.at.prepare_finder-requires c).Start) left c.args.plan.left_is refl
 
 pub decode_trials-requires : goal.decode_trials-requires
 decode_trials-requires c =
@@ -49,12 +50,12 @@ decode_trials-requires c =
         right-finds = λ some. absurd (some refl);
         shared = λ _. c.same.ensures.when_true c.if-same.true;
       };
-      limit_value = c.requires.limit_value;
+      limit_value = c.requires;
     }
 
 pub prepare_finder-requires-2 : goal.prepare_finder-requires-2
 prepare_finder-requires-2 c =
-    side-preparable (plan_of c.args.left.now c.args.right.now c.args.nl c.args.nr c.args.wiring.now) (accepted (goal.at.prepare_finder-requires-2 c).Start) right c.requires.right_code_value refl
+    side-preparable (plan_in c.args.plan.parts) (accepted (goal.at.prepare_finder-requires-2 c).Start) right c.args.plan.right_is refl
 
 pub decode_trials-requires-2 : goal.decode_trials-requires-2
 decode_trials-requires-2 c =
@@ -65,5 +66,5 @@ decode_trials-requires-2 c =
         right-finds = λ _. finds;
         shared = λ none. absurd (omega (arith, finds.sized));
       };
-      limit_value = c.requires.limit_value;
+      limit_value = c.requires;
     }

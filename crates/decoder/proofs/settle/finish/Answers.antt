@@ -138,7 +138,7 @@ overflow_step-count c = omega (arith, c.requires.opened_some.limited)
 pub loop-count-preserved : goal.loop-count-preserved
 loop-count-preserved c =
     let here = (goal.at.loop-count-preserved c).At-loop-count in (
-      c.other_side-side.ensures ∙ turn_more c.loop-count.count c.loop-count.invariant.0,
+      c.other-side.ensures ∙ turn_more c.loop-count.count c.loop-count.invariant.0,
       λ received first.
           let m = c.loop-count.invariant.1 received first in
           midway-more (begun here m) m (swept (goal.at.loop-count-preserved c).After-sweep_turn-here) c.if-here-eq0.false c.note.ensures
