@@ -11,7 +11,8 @@ use Rattle.bits.specs.Window.{at}
 use Rattle.inner_code.specs.Reply.{done}
 use Rattle.inner_code.specs.Sheet.{degree}
 use Rattle.wiring.specs.Wiring.{plan_check}
-use Rattle.wiring.specs.Plan.{plan_of, side_bit, edge_count, left, right, other}
+use Rattle.wiring.specs.Plan.{side_bit, edge_count, left, right, other}
+use Rattle.wiring.specs.PlanParts.{plan_in}
 use Rattle.wiring.proofs.Plans.{fitted-sheet, plan-fits, plan-whole, plan-few, plan-entries}
 use Rattle.words.specs.Marks.{news_of, told_right}
 use Rattle.words.proofs.Patterns.{rest-high}
@@ -22,48 +23,48 @@ use Rattle.words.proofs.pattern.put_left.Goals.{After-highest-high, Start}
 
 -- ---- the call, the loop's head, and the plan
 
-accepted : (c : Start) → plan_check (plan_of c.args.left.now c.args.right.now c.args.nl c.args.nr c.args.wiring.now) ≡ done []
-accepted c = c.requires.plan_value
+accepted : (c : Start) → plan_check (plan_in c.args.plan.now.parts) ≡ done []
+accepted c = c.args.plan.now.passed
 
 pub bounds-left-0 : goal.bounds-left-0
 bounds-left-0 c =
-    fitted-sheet _ (plan-fits (plan_of c.args.left.now c.args.right.now c.args.nl c.args.nr c.args.wiring.now) (accepted (goal.at.bounds-left-0 c).Start) left)
+    fitted-sheet _ (plan-fits (plan_in c.args.plan.now.parts) (accepted (goal.at.bounds-left-0 c).Start) left)
 
 -- look: no goal for `overflow-cast-d`
 -- cast-d : tie.Need-overflow-cast-d invariant-loop decreases-loop
 -- cast-d c = omega (arith, c.type_inv.left 0)
 
 pub bounds-right-0 : goal.bounds-right-0
-bounds-right-0 c = fitted-sheet _ (plan-fits (plan_of c.args.left.now c.args.right.now c.args.nl c.args.nr c.args.wiring.now) (accepted (goal.at.bounds-right-0 c).Start) right)
+bounds-right-0 c = fitted-sheet _ (plan-fits (plan_in c.args.plan.now.parts) (accepted (goal.at.bounds-right-0 c).Start) right)
 
 -- look: no goal for `overflow-cast-dr`
 -- cast-dr : tie.Need-overflow-cast-dr invariant-loop decreases-loop
 -- cast-dr c = omega (arith, c.type_inv.right 0)
 
 -- an entry of vertex v
-entry-few : (c : Start) (j : ℕ) → j < degree c.args.left.now
-    → c.args.v * degree c.args.left.now + j < edge_count (plan_of c.args.left.now c.args.right.now c.args.nl c.args.nr c.args.wiring.now)
+entry-few : (c : Start) (j : ℕ) → j < degree c.args.plan.now.parts.left_sheet.now
+    → c.args.v * degree c.args.plan.now.parts.left_sheet.now + j < edge_count (plan_in c.args.plan.now.parts)
 entry-few c j l = digits_lt c.requires.v_lt_nl l
 
 pub overflow_mul-base : goal.overflow_mul-base
 unfolding degree
 overflow_mul-base c =
-    let fits = plan-fits (plan_of c.args.left.now c.args.right.now c.args.nl c.args.nr c.args.wiring.now) (accepted (goal.at.overflow_mul-base c).Start) left in
-    omega (arith, entry-few (goal.at.overflow_mul-base c).Start 0 (omega (arith, fits.d-low)), plan-few (plan_of c.args.left.now c.args.right.now c.args.nl c.args.nr c.args.wiring.now) (accepted (goal.at.overflow_mul-base c).Start))
+    let fits = plan-fits (plan_in c.args.plan.now.parts) (accepted (goal.at.overflow_mul-base c).Start) left in
+    omega (arith, entry-few (goal.at.overflow_mul-base c).Start 0 (omega (arith, fits.d-low)), plan-few (plan_in c.args.plan.now.parts) (accepted (goal.at.overflow_mul-base c).Start))
 
 pub loop-rest-init : goal.loop-rest-init
 loop-rest-init c =
-    putting-start (plan_of c.args.left.now c.args.right.now c.args.nl c.args.nr c.args.wiring.now) (accepted (goal.at.loop-rest-init c).Start) left c.args.v c.requires.v_lt_nl c.args.pattern _ _ c.requires.pattern_bound c.requires.words_read
+    putting-start (plan_in c.args.plan.now.parts) (accepted (goal.at.loop-rest-init c).Start) left c.args.v c.requires.v_lt_nl c.args.pattern _ _ c.requires.pattern_bound c.requires.words_read
 
 -- the highest one is within the word, and the edge is one of the plan's
-within : (c : After-highest-high) → c.highest-high.result < degree c.args.left.now
+within : (c : After-highest-high) → c.highest-high.result < degree c.args.plan.now.parts.left_sheet.now
 within c = rest-high c.loop-rest.invariant.left_over _ c.highest-high.ensures.power_low c.highest-high.ensures.power_high
 
-edge-lt : (c : After-highest-high) → (c.args.v * degree c.args.left.now + (degree c.args.left.now - 1 - c.highest-high.result)) < edge_count (plan_of c.args.left.now c.args.right.now c.args.nl c.args.nr c.args.wiring.now)
+edge-lt : (c : After-highest-high) → (c.args.v * degree c.args.plan.now.parts.left_sheet.now + (degree c.args.plan.now.parts.left_sheet.now - 1 - c.highest-high.result)) < edge_count (plan_in c.args.plan.now.parts)
 edge-lt c = entry-few c.before.before.before.before.before.before.before.before.before.before.before _ (omega (arith, within c))
 
-edge_few : (c : After-highest-high) → (c.args.v * degree c.args.left.now + (degree c.args.left.now - 1 - c.highest-high.result)) < 32768
-edge_few c = omega (arith, edge-lt c, plan-few (plan_of c.args.left.now c.args.right.now c.args.nl c.args.nr c.args.wiring.now) (accepted c.before.before.before.before.before.before.before.before.before.before.before))
+edge_few : (c : After-highest-high) → (c.args.v * degree c.args.plan.now.parts.left_sheet.now + (degree c.args.plan.now.parts.left_sheet.now - 1 - c.highest-high.result)) < 32768
+edge_few c = omega (arith, edge-lt c, plan-few (plan_in c.args.plan.now.parts) (accepted c.before.before.before.before.before.before.before.before.before.before.before))
 
 pub overflow_sub-edge : goal.overflow_sub-edge
 unfolding degree
@@ -84,7 +85,7 @@ offset_bounds-places-edge c = omega (arith, edge_few c)
 pub bounds-places-edge : goal.bounds-places-edge
 unfolding degree
 bounds-places-edge c =
-    omega (arith, edge-lt (goal.at.bounds-places-edge c).After-highest-high, plan-entries (plan_of c.args.left.now c.args.right.now c.args.nl c.args.nr c.args.wiring.now) (accepted (goal.at.bounds-places-edge c).Start), c.requires.places_noted.sized)
+    omega (arith, edge-lt (goal.at.bounds-places-edge c).After-highest-high, plan-entries (plan_in c.args.plan.now.parts) (accepted (goal.at.bounds-places-edge c).Start), c.requires.places_noted.sized)
 
 -- look: no goal for `overflow-cast-place`
 -- cast-place : tie.Need-overflow-cast-place invariant-loop decreases-loop
@@ -99,18 +100,18 @@ bounds-places-edge c =
 
 -- ---- the place of the edge
 
-place-lt : (c : After-highest-high) → (at c.args.places.now ((c.args.v * degree c.args.left.now + (degree c.args.left.now - 1 - c.highest-high.result)))) < edge_count (plan_of c.args.left.now c.args.right.now c.args.nl c.args.nr c.args.wiring.now)
-place-lt c = places-lt (plan_of c.args.left.now c.args.right.now c.args.nl c.args.nr c.args.wiring.now) (accepted c.before.before.before.before.before.before.before.before.before.before.before) c.requires.places_noted ((c.args.v * degree c.args.left.now + (degree c.args.left.now - 1 - c.highest-high.result))) (edge-lt c)
+place-lt : (c : After-highest-high) → (at c.args.places.now ((c.args.v * degree c.args.plan.now.parts.left_sheet.now + (degree c.args.plan.now.parts.left_sheet.now - 1 - c.highest-high.result)))) < edge_count (plan_in c.args.plan.now.parts)
+place-lt c = places-lt (plan_in c.args.plan.now.parts) (accepted c.before.before.before.before.before.before.before.before.before.before.before) c.requires.places_noted ((c.args.v * degree c.args.plan.now.parts.left_sheet.now + (degree c.args.plan.now.parts.left_sheet.now - 1 - c.highest-high.result))) (edge-lt c)
 
-place-vertex : (c : After-highest-high) → (at c.args.places.now ((c.args.v * degree c.args.left.now + (degree c.args.left.now - 1 - c.highest-high.result)))) / degree c.args.right.now < c.args.nr
+place-vertex : (c : After-highest-high) → (at c.args.places.now ((c.args.v * degree c.args.plan.now.parts.left_sheet.now + (degree c.args.plan.now.parts.left_sheet.now - 1 - c.highest-high.result)))) / degree c.args.plan.now.parts.right_sheet.now < c.args.plan.now.parts.nr
 place-vertex c =
-    let w = plan-whole (plan_of c.args.left.now c.args.right.now c.args.nl c.args.nr c.args.wiring.now) (accepted c.before.before.before.before.before.before.before.before.before.before.before) right in
+    let w = plan-whole (plan_in c.args.plan.now.parts) (accepted c.before.before.before.before.before.before.before.before.before.before.before) right in
     (div-lt_iff_lt-mul w.degree-pos).1 (rw w.entries (place-lt c))
 
 pub tell_right-requires : goal.tell_right-requires
 unfolding degree at
 tell_right-requires c =
-    let fits = plan-fits (plan_of c.args.left.now c.args.right.now c.args.nl c.args.nr c.args.wiring.now) (accepted (goal.at.tell_right-requires c).Start) right in
+    let fits = plan-fits (plan_in c.args.plan.now.parts) (accepted (goal.at.tell_right-requires c).Start) right in
     record {
       d_nonzero = (omega (arith, fits.d-low), fits.d-high);
       kept_len = c.loop-rest.invariant.keeps.reads.sized;
@@ -119,7 +120,7 @@ tell_right-requires c =
 
 pub power-rest-requires : goal.power-rest-requires
 power-rest-requires c =
-    let fits = plan-fits (plan_of c.args.left.now c.args.right.now c.args.nl c.args.nr c.args.wiring.now) (accepted (goal.at.power-rest-requires c).Start) left in
+    let fits = plan-fits (plan_in c.args.plan.now.parts) (accepted (goal.at.power-rest-requires c).Start) left in
     omega (arith, within (goal.at.power-rest-requires c).After-highest-high, fits.d-high)
 
 pub overflow_sub-rest : goal.overflow_sub-rest
@@ -133,10 +134,10 @@ loop-rest-smaller c =
 pub loop-rest-preserved : goal.loop-rest-preserved
 unfolding degree at side_bit told_right news_of other
 loop-rest-preserved c =
-    let bit = places-bit (plan_of c.args.left.now c.args.right.now c.args.nl c.args.nr c.args.wiring.now) (accepted (goal.at.loop-rest-preserved c).Start) c.requires.places_noted ((c.args.v * degree c.args.left.now + (degree c.args.left.now - 1 - c.highest-high.result))) (edge-lt (goal.at.loop-rest-preserved c).After-highest-high) in
-    putting-more (plan_of c.args.left.now c.args.right.now c.args.nl c.args.nr c.args.wiring.now) (accepted (goal.at.loop-rest-preserved c).Start) left c.args.v c.requires.v_lt_nl c.args.pattern _ _ c.loop-rest.invariant _ c.highest-high.ensures.power_low
+    let bit = places-bit (plan_in c.args.plan.now.parts) (accepted (goal.at.loop-rest-preserved c).Start) c.requires.places_noted ((c.args.v * degree c.args.plan.now.parts.left_sheet.now + (degree c.args.plan.now.parts.left_sheet.now - 1 - c.highest-high.result))) (edge-lt (goal.at.loop-rest-preserved c).After-highest-high) in
+    putting-more (plan_in c.args.plan.now.parts) (accepted (goal.at.loop-rest-preserved c).Start) left c.args.v c.requires.v_lt_nl c.args.pattern _ _ c.loop-rest.invariant _ c.highest-high.ensures.power_low
     c.highest-high.ensures.power_high _ refl c.power-rest.ensures c.turn_bit.ensures
-    ((at c.args.places.now ((c.args.v * degree c.args.left.now + (degree c.args.left.now - 1 - c.highest-high.result))))) (place-lt (goal.at.loop-rest-preserved c).After-highest-high) bit refl ((at c.args.places.now ((c.args.v * degree c.args.left.now + (degree c.args.left.now - 1 - c.highest-high.result))))) (place-lt (goal.at.loop-rest-preserved c).After-highest-high) bit c.tell_right.ensures
+    ((at c.args.places.now ((c.args.v * degree c.args.plan.now.parts.left_sheet.now + (degree c.args.plan.now.parts.left_sheet.now - 1 - c.highest-high.result))))) (place-lt (goal.at.loop-rest-preserved c).After-highest-high) bit refl ((at c.args.places.now ((c.args.v * degree c.args.plan.now.parts.left_sheet.now + (degree c.args.plan.now.parts.left_sheet.now - 1 - c.highest-high.result))))) (place-lt (goal.at.loop-rest-preserved c).After-highest-high) bit c.tell_right.ensures
 
 -- look: no goal for `same-length`
 -- same_length : tie.Need-same-length invariant-loop decreases-loop
@@ -144,4 +145,4 @@ loop-rest-preserved c =
 
 pub returns : goal.returns
 returns c =
-    putting-done (plan_of c.args.left.now c.args.right.now c.args.nl c.args.nr c.args.wiring.now) (accepted (goal.at.returns c).Start) left c.args.v c.requires.v_lt_nl c.args.pattern _ _ c.loop-rest.invariant (omega arith)
+    putting-done (plan_in c.args.plan.now.parts) (accepted (goal.at.returns c).Start) left c.args.v c.requires.v_lt_nl c.args.pattern _ _ c.loop-rest.invariant (omega arith)

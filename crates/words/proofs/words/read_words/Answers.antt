@@ -8,7 +8,8 @@ use Rattle.wiring.proofs.Blocks.{block_room}
 use Rattle.inner_code.specs.Sheet.{degree}
 use Rattle.wiring.specs.Access.{word_from}
 use Rattle.wiring.specs.Block.{vertex_word}
-use Rattle.wiring.specs.Plan.{Plan, plan_of, side_of, side_bit, edge_count, right}
+use Rattle.wiring.specs.Plan.{Plan, side_of, side_bit, edge_count, right}
+use Rattle.wiring.specs.PlanParts.{plan_in}
 use Rattle.wiring.specs.Checking.{Fitted}
 use Rattle.wiring.proofs.Permutation.{Whole, entry_lt, fitted-vertex}
 use Rattle.bits.proofs.Lists.{at_set_other}
@@ -18,24 +19,24 @@ use Rattle.words.proofs.words.read_words.Goals as goal
 use Rattle.words.proofs.words.read_words.Goals.{Start}
 
 abbrev plan : Start → Plan
-plan c = plan_of c.args.left.now c.args.right.now c.args.nl c.args.nr c.args.wiring.now
+plan c = plan_in c.args.plan.now.parts
 
-fits : (c : Start) → Fitted (degree c.args.right.now) c.args.nr c.args.wiring.now
-fits c = plan-fits (plan c) c.requires.plan_value right
+fits : (c : Start) → Fitted (degree c.args.plan.now.parts.right_sheet.now) c.args.plan.now.parts.nr c.args.plan.now.parts.wiring.now
+fits c = plan-fits (plan c) c.args.plan.now.passed right
 
 whole : (c : Start) → Whole (edge_count (plan c)) (side_of (plan c) right)
-whole c = plan-whole (plan c) c.requires.plan_value right
+whole c = plan-whole (plan c) c.args.plan.now.passed right
 
 -- the block holds every bit
 room : (c : Start) → edge_count (plan c) ≤ length c.args.block.now * 8
 room c = block_room (edge_count (plan c)) c.args.block.now c.requires.block_value
 
 -- the entries of a vertex
-last_entry : (c : Start) (v : ℕ) → v < c.args.nr → v * degree c.args.right.now + degree c.args.right.now ≤ 32768
+last_entry : (c : Start) (v : ℕ) → v < c.args.plan.now.parts.nr → v * degree c.args.plan.now.parts.right_sheet.now + degree c.args.plan.now.parts.right_sheet.now ≤ 32768
 last_entry c v below =
-    omega (arith, fitted-vertex (fits c) v below, (fits c).sized, (whole c).entries, plan-few (plan c) c.requires.plan_value)
+    omega (arith, fitted-vertex (fits c) v below, (fits c).sized, (whole c).entries, plan-few (plan c) c.args.plan.now.passed)
 
-few : (c : Start) (v : ℕ) → v < c.args.nr → v < 2048
+few : (c : Start) (v : ℕ) → v < c.args.plan.now.parts.nr → v < 2048
 few c v below = omega (arith, (fits c).n-high)
 
 pub bounds-right-0 : goal.bounds-right-0
@@ -79,7 +80,7 @@ loop-v-preserved c =
 pub returns : goal.returns
 returns c =
     let call = (goal.at.returns c).Start in
-    let end : c.loop-v.v ≡ c.args.nr = omega arith in record {
+    let end : c.loop-v.v ≡ c.args.plan.now.parts.nr = omega arith in record {
       words_read = record {
         sized = c.loop-v.invariant.0.sized;
         room = rw (whole call).entries (room call);
