@@ -89,7 +89,8 @@ loop-v-preserved c =
     let round = c.loop-v.invariant.0 in
     elim c.if-not-is_codeword.branch [
       | then-not-is_codeword w ↦
-          let visit : VisitedAt (plan here) right c.loop-v.v w.visit-bits.result block c.loop-v.kept w.visit-bits.new.block w.visit-bits.new.kept = w.visit-bits.ensures.visited_at in
+          let visit : VisitedAt (plan here) right c.loop-v.v w.visit-bits.result block c.loop-v.kept w.visit-bits.new.block w.visit-bits.new.kept =
+          w.visit-bits.ensures.visited_at in
           rw (w.changed-is, w.ties-is, w.block-is, w.kept-is, w.finder-is) (
             round-visited c.args.plan.now.passed (below here) round visit
                 (visit-waits (ready here) right block (below here) (word-is here) (member here) w.if-not-is_codeword.true visit.counted w.tie-ties.ensures),
