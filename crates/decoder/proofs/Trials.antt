@@ -17,7 +17,7 @@
 -- over at the front, `laid-` about a block laid at the front of a buffer and `part-` about any buffer, whose first `size` bytes are lent on and come
 -- back as `swept`, `by-` about an answer by a trial, `twice-` about two trials, one outcome each. At the end of a name, `-none` is about the empty
 -- list. copy-codeword is about a block that no sweep changes.
-use Prim.Native.Nat.{ℕ, ◌-◌, ◌/◌, ◌≤◌, ◌<◌, min}
+use Prim.Native.Nat.{ℕ, ◌/◌, ◌≤◌, ◌<◌, min}
 use native.Mathlib.Nat.{min-eq_left, min-eq_right, le_of_eq}
 use native.Mathlib.Decide.{dec_le, ℕ_discrete}
 use mathlib.Core.Bool.{Bool, true, false, cond}

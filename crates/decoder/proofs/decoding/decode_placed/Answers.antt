@@ -1,6 +1,6 @@
 -- `decoder::decode_placed` meets its contract: the tests of the code are those of the definition. Where no bit is lost the other trial is the same one,
 -- and where the trial with zeros changes no bit outside the spans the other cannot change fewer.
-use Rattle.std.proofs.Common.{List, ◌≡◌, ◌++◌, ℕ, ◌≤◌, sym, ap, arith, ◌∙◌, length, take, replicate, true≢false}
+use Rattle.std.proofs.Common.{◌≡◌, ◌++◌, ℕ, sym, arith, ◌∙◌, length, take, replicate, true≢false}
 use Rattle.std.proofs.Math.ListN.{drop, length-replicate}
 use Rattle.std.proofs.Math.Seq.{length-take-le}
 use Rattle.spans.specs.Spans.{filled}

@@ -1,7 +1,6 @@
 -- `decoder::decode_trials` meets its contract: where no bit is lost and two sweeps settle the block, the other trial is the same one; any other call
 -- is decoded on from there, which its output, written over at the front, does not change.
-use Rattle.std.proofs.Common.{List, ◌≡◌, ℕ, sym, refl, arith, length, take}
-use Rattle.bits.specs.Bit.{written}
+use Rattle.std.proofs.Common.{◌≡◌, sym, refl, arith, length, take}
 use Rattle.spans.specs.Spans.{filled}
 use Rattle.spans.proofs.Filling.{length-filled}
 use Rattle.decoder.proofs.Trials.{check-means, passed-filled, laid-part, laid-opened, front-check, front-answers, front-settles}
