@@ -1,9 +1,10 @@
 -- The measure of the spread: the walk of a left vertex u counts, at each w, the meeting number of u and w.
--- The notions, of specs/Walk.antt:
+-- The notions, of specs/Walk.antt but for Walkable:
 --   Noted                          the lists of the left vertex of each entry and of the right vertex of each edge (wiring specs Ends)
 --   Ends                           what the walk needs to know of those lists
 --   arrivals, walked               how many of some entries, and of some walks of two edges, end at a vertex
---   Fresh, Walkable, Countable, Counted, Summable  the counts before, during and after a walk
+--   Fresh, Countable, Counted, Summable  the counts before, during and after a walk
+--   Walkable                       what the walk by dl edges needs to know
 --   uneven_by, walked_uneven, largest_walked       the sum over the counts, after the walk of u, and the largest of these
 -- Laws are named by their subject, then by the fact: `-none` and `-one-more` are the start of a loop and one turn of it, `-le` and
 -- `-low` are bounds, `-walkable`, `-countable` and `-summable` lead to what the next step needs to know. The theorem is walked-spread: what
@@ -32,7 +33,7 @@ use Rattle.wiring.proofs.Edges.{vertex_of, vertex-of-lt, edges-from}
 use Rattle.bits.proofs.Lists.{at_set_same, at_set_other}
 use Rattle.wiring.proofs.EdgeEnds.{noted-right, noted-ends}
 use Rattle.meetings.specs.Spread.{meeting, unevenness, spread}
-use Rattle.meetings.specs.Walk.{Ends, arrivals, walked, Fresh, Countable, Walkable, Counted, Summable, uneven_by, walked_uneven, largest_walked}
+use Rattle.meetings.specs.Walk.{Ends, arrivals, walked, Fresh, Countable, Counted, Summable, uneven_by, walked_uneven, largest_walked}
 use lib.Arith.{digits_lt}
 
 -- ---- d elements of a list, from one on
@@ -140,6 +141,14 @@ module _ {nl nr : ℕ} {counts : List ℕ} (s : Summable nl nr counts) where
 
 -- ---- the walk
 
+pub record Walkable (lefts rights : List ℕ) (base dl dr : ℕ) (counts : List ℕ) : Type 0 where
+  pub dl-high : dl ≤ 16
+  pub dr-high : dr ≤ 16
+  pub inside : base + dl ≤ length rights
+  pub entries-inside : (j : ℕ) → j < dl → at rights (base + j) * dr + dr ≤ length lefts
+  pub left_lt : (j i : ℕ) → j < dl → i < dr → at lefts (at rights (base + j) * dr + i) < length counts
+  pub count_none : (j i : ℕ) → j < dl → i < dr → at counts (at lefts (at rights (base + j) * dr + i)) ≡ 0
+
 module _ (lefts rights : List ℕ) (base dr : ℕ) where
   pub walk_none : (counts : List ℕ) → Counted (walked (at lefts) (at rights) dr base 0) counts counts
   walk_none counts = record { count-is = λ w l. omega (arith, walked_none (at lefts) (at rights) dr base w) }
@@ -172,40 +181,43 @@ module _ (lefts rights : List ℕ) (base dr : ℕ) where
             );
       }
 
-module _ {nl nr dl dr : ℕ} {lefts rights : List ℕ} (ends : Ends nl nr dl dr lefts rights) (u : ℕ) (l : u < nl) (counts : List ℕ)
-    (fresh : Fresh nl counts) where
-  pub ends-walkable : Walkable lefts rights (u * dl) dl dr counts
-  ends-walkable =
-      let right_lt : (j : ℕ) → j < dl → at rights (u * dl + j) < nr = λ j h. ends.right_lt _ (digits_lt l h) in
-      let left_lt : (j i : ℕ) → j < dl → i < dr → at lefts (at rights (u * dl + j) * dr + i) < nl =
-      λ j i h k. ends.left_lt _ (digits_lt (right_lt j h) k) in
-      record {
-        dl-high = ends.dl-high;
-        dr-high = ends.dr-high;
-        inside = omega (arith, ends.rights-sized, mul-le-mul_right dl l);
-        entries-inside = λ j h. omega (arith, ends.lefts-sized, mul-le-mul_right dr (right_lt j h));
-        left_lt = λ j i h k. omega (arith, left_lt j i h k, fresh.sized);
-        count_none = λ j i h k. fresh.count_none _ (left_lt j i h k);
-      }
+module _ {nl nr dl dr : ℕ} {lefts rights : List ℕ} (ends : Ends nl nr dl dr lefts rights) (u : ℕ) (l : u < nl) where
+  pub ends-room : u * dl + dl ≤ length rights
+  ends-room = omega (arith, ends.rights-sized, mul-le-mul_right dl l)
 
-  module _ (after : List ℕ) (r : Counted (walked (at lefts) (at rights) dr (u * dl) dl) counts after) where
-    -- the counts that the walk of u leaves
-    walked-count : (w : ℕ) → w < nl → at after w ≡ walked (at lefts) (at rights) dr (u * dl) dl w
-    walked-count w h = omega (arith, r.count-is w (omega (arith, fresh.sized)), fresh.count_none w h)
-
-    pub walked-summable : nl ≤ length after → Summable nl nr after
-    walked-summable room =
+  module _ (counts : List ℕ) (fresh : Fresh nl counts) where
+    pub ends-walkable : Walkable lefts rights (u * dl) dl dr counts
+    ends-walkable =
+        let right_lt : (j : ℕ) → j < dl → at rights (u * dl + j) < nr = λ j h. ends.right_lt _ (digits_lt l h) in
+        let left_lt : (j i : ℕ) → j < dl → i < dr → at lefts (at rights (u * dl + j) * dr + i) < nl =
+        λ j i h k. ends.left_lt _ (digits_lt (right_lt j h) k) in
         record {
-          nl-high = ends.nl-high;
-          nr-high = ends.nr-high;
-          sized = room;
-          count_low = λ w h.
-              omega (arith, walked-count w h, walked-le (at lefts) (at rights) dr (u * dl) dl w, degrees-le dl dr ends.dl-high ends.dr-high);
+          dl-high = ends.dl-high;
+          dr-high = ends.dr-high;
+          inside = ends-room;
+          entries-inside = λ j h. omega (arith, ends.lefts-sized, mul-le-mul_right dr (right_lt j h));
+          left_lt = λ j i h k. omega (arith, left_lt j i h k, fresh.sized);
+          count_none = λ j i h k. fresh.count_none _ (left_lt j i h k);
         }
 
-    pub walked-uneven : uneven_by (at after) nr dl nl ≡ walked_uneven (at lefts) (at rights) nl nr dl dr u
-    unfolding walked_uneven
-    walked-uneven = uneven-ext (at after) _ nr dl nl walked-count
+    module _ (after : List ℕ) (r : Counted (walked (at lefts) (at rights) dr (u * dl) dl) counts after) where
+      -- the counts that the walk of u leaves
+      walked-count : (w : ℕ) → w < nl → at after w ≡ walked (at lefts) (at rights) dr (u * dl) dl w
+      walked-count w h = omega (arith, r.count-is w (omega (arith, fresh.sized)), fresh.count_none w h)
+
+      pub walked-summable : nl ≤ length after → Summable nl nr after
+      walked-summable room =
+          record {
+            nl-high = ends.nl-high;
+            nr-high = ends.nr-high;
+            sized = room;
+            count_low = λ w h.
+                omega (arith, walked-count w h, walked-le (at lefts) (at rights) dr (u * dl) dl w, degrees-le dl dr ends.dl-high ends.dr-high);
+          }
+
+      pub walked-uneven : uneven_by (at after) nr dl nl ≡ walked_uneven (at lefts) (at rights) nl nr dl dr u
+      unfolding walked_uneven
+      walked-uneven = uneven-ext (at after) _ nr dl nl walked-count
 
 -- ---- the largest sum
 

@@ -7,8 +7,8 @@
 --   walked left right dr base m w  how many walks end at w that go by one of the m edges from `base` on, and then by any edge of the
 --                                 right vertex met
 --   Fresh n counts                the counts of n vertices are 0
---   Countable, Walkable           what the count of d entries, and the walk by dl edges, need to know
---   Counted more before after     what they do
+--   Countable                     what the count of d entries needs to know
+--   Counted more before after     what the count, and the walk by dl edges, do
 --   Summable nl nr counts         what the sum over the counts needs to know
 --   uneven_by count n d m          the sum over the first m vertices of |n·count - d·d|
 --   walked_uneven, largest_walked   that sum over all nl vertices after the walk of u, and the largest for u below m
@@ -44,14 +44,6 @@ pub record Countable (lefts : List ℕ) (from d : ℕ) (counts : List ℕ) : Typ
   pub inside : from + d ≤ length lefts
   pub left_lt : (i : ℕ) → i < d → at lefts (from + i) < length counts
   pub count_low : (i : ℕ) → i < d → at counts (at lefts (from + i)) ≤ 256
-
-pub record Walkable (lefts rights : List ℕ) (base dl dr : ℕ) (counts : List ℕ) : Type 0 where
-  pub dl-high : dl ≤ 16
-  pub dr-high : dr ≤ 16
-  pub inside : base + dl ≤ length rights
-  pub entries-inside : (j : ℕ) → j < dl → at rights (base + j) * dr + dr ≤ length lefts
-  pub left_lt : (j i : ℕ) → j < dl → i < dr → at lefts (at rights (base + j) * dr + i) < length counts
-  pub count_none : (j i : ℕ) → j < dl → i < dr → at counts (at lefts (at rights (base + j) * dr + i)) ≡ 0
 
 -- `more w` is put on the count of each w
 pub record Counted (more : ℕ → ℕ) (before after : List ℕ) : Type 0 where

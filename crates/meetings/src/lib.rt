@@ -1,9 +1,10 @@
 // The meeting numbers of a wiring's left vertices, and the spread, which says how evenly they meet.
 #![tactic(auto)]
 
+mod ends;
 mod spread;
 
-pub use spread::{Spread, plan_spread};
+pub use spread::plan_spread;
 
-// Lent to the crates above: these ask what their callers prove.
+// Lent to the crates above.
 pub use spread::measured_spread;

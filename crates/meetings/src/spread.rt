@@ -1,77 +1,73 @@
 // The spread, measured from the wiring's own entries: for each left vertex the walk goes over its edges, and then over the edges of
 // each right vertex met, and counts where it ends.
-ghost use Rattle.std.specs.Prelude.{◌≡◌, ◌≤◌};
+ghost use Rattle.std.specs.Prelude.{◌≡◌, ◌*◌, ◌≤◌, ◌<◌};
 ghost use Rattle.bits.specs.Window.{at};
-ghost use Rattle.wiring.specs.Plan.{Plan, plan_of, plan_at, side_of};
-ghost use Rattle.wiring.specs.Checking.{WiredPlan};
+ghost use Rattle.wiring.specs.Plan.{side_of};
+ghost use Rattle.wiring.specs.PlanParts.{plan_in};
 ghost use Rattle.meetings.specs.Spread.{spread};
 ghost use Rattle.meetings.specs.Answer.{spread_answer, spread_reply};
-ghost use Rattle.meetings.specs.Walk.{Ends, arrivals, walked, Countable, Walkable, Counted, Summable, uneven_by, largest_walked};
+ghost use Rattle.meetings.specs.Walk.{arrivals, walked, Fresh, Countable, Counted, Summable, uneven_by, largest_walked};
 
+use crate::ends::EdgeEnds;
 use inner_code::Refusal;
-use wiring::{Checked, check_plan};
-
-// The spread of a plan, or the refusal.
-#[derive(Clone, Copy)]
-pub enum Spread {
-    Value(u64),
-    Refused(Refusal),
-}
+use wiring::{CheckedPlan, PlanParts, check_plan};
 
 // Checks a plan and answers the spread of its wiring: the smaller, the more evenly its left vertices meet. Refusals 1 to 10 and 23.
-pub fn plan_spread(left: &[u8], right: &[u8], nl: usize, nr: usize, wiring: &[u8]) -> Spread
-    ensures { spread_reply result ≡ spread_answer (plan_at left right nl nr wiring) }
+pub fn plan_spread(plan: PlanParts<'_>) -> Result<u64, Refusal>
+    ensures { spread_reply result ≡ spread_answer (plan_in plan.entry) }
 {
-    let plan = check_plan(left, right, nl, nr, wiring);
-    let checked = plan.checked;
-    match checked {
-        Checked::Refused(r) => Spread::Refused(r),
-        Checked::Passed => Spread::Value(measured_spread(left, right, nl, nr, wiring)),
-    }
+    Ok(measured_spread(check_plan(plan)?))
 }
 
-// The spread R of an accepted plan.
-pub fn measured_spread(left: &[u8], right: &[u8], nl: usize, nr: usize, wiring: &[u8]) -> u64
-    requires { let plan : Plan = plan_of left.now right.now nl nr wiring.now in WiredPlan plan }
-    ensures { let plan : Plan = plan_of left.now right.now nl nr wiring.now in result ≡ spread (side_of plan) }
+// The spread R of a checked plan.
+pub fn measured_spread(plan: CheckedPlan<'_>) -> u64
+    ensures { result ≡ spread (side_of (plan_in plan.entry.parts)) }
 {
-    let dl = left[0] as usize;
-    let dr = right[0] as usize;
+    let dl = plan.left.d;
+    let dr = plan.right.d;
     let mut lefts = [0u16; 32768];
     let mut rights = [0u16; 32768];
-    wiring::note_ends(wiring, nl * dl, dl, dr, &mut lefts, &mut rights);
-    largest_unevenness(&lefts, &rights, nl, nr, dl, dr)
+    wiring::note_ends(
+        plan.parts.wiring,
+        plan.edges(),
+        dl,
+        dr,
+        &mut lefts,
+        &mut rights,
+    );
+    largest_unevenness(EdgeEnds {
+        lefts: &lefts,
+        rights: &rights,
+        nl: plan.left.n,
+        nr: plan.right.n,
+        dl,
+        dr,
+    })
 }
 
 // The largest sum that the walk of a left vertex gives.
-fn largest_unevenness(
-    lefts: &[u16],
-    rights: &[u16],
-    nl: usize,
-    nr: usize,
-    dl: usize,
-    dr: usize,
-) -> u64
-    requires { Ends nl nr dl dr lefts.now rights.now }
-    ensures { result ≡ largest_walked (at lefts.now) (at rights.now) nl nr dl dr nl }
+fn largest_unevenness(ends: EdgeEnds<'_>) -> u64
+    ensures { result ≡ largest_walked (at ends.entry.lefts.now) (at ends.entry.rights.now) ends.entry.nl ends.entry.nr ends.entry.dl ends.entry.dr ends.entry.nl }
 {
     let mut counts = [0u32; 2048];
     let mut largest: u64 = 0;
-    for u in 0..nl {
-        counts[..nl].fill(0);
-        walk(lefts, rights, u * dl, dl, dr, &mut counts);
-        largest = largest.max(unevenness_of(&counts, nl, nr, dl));
+    for u in 0..ends.nl {
+        counts[..ends.nl].fill(0);
+        walk(ends, u, &mut counts);
+        largest = largest.max(unevenness_of(&counts, ends.nl, ends.nr, ends.dl));
     }
     largest
 }
 
-// One for each edge of each right vertex that the dl edges from `base` on meet, at that edge's left vertex.
-fn walk(lefts: &[u16], rights: &[u16], base: usize, dl: usize, dr: usize, counts: &mut [u32])
-    requires { Walkable lefts.now rights.now base dl dr counts.old }
-    ensures { Counted (walked (at lefts.now) (at rights.now) dr base dl) counts.old counts.new }
+// One for each edge of each right vertex that the edges of left vertex u meet, at that edge's left vertex.
+fn walk(ends: EdgeEnds<'_>, u: usize, counts: &mut [u32])
+    requires is_vertex { u < ends.nl }
+    requires fresh { Fresh ends.nl counts.old }
+    ensures { Counted (walked (at ends.entry.lefts.now) (at ends.entry.rights.now) ends.entry.dr (u * ends.entry.dl) ends.entry.dl) counts.old counts.new }
 {
-    for &right in &rights[base..base + dl] {
-        count_edges(lefts, right as usize * dr, dr, counts);
+    let base = u * ends.dl;
+    for &right in &ends.rights[base..base + ends.dl] {
+        count_edges(ends.lefts, right as usize * ends.dr, ends.dr, counts);
     }
 }
 

@@ -9,11 +9,13 @@ use mathlib.Core.List.{List, []}
 use mathlib.Core.Path.{◌≡◌, sym, ap, ◌∙◌}
 use native.Mathlib.Nat.{min-eq_left}
 use lib.ListN.{length, get_or, take}
+use Rattle.std.proofs.Common.{Result, Ok}
 use Rattle.bits.specs.Window.{at}
 use Rattle.inner_code.specs.Reply.{Reply, done, refused}
 use Rattle.inner_code.specs.Code.{distance}
 use Rattle.inner_code.specs.Sheet.{row_count, row_of}
 use Rattle.inner_code.specs.Reduction.{Lists, fewest_ones}
+use Rattle.inner_code.specs.declared.refusal.Refusal.{Refusal}
 use Rattle.inner_code.proofs.Replies.{and_then-passed, and_then-refused, and_then-done}
 use Rattle.inner_code.proofs.Listings.{front_length, front-word}
 use Rattle.inner_code.proofs.InnerDistance.{fewest-distance}
@@ -23,7 +25,6 @@ use Rattle.wiring.specs.Wiring.{plan_check}
 use Rattle.wiring.specs.declared.side.SideName.{SideName}
 use Rattle.wiring.proofs.Plans.{plan-done}
 use Rattle.radius.specs.Answer.{distance_of, in_order, numbers_of, numbers_answer, numbers_reply}
-use Rattle.radius.specs.declared.numbers.Numbers.{Numbers}
 use Rattle.radius.specs.declared.numbers.PlanNumbers.{PlanNumbers}
 
 -- the fewest ones of the listed codewords are the code's distance
@@ -70,7 +71,7 @@ order-tells p q e i =
       spread = value 8 (e i);
     }
 
-pub numbers-known : (plan : Plan) (r : Numbers) (p : PlanNumbers) → numbers_reply r ≡ numbers_answer plan → r ≡ Numbers.Plan p
+pub numbers-known : (plan : Plan) (r : Result PlanNumbers Refusal) (p : PlanNumbers) → numbers_reply r ≡ numbers_answer plan → r ≡ Ok p
     → (plan_check plan ≡ done []) × (p ≡ numbers_of plan)
 unfolding numbers_answer
 numbers-known plan r p e q =

@@ -7,17 +7,17 @@
 --   in_order p                 such numbers in the order in which they are answered: nl, nr, dl, dr, kl, kr, the left D, the right D, R
 --   numbers_answer plan        1 to 10 and 23, or a plan's nine numbers
 --   margin_reply, numbers_reply  the paper's number, place and values for each case of an answer in the code
-use Rattle.std.specs.Prelude.{ℕ, List, [], ◌∷◌, ltb, eqb}
+use Rattle.std.specs.Prelude.{ℕ, List, [], ◌∷◌, ltb, eqb, Result, Ok, Err}
 use Rattle.inner_code.specs.Reply.{Reply, done, refused, refuse_if, and_then}
+use Rattle.inner_code.specs.Refusal.{number_of, place_of}
 use Rattle.inner_code.specs.Code.{distance}
+use Rattle.inner_code.specs.declared.refusal.Refusal.{Refusal}
 use Rattle.wiring.specs.Plan.{Plan, Side, edge_count, left, right, side_of}
 use Rattle.wiring.specs.Wiring.{plan_check}
 use Rattle.wiring.specs.declared.side.SideName.{SideName}
 use Rattle.meetings.specs.Spread.{spread}
 use Rattle.radius.specs.Margin.{Measures, sweeps_named}
-use Rattle.radius.specs.declared.numbers.Numbers.{Numbers}
 use Rattle.radius.specs.declared.numbers.PlanNumbers.{PlanNumbers}
-use Rattle.radius.specs.declared.margins.Margin.{Margin}
 
 abbrev pub distance_of : Side → ℕ
 distance_of side = distance side.row side.k
@@ -59,10 +59,10 @@ unfoldable pub numbers_answer : Plan → Reply
 unfolding and_then plan_check distance spread
 numbers_answer plan = and_then (plan_check plan) (done (in_order (numbers_of plan)))
 
-abbrev pub margin_reply : Margin → Reply
-margin_reply (Margin.Sweeps sweeps) = done (sweeps ∷ [])
-margin_reply (Margin.Refused r) = refused r.number r.place
+abbrev pub margin_reply : Result ℕ Refusal → Reply
+margin_reply (Ok sweeps) = done (sweeps ∷ [])
+margin_reply (Err r) = refused (number_of r) (place_of r)
 
-abbrev pub numbers_reply : Numbers → Reply
-numbers_reply (Numbers.Plan p) = done (in_order p)
-numbers_reply (Numbers.Refused r) = refused r.number r.place
+abbrev pub numbers_reply : Result PlanNumbers Refusal → Reply
+numbers_reply (Ok p) = done (in_order p)
+numbers_reply (Err r) = refused (number_of r) (place_of r)

@@ -66,7 +66,7 @@ fn chain(plan: PlanNumbers, first: u64) -> u64
         }
         b = limit * b / square;
         place += 1;
-        to = wiring::other_side(to);
+        to = to.other();
     }
     place
 }

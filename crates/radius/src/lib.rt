@@ -5,8 +5,8 @@ mod chain;
 mod margins;
 mod numbers;
 
-pub use margins::{Margin, margin_sweeps};
-pub use numbers::{Numbers, PlanNumbers, plan_numbers};
+pub use margins::margin_sweeps;
+pub use numbers::{PlanNumbers, plan_numbers};
 
 // Lent to the crates above: these ask what their callers prove.
 pub use chain::{first_uncovered, sweeps_named};

@@ -6,12 +6,12 @@
 --   run_start, ends_at, run_count, run_bytes, pair_bytes   where runs begin and end, their number and their bytes (specs Report)
 --   written front l      the list l with `front` at its beginning (bits specs Bit)
 --   sets l i vs          the list l with `vs` stored from index i on (lib.Seq)
---   Outcome .. reply left   `reply` is what the service answers and `left` is the list that it leaves
+--   Outcome .. reply left   `reply` is what the service answers and `left` is the list that it leaves, by the names of its clauses
 -- A stretch is m bits from bit i on, at least one, that all fail the test: a run may end before it, and none begins in it.
 -- Laws are named by their subject, then by the fact: `agreeing-` is about what two blocks say, `inside-` about runs after one bit that
 -- passes, `stretch-` about runs after a stretch, `written-` about the list with the runs that have ended, `outcome-` about the service, one
 -- outcome each, in the order of its checks. At the end of a name, `-ends` is a run that ends before the stretch, `-none` no such run.
--- `stored-pair` is about the stores of one run; `blocks-held` and `edges_few` lead from the checks to what a walk over the bits needs.
+-- `stored-pair` is about the stores of one run; `blocks-held` leads from the checks to what a walk over the bits needs.
 use Prim.Native.Nat.{ℕ, zero, suc, ◌+◌, ◌-◌, ◌*◌, ◌/◌, ◌%◌, ◌≤◌, ◌<◌}
 use mathlib.Core.Bool.{Bool, true, false, not}
 use mathlib.Core.List.{List, [], ◌∷◌, ◌++◌}
@@ -28,9 +28,6 @@ use Rattle.bits.specs.Bit.{bit_at, written}
 use Rattle.inner_code.specs.Reply.{Reply, done, refused}
 use Rattle.wiring.specs.Wiring.{plan_check}
 use Rattle.wiring.specs.Block.{block_bytes, block_check}
-use Rattle.wiring.specs.declared.plan.CheckedPlan.{CheckedPlan}
-use Rattle.wiring.proofs.Permutation.{fitted-edges}
-use Rattle.wiring.proofs.Plans.{PlanAccepted, accepted-edges}
 use Rattle.wiring.proofs.Blocks.{block-sized}
 use Rattle.report.specs.Report.{differs_at, run_start, ends_at, run_count, pair_bytes, run_bytes}
 use Rattle.report.specs.Answer.{report_answer, report_list}
@@ -173,46 +170,40 @@ unfolding block_bytes
 blocks-held N received settled few pass-r pass-s =
     record { few = few; first = omega (arith, block-sized N received pass-r); second = omega (arith, block-sized N settled pass-s) }
 
-pub edges_few : {plan : Plan} {r : CheckedPlan} → PlanAccepted plan r → r.left.n * r.left.d ≤ 32768
-edges_few p = rw (accepted-edges p) (fitted-edges p.plan-wired.left-fits)
-
 module _ (plan : Plan) (received settled list : List ℕ) where
   abbrev Outcome : Reply → List ℕ → Type 0
-  Outcome reply left = (reply ≡ report_answer plan received settled list) × (left ≡ report_list plan received settled list)
+  Outcome reply left = record {
+    result_value : reply ≡ report_answer plan received settled list;
+    list_after : left ≡ report_list plan received settled list;
+  }
 
   outcome : {reply : Reply} {left : List ℕ} → Reported plan received settled list reply left → Outcome reply left
-  outcome r = (sym r.answer, sym r.leaves)
+  outcome r = record { result_value = sym r.answer; list_after = sym r.leaves }
 
   pub outcome-plan : (number place : ℕ) → plan_check plan ≡ refused number place → Outcome (refused number place) list
   outcome-plan number place e = outcome (report-plan plan received settled list number place e)
 
-  module _ {r : CheckedPlan} (p : PlanAccepted plan r) where
-    -- the bits that the code counts
-    abbrev edges : ℕ
-    edges = r.left.n * r.left.d
-
-    edges_are : edges ≡ edge_count plan
-    edges_are = accepted-edges p
-
+  -- `edges` is what the code has for the number of bits
+  module _ (accepted : plan_check plan ≡ done []) {edges : ℕ} (edges_are : edges ≡ edge_count plan) where
     pub outcome-received : (number place : ℕ) → block_check edges received ≡ refused number place → Outcome (refused number place) list
     outcome-received number place e =
-        outcome (report-received plan received settled list p.plan-done number place (rw edges_are at e))
+        outcome (report-received plan received settled list accepted number place (rw edges_are at e))
 
     module _ (pass-r : block_check edges received ≡ done []) where
       pub outcome-settled : (number place : ℕ) → block_check edges settled ≡ refused number place → Outcome (refused number place) list
       outcome-settled number place e =
-          outcome (report-settled-block plan received settled list p.plan-done (rw edges_are at pass-r) number place (rw edges_are at e))
+          outcome (report-settled-block plan received settled list accepted (rw edges_are at pass-r) number place (rw edges_are at e))
 
       module _ (pass-s : block_check edges settled ≡ done []) (count : ℕ)
           (counted : count ≡ run_count (differs_at received settled) (edges + 1)) where
         pub outcome-short : length list < 4 * count → Outcome (refused 16 0) list
         outcome-short short =
-            outcome (report-short plan received settled list p.plan-done (rw edges_are at pass-r) (rw edges_are at pass-s)
+            outcome (report-short plan received settled list accepted (rw edges_are at pass-r) (rw edges_are at pass-s)
             (rw (counted, edges_are) at short))
 
         pub outcome-done : (left : List ℕ) → 4 * count ≤ length list → left ≡ written (run_bytes (differs_at received settled) (edges + 1)) list
             → Outcome (done (count ∷ [])) left
         outcome-done left room e =
             rw (e, counted, edges_are)
-            (outcome (report-done plan received settled list p.plan-done (rw edges_are at pass-r) (rw edges_are at pass-s)
+            (outcome (report-done plan received settled list accepted (rw edges_are at pass-r) (rw edges_are at pass-s)
             (rw (counted, edges_are) at room)))

@@ -4,62 +4,36 @@
 ghost use Rattle.std.specs.Prelude.{◌≡◌, ◌+◌, ◌*◌, ◌≤◌, ◌<◌, length};
 ghost use Rattle.std.proofs.lemmas.List.Edits.{sets};
 ghost use Rattle.bits.specs.Bit.{written};
-ghost use Rattle.wiring.specs.Plan.{plan_at};
+ghost use Rattle.wiring.specs.PlanParts.{plan_in};
 ghost use Rattle.report.specs.Report.{differs_at, run_count, pair_bytes, run_bytes};
 ghost use Rattle.report.specs.Answer.{report_answer, report_list, report_reply};
 ghost use Rattle.report.specs.Agreement.{Held, Agreeing};
 
-use inner_code::{Refusal, refusal};
-use wiring::Checked;
-
-// The number of pairs in the list, or the refusal.
-#[derive(Clone, Copy)]
-pub enum Reported {
-    Pairs(usize),
-    Refused(Refusal),
-}
+use inner_code::Refusal;
+use wiring::{PlanParts, check_block, check_plan};
 
 // Lists the runs of bits at which the received and the settled block differ, in rising order, and answers their number. A run takes four
 // bytes of the list, its bit offset and its length, high byte first; what lies behind the last run stays as it was, and with a refusal, 1 to
 // 12, 16 or 23, the whole list does.
 pub fn report_runs(
-    left: &[u8],
-    right: &[u8],
-    nl: usize,
-    nr: usize,
-    wiring: &[u8],
+    plan: PlanParts<'_>,
     received: &[u8],
     settled: &[u8],
     list: &mut [u8],
-) -> Reported
-    ensures result_value { report_reply result ≡ report_answer (plan_at left right nl nr wiring) received.now settled.now list.old }
-    ensures list_after { list.new ≡ report_list (plan_at left right nl nr wiring) received.now settled.now list.old }
+) -> Result<usize, Refusal>
+    ensures result_value { report_reply result ≡ report_answer (plan_in plan.entry) received.now settled.now list.old }
+    ensures list_after { list.new ≡ report_list (plan_in plan.entry) received.now settled.now list.old }
 {
-    let plan = wiring::check_plan(left, right, nl, nr, wiring);
-    let checked = plan.checked;
-    match checked {
-        Checked::Refused(r) => Reported::Refused(r),
-        Checked::Passed => {
-            let edges = plan.left.n * plan.left.d;
-            match wiring::check_block(edges, received) {
-                Checked::Refused(r) => Reported::Refused(r),
-                Checked::Passed => match wiring::check_block(edges, settled) {
-                    Checked::Refused(r) => Reported::Refused(r),
-                    Checked::Passed => {
-                        let count = count_runs(received, settled, edges);
-                        if list.len() < 4 * count {
-                            return Reported::Refused(Refusal {
-                                number: refusal::LIST_SHORT,
-                                place: 0,
-                            });
-                        }
-                        write_runs(received, settled, edges, list);
-                        Reported::Pairs(count)
-                    }
-                },
-            }
-        }
+    let checked = check_plan(plan)?;
+    let edges = checked.edges();
+    check_block(edges, received)?;
+    check_block(edges, settled)?;
+    let count = count_runs(received, settled, edges);
+    if list.len() < 4 * count {
+        return Err(Refusal::ListShort);
     }
+    write_runs(received, settled, edges, list);
+    Ok(count)
 }
 
 // The number of runs among the first `edges` bits.

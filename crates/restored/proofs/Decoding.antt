@@ -2,7 +2,7 @@
 --   Received received                what is received of the sent block (specs Sent)
 --   settled_after plan received i     the received block, swept i times, is a codeword (decoder specs Decode)
 --   Restored ..                      what a decoder call is promised (radius specs Demand)
---   sweeps_of, is_unsettled            how a call ended (specs Outcome)
+--   sweeps_of                        how a call ended (specs Outcome)
 -- Names: `decode-` is about a call: its tests pass (-passed), and no row before 15 stops it (-free), so the guarantee holds of it
 -- (-restored); the limit is the count at which the block settles (-at), or one less (-before). `outcome-` reads an answer of the code.
 use mathlib.Core.Path.{◌≡◌}
@@ -18,13 +18,15 @@ use Rattle.wiring.specs.Square.{square_plan}
 use Rattle.spans.proofs.Checking.{spans-none}
 use Rattle.decoder.specs.Decode.{settled_after}
 use Rattle.decoder.specs.Answer.{decode_check, decode_answer, decode_reply}
-use Rattle.decoder.specs.declared.decoding.Decoded.{Decoded}
+use Rattle.std.proofs.Common.{Result, Ok, Err, refl, ap}
+use Rattle.inner_code.specs.Refusal.{number_of}
+use Rattle.inner_code.specs.declared.refusal.Refusal.{Refusal}
 use Rattle.decoder.proofs.Settling.{settles-at, settles-none, decode-settled, decode-unsettled}
 use Rattle.radius.specs.Demand.{stopped_before15, Restored}
 use Rattle.radius.proofs.Calls.{call-passed, call-free}
 use Rattle.radius.proofs.Guarantee.{demand3}
 use Rattle.restored.specs.Sent.{sent_block, Received}
-use Rattle.restored.specs.Outcome.{sweeps_of, is_unsettled}
+use Rattle.restored.specs.Outcome.{sweeps_of}
 use Rattle.restored.proofs.SquarePlan.{square-accepted, square-margin, square-room, sent-codeword, received-block, received-few}
 
 module _ {received : List ℕ} (r : Received received) (output : List ℕ) (room : length output ≡ 8) where

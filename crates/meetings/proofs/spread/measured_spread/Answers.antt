@@ -1,60 +1,38 @@
 -- `meetings::measured_spread` meets its contract: the vertices that are noted are those of the wiring, and the walks over them count the
 -- meeting numbers.
-use mathlib.Core.Path.{sym, subst}
-use Prim.Native.Nat.{ℕ, ◌≤◌}
-use native.Mathlib.Omega.{arith}
-use lib.ListN.{length, replicate, length-replicate}
-use Rattle.inner_code.specs.Sheet.{degree}
-use Rattle.wiring.specs.Plan.{Plan, plan_of, edge_count}
-use Rattle.wiring.specs.Checking.{WiredPlan}
+use Rattle.std.proofs.Common.{◌≤◌, ℕ, length}
+use lib.ListN.{replicate, length-replicate}
+use Rattle.wiring.specs.Plan.{edge_count}
+use Rattle.wiring.specs.PlanParts.{plan_in}
+use Rattle.wiring.specs.declared.parts.CheckedPlan.{CheckedPlan}
 use Rattle.wiring.proofs.EdgeEnds.{wired-notable}
-use Rattle.wiring.proofs.Permutation.{fitted-edges}
-use Rattle.wiring.proofs.Plans.{fitted-sheet}
+use Rattle.wiring.proofs.Plans.{plan-accepted, plan-few}
 use Rattle.meetings.proofs.Walks.{noted-walk, walked-spread}
 use Rattle.meetings.proofs.spread.measured_spread.Goals as goal
 
 -- the arrays have room for all edges
-room : (plan : Plan) → WiredPlan plan → edge_count plan ≤ length (replicate {A = ℕ} 32768 0)
-room plan w = subst (λ (m : ℕ). edge_count plan ≤ m) (sym (length-replicate {A = ℕ} 32768 0)) (fitted-edges w.left-fits)
-
-pub bounds-left-0 : goal.bounds-left-0
-bounds-left-0 c = fitted-sheet _ c.requires.left-fits
-
-pub overflow_cast-dl : goal.overflow_cast-dl
-overflow_cast-dl c = omega (arith, c.type_inv.left 0)
-
-pub bounds-right-0 : goal.bounds-right-0
-bounds-right-0 c = fitted-sheet _ c.requires.right-fits
-
-pub overflow_cast-dr : goal.overflow_cast-dr
-overflow_cast-dr c = omega (arith, c.type_inv.right 0)
-
-pub overflow_mul-nl : goal.overflow_mul-nl
-unfolding degree
-overflow_mul-nl c = omega (arith, fitted-edges c.requires.left-fits)
+room : (r : CheckedPlan) → edge_count (plan_in r.parts) ≤ length (replicate {A = ℕ} 32768 0)
+room r = rw length-replicate (plan-few _ r.passed)
 
 pub note_ends-requires : goal.note_ends-requires
-unfolding degree
 note_ends-requires c =
-    let plan = plan_of c.args.left.now c.args.right.now c.args.nl c.args.nr c.args.wiring.now in
-    let is_wired : WiredPlan plan = c.requires in
-    let fits = room plan is_wired in
-    wired-notable is_wired fits fits
+    let r = c.args.plan in
+    let p = plan-accepted r in
+    rw (c.edges.ensures, r.left_is, r.right_is) (wired-notable p.plan-wired (room r) (room r))
 
 -- ---- past the notes of all edges
 
-pub largest_unevenness-requires : goal.largest_unevenness-requires
-unfolding degree
-largest_unevenness-requires c =
-    let plan = plan_of c.args.left.now c.args.right.now c.args.nl c.args.nr c.args.wiring.now in
-    let is_wired : WiredPlan plan = c.requires in
-    let fits = room plan is_wired in
-    noted-walk plan is_wired c.note_ends.ensures.noted
-    (subst (λ (m : ℕ). edge_count plan ≤ m) (sym c.note_ends.auto.lefts) fits)
-    (subst (λ (m : ℕ). edge_count plan ≤ m) (sym c.note_ends.auto.rights) fits)
+pub invariant_of-largest_unevenness : goal.invariant_of-largest_unevenness
+invariant_of-largest_unevenness c =
+    let r = c.args.plan in
+    let p = plan-accepted r in
+    let noted = rw (c.edges.ensures, r.left_is, r.right_is) at c.note_ends.ensures.noted in
+    rw (r.left_is, r.right_is)
+    (record { listed = noted-walk _ p.plan-wired noted (rw c.note_ends.auto.lefts (room r)) (rw c.note_ends.auto.rights (room r)) })
 
 pub returns : goal.returns
-unfolding degree
 returns c =
-    let plan = plan_of c.args.left.now c.args.right.now c.args.nl c.args.nr c.args.wiring.now in
-    walked-spread plan c.requires c.note_ends.ensures.noted c.largest_unevenness.result c.largest_unevenness.ensures
+    let r = c.args.plan in
+    let p = plan-accepted r in
+    let noted = rw (c.edges.ensures, r.left_is, r.right_is) at c.note_ends.ensures.noted in
+    walked-spread _ p.plan-wired noted _ (rw (r.left_is, r.right_is) at c.largest_unevenness.ensures)

@@ -1,35 +1,46 @@
 -- `meetings::walk` meets its contract: after j turns each count has risen by the number of walks that go by one of the first j edges.
-use Rattle.std.proofs.Common.{◌≡◌, ◌<◌, arith}
-use Rattle.meetings.proofs.Walks.{length-part, part-at, walk_none, walk-one-more, walk-countable}
+use Rattle.std.proofs.Common.{◌≡◌, ◌*◌, ◌<◌, arith}
+use Rattle.meetings.proofs.Walks.{length-part, part-at, walk_none, walk-one-more, walk-countable, ends-room, ends-walkable}
 use Rattle.meetings.proofs.spread.walk.Goals as goal
 use Rattle.meetings.proofs.spread.walk.Goals.{In-loop-right}
 
+pub overflow_mul-base : goal.overflow_mul-base
+overflow_mul-base c = omega (arith, ends-room c.args.ends.listed c.args.u c.requires.is_vertex)
+
+pub slice_bounds-right-items-end : goal.slice_bounds-right-items-end
+slice_bounds-right-items-end c = ends-room c.args.ends.listed c.args.u c.requires.is_vertex
+
 pub loop-right-init : goal.loop-right-init
-loop-right-init c = walk_none c.args.lefts.now c.args.rights.now c.args.base c.args.dr c.args.counts.now
+loop-right-init c = let ends = c.args.ends in walk_none ends.lefts.now ends.rights.now (c.args.u * ends.dl) ends.dr c.args.counts.now
 
 -- the vertex of a turn is that of the next edge
-below : (c : In-loop-right) → c.loop-right.right-index < c.args.dl
-below c = omega (arith, length-part c.args.rights.now c.args.base c.args.dl c.requires.inside)
+below : (c : In-loop-right) → c.loop-right.right-index < c.args.ends.dl
+below c =
+    let ends = c.args.ends in
+    omega (arith, length-part ends.rights.now (c.args.u * ends.dl) ends.dl (ends-room ends.listed c.args.u c.requires.is_vertex))
 
 pub count_edges-requires : goal.count_edges-requires
 count_edges-requires c =
-    let args = c.args in
+    let ends = c.args.ends in
     let before = c.loop-right in
+    let walkable = ends-walkable ends.listed c.args.u c.requires.is_vertex _ c.requires.fresh in
     let l = below (goal.at.count_edges-requires c).In-loop-right in
-    rw (part-at args.rights.now args.base args.dl before.right-index l)
-    (walk-countable args.lefts.now args.rights.now args.base args.dr args.dl before.right-index args.counts.now before.counts
-    c.requires l before.auto.counts before.invariant)
+    rw (part-at ends.rights.now (c.args.u * ends.dl) ends.dl before.right-index l)
+    (walk-countable ends.lefts.now ends.rights.now _ ends.dr ends.dl before.right-index c.args.counts.now before.counts
+    walkable l before.auto.counts before.invariant)
 
 pub loop-right-preserved : goal.loop-right-preserved
 loop-right-preserved c =
-    let args = c.args in
+    let ends = c.args.ends in
     let before = c.loop-right in
     let l = below (goal.at.loop-right-preserved c).In-loop-right in
-    walk-one-more args.lefts.now args.rights.now args.base args.dr before.right-index args.counts.now before.counts
+    walk-one-more ends.lefts.now ends.rights.now _ ends.dr before.right-index c.args.counts.now before.counts
     c.count_edges.new.counts before.auto.counts before.invariant
-    (rw (part-at args.rights.now args.base args.dl before.right-index l) at c.count_edges.ensures)
+    (rw (part-at ends.rights.now (c.args.u * ends.dl) ends.dl before.right-index l) at c.count_edges.ensures)
 
 pub returns : goal.returns
 returns c =
-    let end : c.loop-right.right-index ≡ c.args.dl = omega (arith, length-part c.args.rights.now c.args.base c.args.dl c.requires.inside) in
+    let ends = c.args.ends in
+    let room = ends-room ends.listed c.args.u c.requires.is_vertex in
+    let end : c.loop-right.right-index ≡ ends.dl = omega (arith, length-part ends.rights.now (c.args.u * ends.dl) ends.dl room) in
     rw end at c.loop-right.invariant

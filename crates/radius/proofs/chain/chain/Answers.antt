@@ -98,7 +98,7 @@ loop-b-preserved c =
     let bound = next-is (goal.at.loop-b-preserved c).After-distance_to in (
       omega (arith, falls (goal.at.loop-b-preserved c).Else-square-limit, bound),
       walk_steps _ _ _ _ _ c.loop-b.invariant.1 c.loop-b-test.true (covered (goal.at.loop-b-preserved c).Else-square-limit)
-          ∙ ap₂ (λ (to : SideName) (b : ℕ). counted (c.loop-b.place + 1) (sweeps_from (measures_by (c.args.plan)) to b)) (sym c.other_side-to.ensures) bound,
+          ∙ ap₂ (λ (to : SideName) (b : ℕ). counted (c.loop-b.place + 1) (sweeps_from (measures_by (c.args.plan)) to b)) (sym c.other-to.ensures) bound,
     )
 
 pub returns : goal.returns
