@@ -6,8 +6,8 @@
 --   after_checks plan block next     the refusal of the plan, then of the block, or what comes next
 --   BitTold plan bit value block reply after  the reply and the block at exit are what the setting of the bit answers and leaves
 -- Laws are named by the service, `count-` or `bit-`, then by the outcome: `-plan-refused` and `-block-refused` are checks that turn back,
--- `-told` is the count, `-past` a bit that the plan does not have, `-kept` one that has its value already,
--- `-turned` one that has the other. `checks-` laws are about what both services begin with.
+-- `-told` is the count, `-past` a bit that the plan does not have, `-kept` one that has its value already, `-turned` one that has the other.
+-- `checks-` laws are about what both services begin with.
 use Prim.Native.Nat.{ℕ, ◌+◌, ◌%◌, ◌≤◌, ◌<◌}
 use mathlib.Core.List.{List, [], ◌∷◌}
 use mathlib.Core.Path.{◌≡◌, sym, ap, ap₂, ◌∙◌}

@@ -9,8 +9,7 @@
 -- On the left a bit stands at the entry of its own number, on the right at the entry where the wiring names it, and entry i is read by vertex
 -- i / d. Laws are named by their subject, then by the fact: `entry-` is about the entry of an edge, `degree-` about the degree of a side as
 -- the code holds it, `side-` about the count of one side, `change-` about the change. At the end of a name, `-readable` leads to what
--- reading a vertex's word asks, `-found` and `-nowhere` are the
--- ends of a search, `-lt` is a bound, `-turned` a bit that is turned.
+-- reading a vertex's word asks, `-found` and `-nowhere` are the ends of a search, `-lt` is a bound, `-turned` a bit that is turned.
 use Prim.Native.Nat.{ℕ, ◌+◌, ◌-◌, ◌*◌, ◌/◌, ◌≤◌, ◌<◌}
 use mathlib.Core.Bool.{not}
 use mathlib.Core.List.{List, []}
@@ -121,8 +120,10 @@ module _ (r : CheckedPlan) {e : ℕ} {block : List ℕ} (checked : CheckedBit (p
         (rw there at (at-turned (side_of plan name) (whole name) block room place within))
 
     pub change-turned : {place : ℕ} → place ≡ entry_with plan.wiring e → {left-before right-before left-after right-after : ℕ}
-        → left-before ≡ missed_by r.left left plan.wiring block (e / r.left.d) → right-before ≡ missed_by r.right right plan.wiring block (place / r.right.d)
-        → left-after ≡ missed_by r.left left plan.wiring after (e / r.left.d) → right-after ≡ missed_by r.right right plan.wiring after (place / r.right.d)
+        → left-before ≡ missed_by r.left left plan.wiring block (e / r.left.d)
+        → right-before ≡ missed_by r.right right plan.wiring block (place / r.right.d)
+        → left-after ≡ missed_by r.left left plan.wiring after (e / r.left.d)
+        → right-after ≡ missed_by r.right right plan.wiring after (place / r.right.d)
         → left-before ≤ 1 → right-before ≤ 1
         → 65536 + left-after + right-after - left-before - right-before ≡ count_change (side_of plan) block (turned block e 1)
     unfolding unsatisfied_count

@@ -25,7 +25,8 @@ use Rattle.wiring.proofs.VertexWords.{vertex-lt}
 use Rattle.unsatisfied.specs.Count.{unsatisfied_at}
 use Rattle.sweeps.proofs.Visiting.{word-stays, word-found, word-counted, word-put, found_lt, pattern_lt, ready-side}
 use Rattle.single_sweep.specs.Telling.{Visited}
-use Rattle.single_sweep.proofs.Visits.{visited-none, visited-kept, visited-mended, visited-all, visited-length, change-few, word-missed, word-mended, side-few}
+use Rattle.single_sweep.proofs.Visits.{visited-none, visited-kept, visited-mended, visited-all, visited-length}
+use Rattle.single_sweep.proofs.Visits.{change-few, side-few, word-missed, word-mended}
 use Rattle.single_sweep.proofs.sweep.sweep_told.Goals as goal
 use Rattle.single_sweep.proofs.sweep.sweep_told.Goals.{After-put_told-told}
 
@@ -38,11 +39,11 @@ room plan accepted {name} {before} pass so_far = omega (arith, visited-length pl
 
 module _ (plan : Plan) (name : SideName) {code : SideCode} (held : code ≡ code_of plan name) where
   below : {v : ℕ} → v < code.n → v < count_of plan name
-  below l = omega (arith, ap (λ (x : SideCode). x.n) held)
+  below l = rw held at l
 
   -- the word read is the vertex's
   read_is : (block : List ℕ) (v : ℕ) {word : ℕ} → word ≡ read_word name plan.wiring code.d block v → word ≡ vertex_word (side_of plan name) block v
-  read_is block v e = rw (ap (λ (x : SideCode). x.d) held) at e ∙ read-vertex (sheet_of plan name) _ _ name block v
+  read_is block v e = rw held at e ∙ read-vertex (sheet_of plan name) _ _ name block v
 
 pub loop-v-init : goal.loop-v-init
 loop-v-init c = record { visited = visited-none _ c.args.plan.passed c.args.side _; finds = c.requires.finds }
@@ -51,7 +52,7 @@ pub read_word-word-requires : goal.read_word-word-requires
 read_word-word-requires c =
     let plan = plan_in c.args.plan.parts in
     let accepted = c.args.plan.passed in
-    rw (ap (λ (x : SideCode). x.d) c.side-code.ensures)
+    rw c.side-code.ensures
     (plan-readable plan accepted c.loop-v.block (room plan accepted c.requires.block_done c.loop-v.invariant.visited) c.args.side c.loop-v.v
     (below plan c.args.side c.side-code.ensures c.loop-v-test.true))
 
@@ -61,7 +62,8 @@ loop-v-preserved-then-is_codeword c =
     let accepted = c.args.plan.passed in
     let side = c.args.side in
     let turn = c.loop-v in
-    let stays = word-stays (ready-side plan accepted side turn.invariant.finds) side turn.block (below plan side c.side-code.ensures c.loop-v-test.true)
+    let under = below plan side c.side-code.ensures c.loop-v-test.true in
+    let stays = word-stays (ready-side plan accepted side turn.invariant.finds) side turn.block under
     (read_is plan side c.side-code.ensures turn.block turn.v c.read_word-word.ensures) (member-means _ _ c.is_codeword.ensures) c.if-is_codeword.true in
     record { visited = visited-kept _ accepted side turn.invariant.visited stays; finds = turn.invariant.finds }
 
@@ -84,7 +86,8 @@ put_told-told-requires c =
     record {
       v_bound = under;
       pattern_bound = pattern_lt (ready-side plan accepted side c.loop-v.invariant.finds) side c.loop-v.block under
-          (read_is plan side c.side-code.ensures c.loop-v.block c.loop-v.v c.read_word-word.ensures) (rw c.sheet-sheet.ensures at c.find_nearest-step.ensures);
+          (read_is plan side c.side-code.ensures c.loop-v.block c.loop-v.v c.read_word-word.ensures)
+          (rw c.sheet-sheet.ensures at c.find_nearest-step.ensures);
       across = c.requires.across;
       room = room plan accepted c.requires.block_done c.loop-v.invariant.visited;
     }

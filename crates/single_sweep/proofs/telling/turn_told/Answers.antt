@@ -47,6 +47,7 @@ returns c =
     let was = c.missed_word-before.ensures in
     let is = c.missed_word-after.ensures.0 ∙ ap (λ (x : ℕ). missed_of c.side-code.result (bit_xor read.result x)) c.power.ensures in
     record {
-      told = told-turned (plan_in c.args.plan.parts) c.args.plan.passed c.args.side c.side-code.ensures _ c.requires.room _ c.requires.place_bound turns read.ensures was.0 is was.1;
+      told = told-turned (plan_in c.args.plan.parts) c.args.plan.passed c.args.side c.side-code.ensures _ c.requires.room _ c.requires.place_bound
+          turns read.ensures was.0 is was.1;
       block_after = turns;
     }

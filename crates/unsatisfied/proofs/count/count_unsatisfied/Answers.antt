@@ -27,4 +27,5 @@ pub returns : goal.returns
 returns c =
     let r = c.in_ok-checked.checked in
     rw (← c.in_ok-checked.ensures.parts)
-    (count-told (plan_in r.parts) _ r.passed (rw c.edges.ensures at (sym c.in_ok-check_block.ensures)) _ _ c.missed_on-here.ensures.counted c.missed_on-there.ensures.counted)
+    (count-told (plan_in r.parts) _ r.passed (rw c.edges.ensures at (sym c.in_ok-check_block.ensures)) _ _
+    c.missed_on-here.ensures.counted c.missed_on-there.ensures.counted)
