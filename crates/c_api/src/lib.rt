@@ -4,9 +4,11 @@
 
 ghost use Rattle.std.specs.Prelude.{[], ◌∷◌, ◌≡◌};
 ghost use Rattle.inner_code.specs.Reply.{done, refused};
-ghost use Rattle.inner_code.specs.Answer.{nearest_answer};
+ghost use Rattle.inner_code.specs.Refusal.{number_of, place_of};
+ghost use Rattle.inner_code.specs.Answer.{nearest_answer, nearest_reply};
 ghost use Rattle.tables.specs.Answer.{build_answer, build_output, look_up_answer};
 ghost use Rattle.wiring.specs.Plan.{plan_at};
+ghost use Rattle.wiring.specs.PlanParts.{plan_in};
 ghost use Rattle.wiring.specs.Answer.{locate_answer, side_number};
 ghost use Rattle.decoder.specs.Answer.{decode_answer, decode_sums, decode_visits, decode_output};
 ghost use Rattle.report.specs.Answer.{report_answer, report_list};
@@ -16,21 +18,16 @@ ghost use Rattle.messages.specs.Answer.{encode_answer, encode_output, read_answe
 ghost use Rattle.panel.specs.Answer.{load_answer, load_output, sweep_answer, sweep_output, set_answer, set_output, shown_reply};
 ghost use Rattle.c_api.specs.Answer.{told, told_word, told_decode, told_place, told_state};
 
-use decoder::{Decoded, SUMS};
-use inner_code::{Nearest, Refusal};
-use meetings::Spread;
-use messages::{Encoded, Taken};
+use decoder::SUMS;
+use inner_code::{Refusal, Step};
 use panel::Shown;
-use radius::Margin;
-use report::Reported;
-use tables::Built;
-use wiring::{Located, SideName};
+use wiring::{PlanParts, SideName, Vertex};
 
 // What a call answers. Number 0: the call is done, and `value` is its value. Any other number is the paper's refusal, and `place` the
 // row or entry at fault. The locator alone uses both fields of a call that is done: `place` is 0 for none, 1 for left and 2 for right, and
 // `value` the vertex.
 #[repr(C)]
-#[derive(Clone, Copy)]
+#[derive(Clone, Copy, Debug, PartialEq, Eq)]
 pub struct Answer {
     pub number: u32,
     pub place: u32,
@@ -39,7 +36,7 @@ pub struct Answer {
 
 // What the nearest word and the look-up answer: as above, and how many bits it changed, 0 with a refusal.
 #[repr(C)]
-#[derive(Clone, Copy)]
+#[derive(Clone, Copy, Debug, PartialEq, Eq)]
 pub struct WordAnswer {
     pub number: u32,
     pub place: u32,
@@ -50,7 +47,7 @@ pub struct WordAnswer {
 // What the decoder answers: as above, and how many bits each of the first sweeps changed, 0 for a sweep that was not made, and how many vertices the
 // sweeps visited.
 #[repr(C)]
-#[derive(Clone, Copy)]
+#[derive(Clone, Copy, Debug, PartialEq, Eq)]
 pub struct DecodeAnswer {
     pub number: u32,
     pub place: u32,
@@ -62,7 +59,7 @@ pub struct DecodeAnswer {
 // What a call on a state answers: as above, the value being the number of unsatisfied vertices that the state has after the call, and beside it
 // its sweep number; both are 0 with a refusal.
 #[repr(C)]
-#[derive(Clone, Copy)]
+#[derive(Clone, Copy, Debug, PartialEq, Eq)]
 pub struct StateAnswer {
     pub number: u32,
     pub place: u32,
@@ -75,23 +72,7 @@ pub struct StateAnswer {
 pub extern "C" fn lembikat_nearest_word(sheet: &[u8], word: u64) -> WordAnswer
     ensures { result ≡ told_word (nearest_answer sheet.now word) }
 {
-    match inner_code::nearest_word(sheet, word) {
-        Nearest::Word {
-            word: nearest,
-            changed,
-        } => WordAnswer {
-            number: 0,
-            place: 0,
-            value: nearest,
-            changed,
-        },
-        Nearest::Refused(refusal) => WordAnswer {
-            number: refusal.number,
-            place: refusal.place,
-            value: 0,
-            changed: 0,
-        },
-    }
+    word_answer(inner_code::nearest_word(sheet, word))
 }
 
 // Builds the table of a sheet at the front of `output`. Refusals 1 to 6 and 13; a refusal writes nothing.
@@ -101,8 +82,8 @@ pub extern "C" fn lembikat_build_table(sheet: &[u8], output: &mut [u8]) -> Answe
     ensures output_after { output.new ≡ build_output sheet.now output.old }
 {
     match tables::build_table(sheet, output) {
-        Built::Done => done(0),
-        Built::Refused(r) => refused(r),
+        Ok(()) => done(0),
+        Err(r) => refused(r),
     }
 }
 
@@ -112,23 +93,7 @@ pub extern "C" fn lembikat_build_table(sheet: &[u8], output: &mut [u8]) -> Answe
 pub extern "C" fn lembikat_look_up(sheet: &[u8], word: u64, table: &[u8]) -> WordAnswer
     ensures { result ≡ told_word (look_up_answer sheet.now word table.now) }
 {
-    match tables::look_up(sheet, word, table) {
-        Nearest::Word {
-            word: found,
-            changed,
-        } => WordAnswer {
-            number: 0,
-            place: 0,
-            value: found,
-            changed,
-        },
-        Nearest::Refused(refusal) => WordAnswer {
-            number: refusal.number,
-            place: refusal.place,
-            value: 0,
-            changed: 0,
-        },
-    }
+    word_answer(tables::look_up(sheet, word, table))
 }
 
 // The first unsatisfied vertex of a block, the left side before the right, the lowest number first. Refusals 1 to 12 and 23.
@@ -143,10 +108,10 @@ pub extern "C" fn lembikat_locate(
 ) -> Answer
     ensures { result ≡ told_place (locate_answer (plan_at left right nl nr wiring) block.now) }
 {
-    match wiring::locate(left, right, nl, nr, wiring, block) {
-        Located::Nowhere => done(0),
-        Located::At { side, vertex } => found(side, vertex as u64),
-        Located::Refused(r) => refused(r),
+    match wiring::locate(parts(left, right, nl, nr, wiring), block) {
+        Ok(None) => done(0),
+        Ok(Some(vertex)) => found(vertex),
+        Err(r) => refused(r),
     }
 }
 
@@ -170,20 +135,20 @@ pub extern "C" fn lembikat_decode(
         (decode_visits (plan_at left right nl nr wiring) received.now lost.now output.old limit) }
     ensures output_after { output.new ≡ decode_output (plan_at left right nl nr wiring) received.now lost.now output.old limit }
 {
-    let decoding = decoder::decode(left, right, nl, nr, wiring, received, lost, output, limit);
-    let outcome = decoding.outcome;
+    let plan = parts(left, right, nl, nr, wiring);
+    let decoding = decoder::decode(plan, received, lost, output, limit);
     let sums = decoding.sums;
-    match outcome {
-        Decoded::Settled(sweeps) => DecodeAnswer {
+    match decoding.outcome {
+        Ok(sweeps) => DecodeAnswer {
             number: 0,
             place: 0,
             value: sweeps as u64,
             sums,
             visits: decoding.visits,
         },
-        Decoded::Refused(refusal) => DecodeAnswer {
-            number: refusal.number,
-            place: refusal.place,
+        Err(refusal) => DecodeAnswer {
+            number: refusal.number(),
+            place: refusal.place(),
             value: 0,
             sums,
             visits: decoding.visits,
@@ -207,9 +172,9 @@ pub extern "C" fn lembikat_report(
     ensures value { result ≡ told (report_answer (plan_at left right nl nr wiring) received.now settled.now list.old) }
     ensures list_after { list.new ≡ report_list (plan_at left right nl nr wiring) received.now settled.now list.old }
 {
-    match report::report_runs(left, right, nl, nr, wiring, received, settled, list) {
-        Reported::Pairs(pairs) => done(pairs as u64),
-        Reported::Refused(r) => refused(r),
+    match report::report_runs(parts(left, right, nl, nr, wiring), received, settled, list) {
+        Ok(pairs) => done(pairs as u64),
+        Err(r) => refused(r),
     }
 }
 
@@ -224,9 +189,9 @@ pub extern "C" fn lembikat_spread(
 ) -> Answer
     ensures { result ≡ told (spread_answer (plan_at left right nl nr wiring)) }
 {
-    match meetings::plan_spread(left, right, nl, nr, wiring) {
-        Spread::Value(spread) => done(spread),
-        Spread::Refused(r) => refused(r),
+    match meetings::plan_spread(parts(left, right, nl, nr, wiring)) {
+        Ok(spread) => done(spread),
+        Err(r) => refused(r),
     }
 }
 
@@ -242,9 +207,9 @@ pub extern "C" fn lembikat_margin(
 ) -> Answer
     ensures { result ≡ told (margin_answer (plan_at left right nl nr wiring) flips) }
 {
-    match radius::margin_sweeps(left, right, nl, nr, wiring, flips) {
-        Margin::Sweeps(sweeps) => done(sweeps),
-        Margin::Refused(r) => refused(r),
+    match radius::margin_sweeps(parts(left, right, nl, nr, wiring), flips) {
+        Ok(sweeps) => done(sweeps),
+        Err(r) => refused(r),
     }
 }
 
@@ -262,9 +227,9 @@ pub extern "C" fn lembikat_encode(
     ensures value { result ≡ told (encode_answer (plan_at left right nl nr wiring) message.now output.old) }
     ensures output_after { output.new ≡ encode_output (plan_at left right nl nr wiring) message.now output.old }
 {
-    match messages::encode(left, right, nl, nr, wiring, message, output) {
-        Encoded::Done => done(0),
-        Encoded::Refused(r) => refused(r),
+    match messages::encode(parts(left, right, nl, nr, wiring), message, output) {
+        Ok(()) => done(0),
+        Err(r) => refused(r),
     }
 }
 
@@ -283,9 +248,9 @@ pub extern "C" fn lembikat_read(
     ensures value { result ≡ told (read_answer (plan_at left right nl nr wiring) block.now output.old) }
     ensures output_after { output.new ≡ read_output (plan_at left right nl nr wiring) block.now output.old }
 {
-    match messages::read_block(left, right, nl, nr, wiring, block, output) {
-        Taken::Done => done(0),
-        Taken::Refused(r) => refused(r),
+    match messages::read_block(parts(left, right, nl, nr, wiring), block, output) {
+        Ok(()) => done(0),
+        Err(r) => refused(r),
     }
 }
 
@@ -304,7 +269,7 @@ pub extern "C" fn lembikat_load_state(
     ensures value { result ≡ told_state (load_answer (plan_at left right nl nr wiring) block.now state.old) }
     ensures state_after { state.new ≡ load_output (plan_at left right nl nr wiring) block.now state.old }
 {
-    shown(panel::load_state(left, right, nl, nr, wiring, block, state))
+    shown(panel::load_state(parts(left, right, nl, nr, wiring), block, state))
 }
 
 // Makes the next sweep of a state; one whose count is 0 is settled and stays as it is. Refusals 1 to 12, 23 and 28; a refusal writes nothing.
@@ -320,7 +285,7 @@ pub extern "C" fn lembikat_sweep_state(
     ensures value { result ≡ told_state (sweep_answer (plan_at left right nl nr wiring) state.old) }
     ensures state_after { state.new ≡ sweep_output (plan_at left right nl nr wiring) state.old }
 {
-    shown(panel::sweep_state(left, right, nl, nr, wiring, state))
+    shown(panel::sweep_state(parts(left, right, nl, nr, wiring), state))
 }
 
 // Sets a bit of a state's block, to 0 for the value 0 and to 1 for any other, and begins again at sweep 0. Refusals 1 to 12, 23 and 27; a refusal
@@ -339,23 +304,62 @@ pub extern "C" fn lembikat_set_bit(
     ensures value { result ≡ told_state (set_answer (plan_at left right nl nr wiring) bit value state.old) }
     ensures state_after { state.new ≡ set_output (plan_at left right nl nr wiring) bit value state.old }
 {
-    shown(panel::set_bit(left, right, nl, nr, wiring, bit, value, state))
+    shown(panel::set_bit(parts(left, right, nl, nr, wiring), bit, value, state))
+}
+
+// The parts of a plan.
+fn parts<'a>(
+    left: &'a [u8],
+    right: &'a [u8],
+    nl: usize,
+    nr: usize,
+    wiring: &'a [u8],
+) -> PlanParts<'a>
+    ensures { plan_in result ≡ plan_at left right nl nr wiring }
+{
+    PlanParts {
+        left_sheet: left,
+        right_sheet: right,
+        nl,
+        nr,
+        wiring,
+    }
+}
+
+// The answer of the nearest word and of the look-up.
+fn word_answer(answer: Result<Step, Refusal>) -> WordAnswer
+    ensures { result ≡ told_word (nearest_reply answer) }
+{
+    match answer {
+        Ok(step) => WordAnswer {
+            number: 0,
+            place: 0,
+            value: step.word as u64,
+            changed: step.changed as u64,
+        },
+        Err(refusal) => WordAnswer {
+            number: refusal.number(),
+            place: refusal.place(),
+            value: 0,
+            changed: 0,
+        },
+    }
 }
 
 // The answer of a call on a state.
-fn shown(answer: Shown) -> StateAnswer
+fn shown(answer: Result<Shown, Refusal>) -> StateAnswer
     ensures { result ≡ told_state (shown_reply answer) }
 {
     match answer {
-        Shown::State { count, sweeps } => StateAnswer {
+        Ok(shown) => StateAnswer {
             number: 0,
             place: 0,
-            value: count as u64,
-            sweeps: sweeps as u64,
+            value: shown.count as u64,
+            sweeps: shown.sweeps as u64,
         },
-        Shown::Refused(refusal) => StateAnswer {
-            number: refusal.number,
-            place: refusal.place,
+        Err(refusal) => StateAnswer {
+            number: refusal.number(),
+            place: refusal.place(),
             value: 0,
             sweeps: 0,
         },
@@ -363,19 +367,20 @@ fn shown(answer: Shown) -> StateAnswer
 }
 
 // The locator's answer where it has found a vertex.
-fn found(side: SideName, vertex: u64) -> Answer
-    ensures { result ≡ told_place (done (side_number side ∷ vertex ∷ [])) }
+fn found(vertex: Vertex) -> Answer
+    ensures { result ≡ told_place (done (side_number vertex.side ∷ vertex.v ∷ [])) }
 {
-    match side {
+    let value = vertex.v as u64;
+    match vertex.side {
         SideName::Left => Answer {
             number: 0,
             place: 1,
-            value: vertex,
+            value,
         },
         SideName::Right => Answer {
             number: 0,
             place: 2,
-            value: vertex,
+            value,
         },
     }
 }
@@ -393,11 +398,11 @@ fn done(value: u64) -> Answer
 
 // The answer of a call that is turned back.
 fn refused(r: Refusal) -> Answer
-    ensures { result ≡ told (refused r.number r.place) }
+    ensures { result ≡ told (refused (number_of r) (place_of r)) }
 {
     Answer {
-        number: r.number,
-        place: r.place,
+        number: r.number(),
+        place: r.place(),
         value: 0,
     }
 }

@@ -17,9 +17,9 @@
 -- over at the front, `laid-` about a block laid at the front of a buffer and `part-` about any buffer, whose first `size` bytes are lent on and come
 -- back as `swept`, `by-` about an answer by a trial, `twice-` about two trials, one outcome each. At the end of a name, `-none` is about the empty
 -- list. copy-codeword is about a block that no sweep changes.
-use Prim.Native.Nat.{ℕ, ◌-◌, ◌/◌, ◌≤◌, ◌<◌, min}
+use Prim.Native.Nat.{ℕ, ◌/◌, ◌≤◌, ◌<◌, min}
 use native.Mathlib.Nat.{min-eq_left, min-eq_right, le_of_eq}
-use native.Mathlib.Decide.{dec_le}
+use native.Mathlib.Decide.{dec_le, ℕ_discrete}
 use mathlib.Core.Bool.{Bool, true, false, cond}
 use mathlib.Core.List.{List, [], ◌∷◌, ◌++◌}
 use mathlib.Core.Path.{◌≡◌, refl, sym, ap, ap₂, ◌∙◌, subst}
@@ -50,6 +50,7 @@ use Rattle.decoder.specs.Decode.{swept_block, settles_at, sweep_sums, visits_mad
 use Rattle.decoder.specs.Turns.{Passed, Tried, Opened, ByTrial}
 use Rattle.std.proofs.Common.{Ok, Err}
 use Rattle.inner_code.specs.declared.refusal.Refusal.{Refusal}
+use Rattle.decoder.specs.declared.decoding.Attempt.{Attempt}
 use Rattle.decoder.specs.declared.decoding.Decoding.{Decoding}
 use Rattle.decoder.specs.declared.settle.Opening.{Opening}
 use Rattle.decoder.specs.declared.settle.Settling.{Settling}
@@ -146,21 +147,20 @@ module _ (plan : Plan) (received lost output : List ℕ) (H : ℕ) (checked : de
 
 -- ---- a block at the front of a buffer is lent on
 
--- the part from byte 0 on
-pub part-lent : (buffer : List ℕ) (size : ℕ) → take (size - 0) buffer ≡ take size buffer
-part-lent buffer size = let whole : size - 0 ≡ size = omega arith in ap (λ (m : ℕ). take m buffer) whole
-
-module _ (buffer : List ℕ) (size : ℕ) (fits : size ≤ length buffer) (swept : List ℕ) (kept : length swept ≡ length (take (size - 0) buffer)) where
-  pub part-sized : length swept ≡ size
-  part-sized = kept ∙ ap length (part-lent buffer size) ∙ length-take-le size buffer fits
+module _ (buffer : List ℕ) (size : ℕ) (fits : size ≤ length buffer) (swept : List ℕ) (kept : length swept ≡ length (take size buffer)) where
+  part-sized : length swept ≡ size
+  part-sized = kept ∙ length-take-le size buffer fits
 
   -- the buffer with the part back in its place
-  pub part-whole : swept ++ drop (size - 0) buffer ≡ written swept buffer
+  part-whole : swept ++ drop size buffer ≡ written swept buffer
   unfolding written
-  part-whole = let sized : size - 0 ≡ length swept = omega (arith, part-sized) in ap (λ (m : ℕ). swept ++ drop m buffer) sized
+  part-whole = ap (λ (m : ℕ). swept ++ drop m buffer) (sym part-sized)
 
-  pub part-front : take size (swept ++ drop (size - 0) buffer) ≡ swept
+  pub part-front : take size (swept ++ drop size buffer) ≡ swept
   part-front = ap (take size) part-whole ∙ written-part swept buffer size (sym part-sized)
+
+  pub part-stands : swept ++ drop size buffer ≡ written (take size (swept ++ drop size buffer)) buffer
+  part-stands = part-whole ∙ ap (λ (front : List ℕ). written front buffer) (sym part-front)
 
 module _ (block room : List ℕ) {laid : List ℕ} (size : ℕ) (put : laid ≡ written block room) (sized : size ≡ length block) where
   pub laid-part : take size laid ≡ block
@@ -174,14 +174,16 @@ module _ (block room : List ℕ) {laid : List ℕ} (size : ℕ) (put : laid ≡ 
     pub laid-whole : swept ++ drop size laid ≡ written swept room
     laid-whole = ap (λ (l : List ℕ). swept ++ drop size l) put ∙ written_over block swept room size sized laid-sized
 
+    pub laid-length : size ≤ length room → length (swept ++ drop size laid) ≡ length room
+    laid-length fits = ap length laid-whole ∙ length-written swept room (omega (arith, laid-sized))
+
     -- a trial that is opened there
     pub laid-opened : {plan : Plan} {H : ℕ} {opening : Opening} {words : List ℕ} → Opened plan (take size laid) H opening words swept
-        → (whole : ℕ) → whole ≡ size → Opened plan block opening.limit opening words (take whole (swept ++ drop size laid))
-    laid-opened {plan} {H} {opening} {words} opened whole same =
-        let front = ap (take whole) laid-whole ∙ written-part swept room whole (same ∙ sized ∙ sym laid-sized) in
-        subst (Opened plan block opening.limit opening words) (sym front)
-        (subst (λ (limit : ℕ). Opened plan block limit opening words swept) (sym opened.limit_is)
-        (subst (λ (b : List ℕ). Opened plan b H opening words swept) laid-part opened))
+        → Opened plan block opening.limit opening words (take size (swept ++ drop size laid))
+    laid-opened {plan} {H} {opening} {words} opened =
+        let front = ap (take size) laid-whole ∙ written-part swept room size (sized ∙ sym laid-sized) in
+        rw (front, ← laid-part)
+        (subst (λ (limit : ℕ). Opened plan (take size laid) limit opening words swept) (sym opened.limit_is) opened)
 
 -- ---- an answer by a trial
 
@@ -218,9 +220,14 @@ trials-same received lost e =
 
 -- ---- which trial is kept
 
+-- what the trial with the lost bits b comes to, as the code makes it
+pub record Attempted (plan : Plan) (received lost : List ℕ) (H b : ℕ) (attempt : Attempt) (block : List ℕ) : Type 0 where
+  pub tried : Tried plan (filled b lost received) H attempt.settling.count attempt.settling.sums attempt.settling.visits block
+  pub changes : (length lost ≡ 0 → ⊥) → attempt.changed ≡ flips_around (length plan.wiring / 2) lost received block
+
 module _ (plan : Plan) (received lost output : List ℕ) (H : ℕ) (checked : decode_check plan received lost output H ≡ done []) where
   -- the bits that a trial changes outside the spans, as the code counts them
-  pub changed-from : (b : ℕ) {count visits : ℕ} {sums swept block : List ℕ} → Tried plan (filled b lost received) H count sums visits swept
+  changed-from : (b : ℕ) {count visits : ℕ} {sums swept block : List ℕ} → Tried plan (filled b lost received) H count sums visits swept
       → count ≤ H → block ≡ swept → {changed : ℕ} → changed ≡ flips_around (length plan.wiring / 2) lost received block
       → changed ≡ changed_from plan received lost H b
   changed-from b t l same e =
@@ -268,7 +275,7 @@ module _ (plan : Plan) (received lost output : List ℕ) (H : ℕ) (checked : de
         }
 
     -- the trial with zeros is kept, or neither settles
-    pub twice-zeros : (trial.count ≤ H → settles_at plan (filled 1 lost received) H ≤ H
+    twice-zeros : (trial.count ≤ H → settles_at plan (filled 1 lost received) H ≤ H
         → changed_from plan received lost H 0 ≤ changed_from plan received lost H 1)
         → (H < trial.count → H < settles_at plan (filled 1 lost received) H)
         → Decodes plan received lost output H r after
@@ -288,13 +295,88 @@ module _ (plan : Plan) (received lost output : List ℕ) (H : ℕ) (checked : de
         twice-zeros (λ _ _. le_of_eq (sym changed))
         (λ past. omega (arith, ap (λ (block : List ℕ). settles_at plan block H) same, zeros.counted))
 
-  pub twice-ones : {trial : Settling} {swept out after : List ℕ} {r : Decoding}
+  twice-ones : {trial : Settling} {swept out after : List ℕ} {r : Decoding}
       → Tried plan (filled 1 lost received) H trial.count trial.sums trial.visits swept → out ≡ written swept output
       → ByTrial received H trial out r after → trial.count ≤ H
       → (settles_at plan (filled 0 lost received) H ≤ H → changed_from plan received lost H 1 < changed_from plan received lost H 0)
       → Decodes plan received lost output H r after
   twice-ones ones e by l fewer =
       kept-answers 1 ones l e by (decode-ones plan received lost output H checked (omega (arith, ones.counted)) fewer)
+
+  -- ---- the tests of the code
+
+  attempt-changed : (b : ℕ) {attempt : Attempt} {block : List ℕ} → Attempted plan received lost H b attempt block → (length lost ≡ 0 → ⊥)
+      → attempt.settling.count ≤ H → attempt.changed ≡ changed_from plan received lost H b
+  attempt-changed b a some l = changed-from b a.tried l refl (a.changes some)
+
+  module _ {zeros : Attempt} {front : List ℕ} (first : Attempted plan received lost H 0 zeros front) where
+    pub kept-alone : {out after : List ℕ} {r : Decoding} → ((length lost ≡ 0 → ⊥) → (zeros.settling.count ≤ H) × (zeros.changed ≡ 0))
+        → out ≡ written front output → ByTrial received H zeros.settling out r after → Decodes plan received lost output H r after
+    kept-alone alone stands by =
+        elim (ℕ_discrete (length lost) 0) [
+          | yes none ↦ twice-none first.tried stands by none
+          | no some ↦
+              let (in-time, same) = alone some in
+              twice-zeros first.tried stands by (λ l _. omega (arith, attempt-changed 0 first some l, same)) (λ past. absurd (omega arith))
+        ]
+
+    module _ {ones : Attempt} {other : List ℕ} (second : Attempted plan received lost H 1 ones other) (some : length lost ≡ 0 → ⊥) where
+      pub kept-zeros : {out after : List ℕ} {r : Decoding}
+          → (ones.settling.count ≤ H → (zeros.settling.count ≤ H) × (zeros.changed ≤ ones.changed))
+          → out ≡ written front output → ByTrial received H zeros.settling out r after → Decodes plan received lost output H r after
+      kept-zeros zeros-win stands by =
+          twice-zeros first.tried stands by
+          (λ in-time both.
+          let l : ones.settling.count ≤ H = omega (arith, second.tried.counted) in
+          omega (arith, attempt-changed 0 first some in-time, attempt-changed 1 second some l, (zeros-win l).1))
+          (λ past.
+          elim (dec_le ones.settling.count H) [
+            | yes l ↦ absurd (omega (arith, (zeros-win l).0))
+            | no l ↦ omega (arith, second.tried.counted)
+          ])
+
+      pub kept-ones : {between out after : List ℕ} {r : Decoding}
+          → (ones.settling.count ≤ H) × (zeros.settling.count ≤ H → ones.changed < zeros.changed)
+          → between ≡ written front output → out ≡ written other between → ByTrial received H ones.settling out r after
+          → Decodes plan received lost output H r after
+      kept-ones {between} (in-time, fewer) stands over by =
+          let one : length front ≡ length received = first.tried.kept ∙ length-filled 0 lost received in
+          let two : length other ≡ length received = second.tried.kept ∙ length-filled 1 lost received in
+          twice-ones second.tried (over ∙ ap (written other) stands ∙ written-again other front output (one ∙ sym two)) by in-time
+          (λ both.
+          let l : zeros.settling.count ≤ H = omega (arith, first.tried.counted) in
+          omega (arith, attempt-changed 0 first some l, attempt-changed 1 second some in-time, fewer l))
+
+-- ---- the first two sweeps are made at the front of the output
+
+module _ (plan : Plan) (received lost output : List ℕ) (H : ℕ) (checked : decode_check plan received lost output H ≡ done []) {laid : List ℕ}
+    (put : laid ≡ written (filled 0 lost received) output) (swept : List ℕ) (kept : length swept ≡ length (take (length received) laid)) where
+  lent : length received ≡ length (filled 0 lost received)
+  lent = sym (length-filled 0 lost received)
+
+  front-sized : length swept ≡ length received
+  front-sized = laid-sized (filled 0 lost received) output (length received) put lent swept kept ∙ sym lent
+
+  pub front-whole : swept ++ drop (length received) laid ≡ written swept output
+  front-whole = laid-whole (filled 0 lost received) output (length received) put lent swept kept
+
+  pub front-check : decode_check plan received lost (swept ++ drop (length received) laid) H ≡ done []
+  front-check = rw front-whole (over-check plan received lost output H checked swept front-sized)
+
+  pub front-answers : {r : Decoding} {after : List ℕ} → Decodes plan received lost (swept ++ drop (length received) laid) H r after
+      → Decodes plan received lost output H r after
+  front-answers d = over-answers plan received lost output H checked swept front-sized (rw front-whole at d)
+
+  -- they settle the block, and no bit is lost
+  pub front-settles : {opening : Opening} {words : List ℕ} → Opened plan (take (length received) laid) H opening words swept
+      → (length lost ≡ 0) × ((opening.ended ≡ true) × (opening.count ≤ H))
+      → Decodes plan received lost output H (record { outcome = Ok opening.count; sums = opening.sums; visits = opening.visits })
+      (swept ++ drop (length received) laid)
+  front-settles {opening} opened (none, (ended, in-time)) =
+      let settling : Settling = record { count = opening.count; sums = opening.sums; visits = opening.visits } in
+      let tried = opened.closed ended in
+      twice-none plan received lost output H checked {trial = settling} (rw (laid-part (filled 0 lost received) output (length received) put lent) at tried) front-whole
+      (by-settled received H settling _ in-time) none
 
 -- ---- a codeword, which no sweep changes
 

@@ -2,7 +2,7 @@
 ghost use Rattle.std.specs.Prelude.{true, false, List, [], ◌≡◌, ℕ, ◌/◌, ◌%◌, ◌≤◌, ◌<◌, length, take, replicate, IfOk, Err};
 ghost use Rattle.bits.specs.Bit.{written};
 ghost use Rattle.inner_code.specs.Reply.{done};
-ghost use Rattle.wiring.specs.Plan.{Plan, plan_of, edge_count};
+ghost use Rattle.wiring.specs.Plan.{edge_count};
 ghost use Rattle.wiring.specs.PlanParts.{plan_in};
 ghost use Rattle.wiring.specs.Access.{both_codes, AllReadable, located_by};
 ghost use Rattle.wiring.specs.Checking.{plan_reply, Permuted};
@@ -18,7 +18,7 @@ ghost use Rattle.decoder.specs.Answer.{decode_check, Decodes};
 use crate::settle::{Opening, SUMS, Settling, finish, open};
 use finder::FINDER_WORDS;
 use inner_code::Refusal;
-use wiring::{CheckedPlan, MAX_EDGES, PlanParts, SideCode};
+use wiring::{CheckedPlan, MAX_EDGES, PlanParts};
 use words::KEPT;
 
 // The most sweeps that a call may allow.
@@ -97,9 +97,7 @@ pub fn decode_checked(
     ensures { Decodes (plan_in plan.entry.parts) received.now lost.now output.old limit result output.new }
 {
     let parts = plan.parts;
-    let left = plan.left;
-    let right = plan.right;
-    if lost.is_empty() && is_codeword_at_sight(left, right, parts.wiring, received) {
+    if lost.is_empty() && is_codeword_at_sight(&plan, received) {
         bits::copy_front(received, output);
         return Decoding {
             outcome: Ok(0),
@@ -107,81 +105,71 @@ pub fn decode_checked(
             visits: 0,
         };
     }
-    let left_basis = left.basis;
+    let given = Received {
+        block: received,
+        lost,
+    };
+    let left_basis = plan.left.basis;
     let mut left_finder = [0u16; FINDER_WORDS];
-    finder::prepare_finder(parts.left_sheet, left.k, &left_basis, &mut left_finder);
+    finder::prepare_finder(parts.left_sheet, plan.left.k, &left_basis, &mut left_finder);
     if bits::same(parts.left_sheet, parts.right_sheet) {
         let mut none = [0u16; 0];
-        return decode_trials(
-            parts.left_sheet,
-            parts.right_sheet,
-            parts.nl,
-            parts.nr,
-            parts.wiring,
-            &mut left_finder,
-            &mut none,
-            received,
-            lost,
-            output,
-            limit,
-        );
+        return decode_trials(&plan, &mut left_finder, &mut none, given, output, limit);
     }
-    let right_basis = right.basis;
+    let right_basis = plan.right.basis;
     let mut right_finder = [0u16; FINDER_WORDS];
-    finder::prepare_finder(parts.right_sheet, right.k, &right_basis, &mut right_finder);
-    decode_trials(
-        parts.left_sheet,
+    finder::prepare_finder(
         parts.right_sheet,
-        parts.nl,
-        parts.nr,
-        parts.wiring,
+        plan.right.k,
+        &right_basis,
+        &mut right_finder,
+    );
+    decode_trials(
+        &plan,
         &mut left_finder,
         &mut right_finder,
-        received,
-        lost,
+        given,
         output,
         limit,
     )
 }
 
+// What was received: the block, and the list of the spans that were lost.
+#[derive(Clone, Copy)]
+struct Received<'a> {
+    block: &'a [u8],
+    lost: &'a [u8],
+}
+
 // Decodes with the finders of both sides. The trial with zeros is made at the front of the output. Most blocks settle in its first two sweeps; what
 // else there is to do needs more room.
 fn decode_trials(
-    left: &[u8],
-    right: &[u8],
-    nl: usize,
-    nr: usize,
-    wiring: &[u8],
+    plan: &CheckedPlan<'_>,
     left_finder: &mut [u16],
     right_finder: &mut [u16],
-    received: &[u8],
-    lost: &[u8],
+    received: Received<'_>,
     output: &mut [u8],
     limit: usize,
 ) -> Decoding
-    requires ready { let plan : Plan = plan_of left.now right.now nl nr wiring.now in Ready plan left_finder.old right_finder.old }
-    requires limit_value { let plan : Plan = plan_of left.now right.now nl nr wiring.now in decode_check plan received.now lost.now output.old limit ≡ done [] }
-    ensures { let plan : Plan = plan_of left.now right.now nl nr wiring.now in Decodes plan received.now lost.now output.old limit result output.new }
+    requires ready { Ready (plan_in plan.now.parts) left_finder.old right_finder.old }
+    requires limit_value { decode_check (plan_in plan.now.parts) received.block.now received.lost.now output.old limit ≡ done [] }
+    ensures { Decodes (plan_in plan.now.parts) received.entry.block.now received.entry.lost.now output.old limit result output.new }
 {
-    let size = received.len();
-    lay_out(received, lost, 0, output);
+    let size = received.block.len();
+    lay_out(received, 0, output);
     let mut kept = [0u16; KEPT];
     let opening = open(
-        left,
-        right,
-        nl,
-        nr,
-        wiring,
+        plan,
         left_finder,
         right_finder,
         limit,
         &mut kept,
-        &mut output[0..size],
+        &mut output[..size],
     );
     let count = opening.count;
     let sums = opening.sums;
     let visits = opening.visits;
-    if at_once(lost.len(), opening.ended, count, limit) {
+    if at_once(received.lost.len(), opening.ended, count, limit) {
         return Decoding {
             outcome: Ok(count),
             sums,
@@ -189,15 +177,10 @@ fn decode_trials(
         };
     }
     decode_on(
-        left,
-        right,
-        nl,
-        nr,
-        wiring,
+        plan,
         left_finder,
         right_finder,
         received,
-        lost,
         opening,
         &mut kept,
         output,
@@ -214,50 +197,35 @@ fn at_once(lost_bytes: usize, ended: bool, count: usize, limit: usize) -> bool
 // Goes on from the first two sweeps of the trial with zeros, at the front of the output. Room for the places of the edges is cleared here and not
 // before, and less of it for a small plan, since clearing all of it takes longer than such a call.
 fn decode_on(
-    left: &[u8],
-    right: &[u8],
-    nl: usize,
-    nr: usize,
-    wiring: &[u8],
+    plan: &CheckedPlan<'_>,
     left_finder: &mut [u16],
     right_finder: &mut [u16],
-    received: &[u8],
-    lost: &[u8],
+    received: Received<'_>,
     opening: Opening,
     kept: &mut [u16; KEPT],
     output: &mut [u8],
 ) -> Decoding
-    requires ready { let plan : Plan = plan_of left.now right.now nl nr wiring.now in Ready plan left_finder.old right_finder.old }
-    requires limit_value { let plan : Plan = plan_of left.now right.now nl nr wiring.now in decode_check plan received.now lost.now output.old opening.limit ≡ done [] }
-    requires opened { let plan : Plan = plan_of left.now right.now nl nr wiring.now in Opened plan (filled 0 lost.now received.now) opening.limit opening kept.old (take (length received.now) output.old) }
-    ensures { let plan : Plan = plan_of left.now right.now nl nr wiring.now in Decodes plan received.now lost.now output.old opening.limit result output.new }
+    requires ready { Ready (plan_in plan.now.parts) left_finder.old right_finder.old }
+    requires limit_value { decode_check (plan_in plan.now.parts) received.block.now received.lost.now output.old opening.limit ≡ done [] }
+    requires opened { Opened (plan_in plan.now.parts) (filled 0 received.lost.now received.block.now) opening.limit opening kept.old (take (length received.block.now) output.old) }
+    ensures { Decodes (plan_in plan.now.parts) received.entry.block.now received.entry.lost.now output.old opening.limit result output.new }
 {
-    if wiring.len() <= 2 * FEW_EDGES {
+    if plan.parts.wiring.len() <= 2 * FEW_EDGES {
         return decode_with::<FEW_EDGES>(
-            left,
-            right,
-            nl,
-            nr,
-            wiring,
+            plan,
             left_finder,
             right_finder,
             received,
-            lost,
             opening,
             kept,
             output,
         );
     }
     decode_with::<MAX_EDGES>(
-        left,
-        right,
-        nl,
-        nr,
-        wiring,
+        plan,
         left_finder,
         right_finder,
         received,
-        lost,
         opening,
         kept,
         output,
@@ -266,37 +234,27 @@ fn decode_on(
 
 // The same with room for the places of N edges.
 fn decode_with<const N: usize>(
-    left: &[u8],
-    right: &[u8],
-    nl: usize,
-    nr: usize,
-    wiring: &[u8],
+    plan: &CheckedPlan<'_>,
     left_finder: &mut [u16],
     right_finder: &mut [u16],
-    received: &[u8],
-    lost: &[u8],
+    received: Received<'_>,
     opening: Opening,
     kept: &mut [u16; KEPT],
     output: &mut [u8],
 ) -> Decoding
-    requires ready { let plan : Plan = plan_of left.now right.now nl nr wiring.now in Ready plan left_finder.old right_finder.old }
-    requires limit_value { let plan : Plan = plan_of left.now right.now nl nr wiring.now in decode_check plan received.now lost.now output.old opening.limit ≡ done [] }
+    requires ready { Ready (plan_in plan.now.parts) left_finder.old right_finder.old }
+    requires limit_value { decode_check (plan_in plan.now.parts) received.block.now received.lost.now output.old opening.limit ≡ done [] }
     requires n_bound { N ≤ 32768 }
-    requires plan_in_bounds { let plan : Plan = plan_of left.now right.now nl nr wiring.now in edge_count plan ≤ N }
-    requires opened { let plan : Plan = plan_of left.now right.now nl nr wiring.now in Opened plan (filled 0 lost.now received.now) opening.limit opening kept.old (take (length received.now) output.old) }
-    ensures { let plan : Plan = plan_of left.now right.now nl nr wiring.now in Decodes plan received.now lost.now output.old opening.limit result output.new }
+    requires plan_in_bounds { edge_count (plan_in plan.now.parts) ≤ N }
+    requires opened { Opened (plan_in plan.now.parts) (filled 0 received.lost.now received.block.now) opening.limit opening kept.old (take (length received.block.now) output.old) }
+    ensures { Decodes (plan_in plan.now.parts) received.entry.block.now received.entry.lost.now output.old opening.limit result output.new }
 {
     let mut places = [0u16; N];
     decode_placed(
-        left,
-        right,
-        nl,
-        nr,
-        wiring,
+        plan,
         left_finder,
         right_finder,
         received,
-        lost,
         opening,
         &mut places,
         kept,
@@ -308,38 +266,28 @@ fn decode_with<const N: usize>(
 // made in a buffer of its own. Where the first settles and changes no bit outside the spans, it is kept whatever the second would give; where no
 // bit is lost there is no second. Where none settles the received block is put back, its lost bits as they were received.
 fn decode_placed(
-    left: &[u8],
-    right: &[u8],
-    nl: usize,
-    nr: usize,
-    wiring: &[u8],
+    plan: &CheckedPlan<'_>,
     left_finder: &mut [u16],
     right_finder: &mut [u16],
-    received: &[u8],
-    lost: &[u8],
+    received: Received<'_>,
     opening: Opening,
     places: &mut [u16],
     kept: &mut [u16; KEPT],
     output: &mut [u8],
 ) -> Decoding
-    requires ready { let plan : Plan = plan_of left.now right.now nl nr wiring.now in Ready plan left_finder.old right_finder.old }
-    requires limit_value { let plan : Plan = plan_of left.now right.now nl nr wiring.now in decode_check plan received.now lost.now output.old opening.limit ≡ done [] }
-    requires plan_in_bounds { let plan : Plan = plan_of left.now right.now nl nr wiring.now in edge_count plan ≤ length places.old }
-    requires opened { let plan : Plan = plan_of left.now right.now nl nr wiring.now in Opened plan (filled 0 lost.now received.now) opening.limit opening kept.old (take (length received.now) output.old) }
-    ensures { let plan : Plan = plan_of left.now right.now nl nr wiring.now in Decodes plan received.now lost.now output.old opening.limit result output.new }
+    requires ready { Ready (plan_in plan.now.parts) left_finder.old right_finder.old }
+    requires limit_value { decode_check (plan_in plan.now.parts) received.block.now received.lost.now output.old opening.limit ≡ done [] }
+    requires plan_in_bounds { edge_count (plan_in plan.now.parts) ≤ length places.old }
+    requires opened { Opened (plan_in plan.now.parts) (filled 0 received.lost.now received.block.now) opening.limit opening kept.old (take (length received.block.now) output.old) }
+    ensures { Decodes (plan_in plan.now.parts) received.entry.block.now received.entry.lost.now output.old opening.limit result output.new }
 {
-    let size = received.len();
+    let size = received.block.len();
     let limit = opening.limit;
     let first = finish_trial(
-        left,
-        right,
-        nl,
-        nr,
-        wiring,
+        plan,
         left_finder,
         right_finder,
         received,
-        lost,
         opening,
         false,
         places,
@@ -348,34 +296,25 @@ fn decode_placed(
     );
     let zeros = first.settling;
     let zeros_changed = first.changed;
-    if keeps_zeros(lost.len(), limit, zeros.count, zeros_changed) {
-        return answer_by(limit, zeros, received, output);
+    if keeps_zeros(received.lost.len(), limit, zeros.count, zeros_changed) {
+        return answer_by(limit, zeros, received.block, output);
     }
     let mut other = [0u8; MAX_BLOCK];
-    lay_out(received, lost, 1, &mut other);
+    lay_out(received, 1, &mut other);
     *kept = [0u16; KEPT];
     let again = open(
-        left,
-        right,
-        nl,
-        nr,
-        wiring,
+        plan,
         left_finder,
         right_finder,
         limit,
         kept,
-        &mut other[0..size],
+        &mut other[..size],
     );
     let second = finish_trial(
-        left,
-        right,
-        nl,
-        nr,
-        wiring,
+        plan,
         left_finder,
         right_finder,
         received,
-        lost,
         again,
         first.noted,
         places,
@@ -390,10 +329,10 @@ fn decode_placed(
         ones.count,
         second.changed,
     ) {
-        bits::copy_front(&other[0..size], output);
-        return answer_by(limit, ones, received, output);
+        bits::copy_front(&other[..size], output);
+        return answer_by(limit, ones, received.block, output);
     }
-    answer_by(limit, zeros, received, output)
+    answer_by(limit, zeros, received.block, output)
 }
 
 // What a trial comes to: how many received bits outside the spans it changes is counted where some are lost. With it, whether the places of the edges
@@ -407,56 +346,52 @@ struct Attempt {
 
 // Goes on from the first two sweeps of a trial, at the front of `room`. The places are noted where a third sweep is made and they are not yet.
 fn finish_trial(
-    left: &[u8],
-    right: &[u8],
-    nl: usize,
-    nr: usize,
-    wiring: &[u8],
+    plan: &CheckedPlan<'_>,
     left_finder: &mut [u16],
     right_finder: &mut [u16],
-    received: &[u8],
-    lost: &[u8],
+    received: Received<'_>,
     opening: Opening,
     noted: bool,
     places: &mut [u16],
     kept: &mut [u16; KEPT],
     room: &mut [u8],
 ) -> Attempt
-    requires ready { let plan : Plan = plan_of left.now right.now nl nr wiring.now in Ready plan left_finder.old right_finder.old }
-    requires received_in_bounds { length received.now ≤ length room.old }
-    requires opened_some { let plan : Plan = plan_of left.now right.now nl nr wiring.now in OpenedSome plan opening kept.old (take (length received.now) room.old) }
-    requires plan_in_bounds { let plan : Plan = plan_of left.now right.now nl nr wiring.now in edge_count plan ≤ length places.old }
-    requires places_noted { noted ≡ true → PlacesNoted wiring.now places.old }
-    ensures still_ready { let plan : Plan = plan_of left.now right.now nl nr wiring.now in Ready plan left_finder.new right_finder.new }
-    ensures places_noted_after { result.noted ≡ true → PlacesNoted wiring.now places.new }
-    ensures room_after { room.new ≡ written (take (length received.now) room.new) room.old }
-    ensures settles { let plan : Plan = plan_of left.now right.now nl nr wiring.now in (block : List ℕ) → Opened plan block opening.limit opening kept.old (take (length received.now) room.old)
-        → Tried plan block opening.limit result.settling.count result.settling.sums result.settling.visits (take (length received.now) room.new) }
-    ensures changed_value { (length lost.now ≡ 0 → ⊥) → result.changed ≡ flips_around (length wiring.now / 2) lost.now received.now (take (length received.now) room.new) }
+    requires ready { Ready (plan_in plan.now.parts) left_finder.old right_finder.old }
+    requires received_in_bounds { length received.block.now ≤ length room.old }
+    requires opened_some { OpenedSome (plan_in plan.now.parts) opening kept.old (take (length received.block.now) room.old) }
+    requires plan_in_bounds { edge_count (plan_in plan.now.parts) ≤ length places.old }
+    requires places_noted { noted ≡ true → PlacesNoted plan.now.parts.wiring.now places.old }
+    ensures still_ready { Ready (plan_in plan.now.parts) left_finder.new right_finder.new }
+    ensures places_noted_after { result.noted ≡ true → PlacesNoted plan.now.parts.wiring.now places.new }
+    ensures room_after { room.new ≡ written (take (length received.entry.block.now) room.new) room.old }
+    ensures settles { (block : List ℕ) → Opened (plan_in plan.now.parts) block opening.limit opening kept.old (take (length received.entry.block.now) room.old)
+        → Tried (plan_in plan.now.parts) block opening.limit result.settling.count result.settling.sums result.settling.visits (take (length received.entry.block.now) room.new) }
+    ensures changed_value { (length received.entry.lost.now ≡ 0 → ⊥) → result.changed ≡ flips_around (length plan.now.parts.wiring.now / 2) received.entry.lost.now received.entry.block.now (take (length received.entry.block.now) room.new) }
 {
-    let size = received.len();
-    let noted = places_for(wiring, opening.ended, noted, places);
+    let size = received.block.len();
+    let noted = places_for(plan.parts.wiring, opening.ended, noted, places);
     let settling = finish(
-        left,
-        right,
-        nl,
-        nr,
-        wiring,
+        plan,
         left_finder,
         right_finder,
         opening,
         places,
         kept,
-        &mut room[0..size],
+        &mut room[..size],
     );
-    if lost.is_empty() {
+    if received.lost.is_empty() {
         return Attempt {
             settling,
             changed: 0,
             noted,
         };
     }
-    let changed = spans::flips_outside(wiring.len() / 2, lost, received, &room[0..size]);
+    let changed = spans::flips_outside(
+        plan.parts.wiring.len() / 2,
+        received.lost,
+        received.block,
+        &room[..size],
+    );
     Attempt {
         settling,
         changed,
@@ -503,13 +438,13 @@ fn keeps_ones(
 }
 
 // Puts the received block at the front of a buffer, with every lost bit made the last binary digit of `value`.
-fn lay_out(received: &[u8], lost: &[u8], value: u64, room: &mut [u8])
-    requires { length received.now ≤ length room.old }
-    ensures { room.new ≡ written (filled (value % 2) lost.now received.now) room.old }
+fn lay_out(received: Received<'_>, value: u64, room: &mut [u8])
+    requires { length received.block.now ≤ length room.old }
+    ensures { room.new ≡ written (filled (value % 2) received.entry.lost.now received.entry.block.now) room.old }
 {
-    bits::copy_front(received, room);
-    let size = received.len();
-    spans::fill(lost, value, &mut room[0..size]);
+    bits::copy_front(received.block, room);
+    let size = received.block.len();
+    spans::fill(received.lost, value, &mut room[..size]);
 }
 
 // The answer of a call that is worked through, by the trial that is kept, whose block stands at the front of the output: where it does not settle,
@@ -551,9 +486,9 @@ fn refuse(refusal: Refusal) -> Decoding
 
 // Whether a block is found to be a codeword with no finder set up: one of zeros, which is a codeword of every plan, or one of few bits, by the
 // rows of each side. Of any other block nothing is said. Setting up a finder costs more than testing so few vertices by the rows.
-fn is_codeword_at_sight(left: SideCode, right: SideCode, wiring: &[u8], block: &[u8]) -> bool
-    requires { AllReadable (both_codes left right) wiring.now block.now }
-    ensures { result ≡ true → located_by (both_codes left right) wiring.now block.now ≡ [] }
+fn is_codeword_at_sight(plan: &CheckedPlan<'_>, block: &[u8]) -> bool
+    requires { AllReadable (both_codes plan.now.left plan.now.right) plan.now.parts.wiring.now block.now }
+    ensures { result ≡ true → located_by (both_codes plan.now.left plan.now.right) plan.now.parts.wiring.now block.now ≡ [] }
 {
     if bits::is_zero(block) {
         return true;
@@ -561,5 +496,5 @@ fn is_codeword_at_sight(left: SideCode, right: SideCode, wiring: &[u8], block: &
     if SMALL_BLOCK < block.len() {
         return false;
     }
-    wiring::first_unsatisfied(left, right, wiring, block).is_none()
+    wiring::first_unsatisfied(plan.left, plan.right, plan.parts.wiring, block).is_none()
 }

@@ -2,14 +2,15 @@
 // with news.
 ghost use Rattle.std.specs.Prelude.{false, List, [], ◌≡◌, ℕ, ◌+◌, ◌≤◌, ◌<◌, length};
 ghost use Rattle.inner_code.specs.Reply.{done};
-ghost use Rattle.wiring.specs.Plan.{Plan, plan_of, edge_count};
+ghost use Rattle.wiring.specs.Plan.{edge_count};
+ghost use Rattle.wiring.specs.PlanParts.{plan_in};
 ghost use Rattle.wiring.specs.Block.{block_check};
 ghost use Rattle.sweeps.specs.Sweeping.{Ready, BothSwept};
 ghost use Rattle.wiring.specs.Places.{PlacesNoted};
 ghost use Rattle.decoder.specs.Turns.{Tried, noted, added_visits, ended_to, Opened, OpenedSome};
 
 use sweeps::{Tally, all_codewords, all_satisfied, sweep_first, sweep_right, sweep_turn};
-use wiring::SideName;
+use wiring::{CheckedPlan, SideName};
 use words::{KEPT, clear_marks, read_words};
 
 // The sweeps whose sums are told.
@@ -40,11 +41,7 @@ pub(crate) struct Opening {
 // changes something and leaves no tie, the left words are tested before a third sweep is made. Sums and visits of a sweep beyond the limit are
 // not told.
 pub(crate) fn open(
-    left: &[u8],
-    right: &[u8],
-    nl: usize,
-    nr: usize,
-    wiring: &[u8],
+    plan: &CheckedPlan<'_>,
     left_finder: &mut [u16],
     right_finder: &mut [u16],
     limit: usize,
@@ -53,26 +50,16 @@ pub(crate) fn open(
 ) -> Opening
     requires limit_bound { limit ≤ 4096 }
     requires kept_len { length kept.old ≡ 2304 }
-    requires ready { let plan : Plan = plan_of left.now right.now nl nr wiring.now in Ready plan left_finder.old right_finder.old }
-    requires block_value { let plan : Plan = plan_of left.now right.now nl nr wiring.now in block_check (edge_count plan) block.old ≡ done [] }
-    ensures still_ready { let plan : Plan = plan_of left.now right.now nl nr wiring.now in Ready plan left_finder.new right_finder.new }
-    ensures opened { let plan : Plan = plan_of left.now right.now nl nr wiring.now in Opened plan block.old limit result kept.new block.new }
+    requires ready { Ready (plan_in plan.now.parts) left_finder.old right_finder.old }
+    requires block_value { block_check (edge_count (plan_in plan.now.parts)) block.old ≡ done [] }
+    ensures still_ready { Ready (plan_in plan.now.parts) left_finder.new right_finder.new }
+    ensures opened { Opened (plan_in plan.now.parts) block.old limit result kept.new block.new }
 {
-    let firsts = sweep_firsts(
-        left,
-        right,
-        nl,
-        nr,
-        wiring,
-        left_finder,
-        right_finder,
-        kept,
-        block,
-    );
+    let firsts = sweep_firsts(plan, left_finder, right_finder, kept, block);
     let first = firsts.left;
     let second = firsts.right;
-    let one = add_visits(0, 0, limit, nl as u64);
-    let two = add_visits(one, 1, limit, nr as u64);
+    let one = add_visits(0, 0, limit, plan.parts.nl as u64);
+    let two = add_visits(one, 1, limit, plan.parts.nr as u64);
     let mut sums = [0u16; SUMS];
     note(&mut sums, 0, limit, first.changed);
     if second.changed == 0 {
@@ -91,7 +78,7 @@ pub(crate) fn open(
             visits: two,
         };
     }
-    if second.ties == 0 && all_codewords(left, nl, left_finder, block) {
+    if second.ties == 0 && all_codewords(plan.parts.left_sheet, plan.parts.nl, left_finder, block) {
         return Opening {
             limit,
             ended: true,
@@ -149,36 +136,28 @@ struct Tallies {
 
 // The first two sweeps. The words of the right side are fetched between them.
 fn sweep_firsts(
-    left: &[u8],
-    right: &[u8],
-    nl: usize,
-    nr: usize,
-    wiring: &[u8],
+    plan: &CheckedPlan<'_>,
     left_finder: &mut [u16],
     right_finder: &mut [u16],
     kept: &mut [u16; KEPT],
     block: &mut [u8],
 ) -> Tallies
-    requires ready { let plan : Plan = plan_of left.now right.now nl nr wiring.now in Ready plan left_finder.old right_finder.old }
-    requires block_value { let plan : Plan = plan_of left.now right.now nl nr wiring.now in block_check (edge_count plan) block.old ≡ done [] }
+    requires ready { Ready (plan_in plan.now.parts) left_finder.old right_finder.old }
+    requires block_value { block_check (edge_count (plan_in plan.now.parts)) block.old ≡ done [] }
     requires kept_len { length kept.old ≡ 2304 }
-    ensures both_swept { let plan : Plan = plan_of left.now right.now nl nr wiring.now in BothSwept plan block.old result.left result.right block.new kept.new }
-    ensures still_ready { let plan : Plan = plan_of left.now right.now nl nr wiring.now in Ready plan left_finder.new right_finder.new }
+    ensures both_swept { BothSwept (plan_in plan.now.parts) block.old result.left result.right block.new kept.new }
+    ensures still_ready { Ready (plan_in plan.now.parts) left_finder.new right_finder.new }
 {
-    let first = sweep_first(left, nl, wiring, left_finder, block);
-    clear_marks(kept);
-    read_words(left, right, nl, nr, wiring, block, kept);
-    let second = sweep_right(
-        left,
-        right,
-        nl,
-        nr,
-        wiring,
+    let first = sweep_first(
+        plan.parts.left_sheet,
+        plan.parts.nl,
+        plan.parts.wiring,
         left_finder,
-        right_finder,
-        kept,
         block,
     );
+    clear_marks(kept);
+    read_words(plan, block, kept);
+    let second = sweep_right(plan, left_finder, right_finder, kept, block);
     Tallies {
         left: first,
         right: second,
@@ -189,11 +168,7 @@ fn sweep_firsts(
 // what it read then, and would stay. One that changes nothing is the last: no vertex has news of it. The block is then tested once, since a tie
 // may have waited without news.
 pub(crate) fn finish(
-    left: &[u8],
-    right: &[u8],
-    nl: usize,
-    nr: usize,
-    wiring: &[u8],
+    plan: &CheckedPlan<'_>,
     left_finder: &mut [u16],
     right_finder: &mut [u16],
     opening: Opening,
@@ -201,12 +176,12 @@ pub(crate) fn finish(
     kept: &mut [u16; KEPT],
     block: &mut [u8],
 ) -> Settling
-    requires ready { let plan : Plan = plan_of left.now right.now nl nr wiring.now in Ready plan left_finder.old right_finder.old }
-    requires opened_some { let plan : Plan = plan_of left.now right.now nl nr wiring.now in OpenedSome plan opening kept.old block.old }
-    requires places_noted { opening.ended ≡ false → PlacesNoted wiring.now places.now }
-    ensures still_ready { let plan : Plan = plan_of left.now right.now nl nr wiring.now in Ready plan left_finder.new right_finder.new }
-    ensures settles { let plan : Plan = plan_of left.now right.now nl nr wiring.now in (received : List ℕ) → Opened plan received opening.limit opening kept.old block.old
-        → Tried plan received opening.limit result.count result.sums result.visits block.new }
+    requires ready { Ready (plan_in plan.now.parts) left_finder.old right_finder.old }
+    requires opened_some { OpenedSome (plan_in plan.now.parts) opening kept.old block.old }
+    requires places_noted { opening.ended ≡ false → PlacesNoted plan.now.parts.wiring.now places.now }
+    ensures still_ready { Ready (plan_in plan.now.parts) left_finder.new right_finder.new }
+    ensures settles { (received : List ℕ) → Opened (plan_in plan.now.parts) received opening.limit opening kept.old block.old
+        → Tried (plan_in plan.now.parts) received opening.limit result.count result.sums result.visits block.new }
 {
     let limit = opening.limit;
     let mut sums = opening.sums;
@@ -220,31 +195,9 @@ pub(crate) fn finish(
     }
     let mut side = SideName::Left;
     for count in 2..=limit {
-        let here = sweep_turn(
-            left,
-            right,
-            nl,
-            nr,
-            wiring,
-            left_finder,
-            right_finder,
-            side,
-            places,
-            kept,
-            block,
-        );
+        let here = sweep_turn(plan, left_finder, right_finder, side, places, kept, block);
         if here.changed == 0 {
-            if all_satisfied(
-                left,
-                right,
-                nl,
-                nr,
-                wiring,
-                left_finder,
-                right_finder,
-                kept,
-                block,
-            ) {
+            if all_satisfied(plan, left_finder, right_finder, kept, block) {
                 return Settling {
                     count,
                     sums,

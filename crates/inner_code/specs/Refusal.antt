@@ -37,34 +37,11 @@ number_of Refusal.MessageStrayBit = 21
 number_of Refusal.NoCodeword = 22
 
 abbrev pub place_of : Refusal → ℕ
-place_of Refusal.SheetShort = 0
-place_of Refusal.DegreeOutOfRange = 0
-place_of Refusal.RowsOutOfRange = 0
-place_of Refusal.SheetLengthWrong = 0
 place_of (Refusal.RowTooLarge row) = row
 place_of (Refusal.RowDependent row) = row
-place_of Refusal.VerticesOutOfRange = 0
-place_of Refusal.EdgeCountsDiffer = 0
-place_of Refusal.WiringLengthWrong = 0
 place_of (Refusal.EntryTooLarge entry) = entry
 place_of (Refusal.EntryRepeated entry) = entry
-place_of Refusal.BlockLengthWrong = 0
-place_of Refusal.StrayBit = 0
-place_of Refusal.SpansLengthWrong = 0
-place_of Refusal.SpanOutOfBlock = 0
-place_of Refusal.SpanOutOfOrder = 0
-place_of Refusal.OutputShort = 0
-place_of Refusal.LimitTooLarge = 0
-place_of Refusal.Unsettled = 0
-place_of Refusal.ListShort = 0
-place_of Refusal.FlipsTooMany = 0
-place_of Refusal.FlipsNotCovered = 0
-place_of Refusal.BitTooLarge = 0
-place_of Refusal.SweepsSpent = 0
-place_of Refusal.PlanTooLarge = 0
-place_of Refusal.MessageLengthWrong = 0
-place_of Refusal.MessageStrayBit = 0
-place_of Refusal.NoCodeword = 0
+place_of _ = 0
 
 abbrev pub check_reply : Result Unit Refusal → Reply
 check_reply (Ok passed) = done []

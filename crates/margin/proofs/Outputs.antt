@@ -17,7 +17,8 @@ use Rattle.wiring.specs.Wiring.{plan_check}
 use Rattle.radius.specs.Margin.{Measures, sweeps_named, beyond}
 use Rattle.radius.specs.Answer.{measures_of, margin_of, numbers_of, in_order, numbers_answer}
 use Rattle.radius.specs.Ranges.{measures_by, InRange}
-use Rattle.radius.specs.declared.numbers.Numbers.{Numbers}
+use Rattle.std.proofs.Common.{Result, Ok, Err}
+use Rattle.inner_code.specs.declared.refusal.Refusal.{Refusal}
 use Rattle.radius.specs.declared.numbers.PlanNumbers.{PlanNumbers}
 use Rattle.radius.proofs.MeasuredNumbers.{numbers-known}
 use Rattle.radius.proofs.PlanRanges.{measures-plan, plan-within}
@@ -41,7 +42,7 @@ line-covered input F l = beyond-covers _ F l
 
 module _ (input : List ℕ) (p : PlanNumbers) (numbers : done (in_order p) ≡ numbers_answer (plan_part input)) where
   known : (plan_check (plan_part input) ≡ done []) × (p ≡ numbers_of (plan_part input))
-  known = numbers-known _ (Numbers.Plan p) p numbers refl
+  known = numbers-known _ (Ok p) p numbers refl
 
   pub numbers-within : InRange p
   numbers-within = rw known.1 (plan-within _ known.0)

@@ -8,15 +8,16 @@ mod margin_input;
 
 ghost use Rattle.std.specs.Prelude.{◌≡◌, length, ◌<◌};
 ghost use Rattle.inner_code.specs.Reply.{done, refused};
+ghost use Rattle.inner_code.specs.Refusal.{number_of, place_of};
 ghost use Rattle.radius.specs.Margin.{beyond};
 ghost use Rattle.radius.specs.Answer.{measures_of, margin_of, in_order, numbers_answer};
 ghost use Rattle.margin.specs.Output.{plan_part};
 
-use inner_code::{MAX_DEGREE, MAX_ROWS};
+use inner_code::{MAX_DEGREE, MAX_ROWS, Refusal};
 use margin_input::split_input;
-use radius::{Numbers, PlanNumbers};
+use radius::PlanNumbers;
 use std::io;
-use wiring::MAX_VERTICES;
+use wiring::{MAX_VERTICES, PlanParts};
 
 // The largest accepted input, of 65,588 bytes: for each side d and k, 11 rows of two bytes and n, and 2,048 · 16 entries of two bytes.
 const LARGEST_INPUT: usize = 2 * (2 + 2 * MAX_ROWS + 2) + 2 * MAX_VERTICES * MAX_DEGREE;
@@ -41,25 +42,23 @@ fn read_margins(rt: &impl Print, from: &mut impl io::Read, space: &mut [u8]) -> 
 // What the program writes for an input.
 fn write_margins(rt: &impl Print, input: &[u8]) -> io::Result<()> {
     let parts = split_input(input);
-    let left = parts.left;
-    let right = parts.right;
-    let wiring = parts.wiring;
-    match radius::plan_numbers(
-        &input[..left],
-        &input[left..right],
-        parts.nl,
-        parts.nr,
-        &input[wiring..],
-    ) {
-        Numbers::Refused(r) => write_refusal(rt, input, r.number, r.place),
-        Numbers::Plan(plan) => write_plan(rt, input, plan),
+    let plan = PlanParts {
+        left_sheet: &input[..parts.left],
+        right_sheet: &input[parts.left..parts.right],
+        nl: parts.nl,
+        nr: parts.nr,
+        wiring: &input[parts.wiring..],
+    };
+    match radius::plan_numbers(plan) {
+        Ok(numbers) => write_plan(rt, input, numbers),
+        Err(refusal) => write_refusal(rt, input, refusal),
     }
 }
 
-fn write_refusal(rt: &impl Print, input: &[u8], number: u32, place: u32) -> io::Result<()>
-    requires { refused number place ≡ numbers_answer (plan_part input.now) }
+fn write_refusal(rt: &impl Print, input: &[u8], refusal: Refusal) -> io::Result<()>
+    requires { refused (number_of refusal) (place_of refusal) ≡ numbers_answer (plan_part input.now) }
 {
-    println!(rt; "refused {number} {place}")
+    println!(rt; "{refusal}")
 }
 
 // The plan's numbers; a line with F and its sweeps for each covered F; the first F that is not covered.
@@ -68,11 +67,13 @@ fn write_plan(rt: &impl Print, input: &[u8], plan: PlanNumbers) -> io::Result<()
 {
     write_numbers(rt, input, plan)?;
     let beyond = radius::first_uncovered(plan);
+    let mut lines = 0;
     for flips in 0..beyond {
         let sweeps = radius::sweeps_named(plan, flips);
         write_line(rt, input, flips, sweeps)?;
+        lines += 1;
     }
-    write_beyond(rt, input, beyond)
+    write_beyond(rt, input, lines)
 }
 
 // The nine numbers, of those that each side has the left one first.

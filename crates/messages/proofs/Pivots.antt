@@ -1,8 +1,8 @@
 -- One check on the stored rows: the set of the rows that fail it, its lowest row, and that row put on all of them.
 --   row_bit columns p e              bit e of row p, for p below 512 (specs Columns)
 --   ColumnPut from a to b left      `left` is `to` with column a of `from` put on its column b (specs Columns)
---   check_of name d m                check m of a side as the code holds it (specs Columns)
---   check_value i check .. f         its value on the vector f, by the first i edges of the vertex (specs Columns)
+--   check_of name .. m               check m of a side as the code holds it (specs Columns)
+--   check_value i check f            its value on the vector f, by the first i edges of the vertex (specs Columns)
 --   FailSet i check .. hits         column 0 of `hits` is the set of the rows on which that is 1 (specs Columns)
 --   lowest_row hits N                the lowest row of column 0, N where it has none below N (specs Columns)
 --   Spread N p hits columns left    `left` is `columns` with row p put on every row of `hits` (specs Columns)
@@ -31,6 +31,7 @@ use lib.Dec.{eqb}
 use lib.ListN.{get_or}
 use borrow.Author.Tests.{ltb-false, eqb-true, eq-eqb, not-true}
 use Rattle.std.proofs.Common.{w64}
+use Rattle.std.specs.Borrow.{Bor}
 use Rattle.std.specs.Int.{trailing_zeros}
 use Rattle.std.proofs.lemmas.Nat.Bits.{bit_at-trailing_zeros}
 use Rattle.bits.proofs.Xor.{digits_product, digit_lt, digit-zero}
@@ -112,18 +113,18 @@ lowest-empty = first-all 512 _ (λ q l. ap (λ (b : ℕ). not (eqb b 1)) (rows_e
 
 -- ---- the rows that fail a check
 
-module _ (check : Check) (wiring residues columns : List ℕ) where
-  pub hits-none : FailSet 0 check wiring residues columns no_rows
+module _ (check : Check) (columns : List ℕ) where
+  pub hits-none : FailSet 0 check columns no_rows
   hits-none = record { bits = λ p l. rows_empty p ∙ sym (parity-zero _ _) }
 
   -- bit i of the vertex, and whether it counts
   abbrev bit : ℕ → ℕ
-  bit i = side_bit check.side wiring (check.base + i)
+  bit i = side_bit check.side check.wiring.now (check.base + i)
 
   abbrev counts : ℕ → ℕ
-  counts i = digit (get_or residues i 0) check.digit
+  counts i = digit (get_or check.residues.now i 0) check.digit
 
-  module _ (i : ℕ) (hits : List ℕ) (so_far : FailSet i check wiring residues columns hits) where
+  module _ (i : ℕ) (hits : List ℕ) (so_far : FailSet i check columns hits) where
     one_more : (p : ℕ) → p < 512
         → parity (i + 1) counts (λ x. row_bit columns p (bit x)) ≡ bit_xor (row_bit hits p 0) (counts i * row_bit columns p (bit i))
     one_more p l =
@@ -131,7 +132,7 @@ module _ (check : Check) (wiring residues columns : List ℕ) where
         ∙ ap (λ (x : ℕ). bit_xor x (counts i * row_bit columns p (bit i))) (sym (so_far.bits p l))
 
     pub hits-put : (e : ℕ) (left : List ℕ) → counts i ≡ 1 → e ≡ bit i → ColumnPut columns e hits 0 left
-        → FailSet (i + 1) check wiring residues columns left
+        → FailSet (i + 1) check columns left
     hits-put e left one at-e put =
         record {
           bits = λ p l.
@@ -141,9 +142,9 @@ module _ (check : Check) (wiring residues columns : List ℕ) where
               ∙ sym (one_more p l);
         }
 
-    pub hits-kept : counts i ≢ 1 → FailSet (i + 1) check wiring residues columns hits
+    pub hits-kept : counts i ≢ 1 → FailSet (i + 1) check columns hits
     hits-kept other =
-        let none : counts i ≡ 0 = omega (arith, digit_lt (get_or residues i 0) check.digit) in
+        let none : counts i ≡ 0 = omega (arith, digit_lt (get_or check.residues.now i 0) check.digit) in
         record {
           bits = λ p l.
               sym (one_more p l ∙ ap (λ (a : ℕ). bit_xor (row_bit hits p 0) (a * row_bit columns p (bit i))) none
@@ -151,10 +152,10 @@ module _ (check : Check) (wiring residues columns : List ℕ) where
         }
 
   -- none, where no residue has the digit of the check
-  hits-unused : (d used : ℕ) → Uses d residues used → digit used check.digit ≡ 0 → FailSet d check wiring residues columns no_rows
+  hits-unused : (d used : ℕ) → Uses d check.residues.now used → digit used check.digit ≡ 0 → FailSet d check columns no_rows
   hits-unused d used uses unused = go d (le_refl d)
     where
-      go : (i : ℕ) → i ≤ d → FailSet i check wiring residues columns no_rows
+      go : (i : ℕ) → i ≤ d → FailSet i check columns no_rows
       go zero h = hits-none
       go (suc i) h =
           let none : counts i ≡ 0 = uses.none i check.digit h unused in
@@ -162,36 +163,36 @@ module _ (check : Check) (wiring residues columns : List ℕ) where
 
 -- ---- check m of a side
 
-module _ {d n : ℕ} {wiring : List ℕ} (f : Fitted d n wiring) where
-  pub check-digit-lt : (m : ℕ) → m % d < 16
-  check-digit-lt m = omega (arith, mod-lt m f.d-low, f.d-high)
+pub check-digit-lt : {d n : ℕ} {wiring : List ℕ} → Fitted d n wiring → (m : ℕ) → m % d < 16
+check-digit-lt f m = omega (arith, mod-lt m f.d-low, f.d-high)
 
-  module _ {N : ℕ} (even : n * d ≡ N) (p : Permuted N wiring) (name : SideName) (m : ℕ) (low : m < N) where
+module _ {d n : ℕ} (wiring residues : Bor (List ℕ)) (f : Fitted d n wiring.now) where
+  module _ {N : ℕ} (even : n * d ≡ N) (p : Permuted N wiring.now) (name : SideName) (m : ℕ) (low : m < N) where
     vertex-low : m / d < n
     vertex-low = (div-lt_iff_lt-mul f.d-low).1 (rw even low)
 
-    bit-low : (i : ℕ) → i < d → side_bit name wiring (m / d * d + i) < N
+    bit-low : (i : ℕ) → i < d → side_bit name wiring.now (m / d * d + i) < N
     bit-low i l = side-lt p name _ (rw even at (digits_lt vertex-low l))
 
-    pub check-within : N ≤ 512 → Within d wiring (check_of name d m)
+    pub check-within : N ≤ 512 → Within (check_of name wiring residues d m)
     check-within short =
         record {
           narrow = f.d-high;
-          digit_lt = check-digit-lt m;
+          digit_lt = check-digit-lt f m;
           sized = fitted-vertex f (m / d) vertex-low;
           bit-lt = λ i l. lt_of_lt_of_le (bit-low i l) short;
         }
 
     -- what the code finds is the value of check m of a side of whose rows the residues are made
-    pub check-value : (residues : List ℕ) (rows : ℕ → ℕ) (count : ℕ)
-        → ((i : ℕ) → i < d → get_or residues i 0 ≡ reduced rows count (2 ^ (d - 1 - i))) → (g : ℕ → ℕ)
-        → check_value d (check_of name d m) wiring residues g
-        ≡ parity N (side_check (record { n = n; d = d; k = count; row = rows; bit = side_bit name wiring }) m) g
+    pub check-value : (rows : ℕ → ℕ) (count : ℕ)
+        → ((i : ℕ) → i < d → get_or residues.now i 0 ≡ reduced rows count (2 ^ (d - 1 - i))) → (g : ℕ → ℕ)
+        → check_value d (check_of name wiring residues d m) g
+        ≡ parity N (side_check (record { n = n; d = d; k = count; row = rows; bit = side_bit name wiring.now }) m) g
     unfolding mask
-    check-value residues rows count masks g =
-        let side : Side = record { n = n; d = d; k = count; row = rows; bit = side_bit name wiring } in
+    check-value rows count masks g =
+        let side : Side = record { n = n; d = d; k = count; row = rows; bit = side_bit name wiring.now } in
         parity-ext d _ (mask side (m % d)) _ _
-        (λ i l. ap (λ (x : ℕ). digit x (m % d) * g (side_bit name wiring (m / d * d + i))) (masks i l))
+        (λ i l. ap (λ (x : ℕ). digit x (m % d) * g (side_bit name wiring.now (m / d * d + i))) (masks i l))
         ∙ sym (vertex-parity side N g (m / d) (m % d) bit-low)
 
 -- ---- a row put on the rows of a set
@@ -326,17 +327,17 @@ module _ (N : ℕ) (few : N ≤ 512) (checks : ℕ → ℕ → ℕ) (m : ℕ) (c
 
 -- ---- a check that is made
 
-module _ (N : ℕ) (few : N ≤ 512) (d : ℕ) (check : Check) (wiring residues columns : List ℕ) where
-  module _ (hits : List ℕ) (fails : FailSet d check wiring residues columns hits) where
+module _ (N : ℕ) (few : N ≤ 512) (check : Check) (columns : List ℕ) where
+  module _ (hits : List ℕ) (fails : FailSet check.d check columns hits) where
     pub made-spread : (p : ℕ) (left : List ℕ) → p ≡ lowest_row hits N → p < N → Spread N p hits columns left
-        → CheckMade N d check wiring residues columns left
+        → CheckMade N check columns left
     made-spread p left low inside spread =
         record {
           rows = λ checks m same stored.
               step-spread N few checks m columns hits stored (λ q l. fails.bits q l ∙ same (row_bit columns q)) p left low inside spread;
         }
 
-    pub made_none : (p : ℕ) → p ≡ lowest_row hits N → N ≤ p → CheckMade N d check wiring residues columns columns
+    pub made_none : (p : ℕ) → p ≡ lowest_row hits N → N ≤ p → CheckMade N check columns columns
     made_none p low none =
         record {
           rows = λ checks m same stored.
@@ -344,7 +345,7 @@ module _ (N : ℕ) (few : N ≤ 512) (d : ℕ) (check : Check) (wiring residues 
         }
 
   -- no row fails a check whose digit is in no residue
-  pub made-unused : (used : ℕ) → Uses d residues used → digit used check.digit ≢ 1 → CheckMade N d check wiring residues columns columns
+  pub made-unused : (used : ℕ) → Uses check.d check.residues.now used → digit used check.digit ≢ 1 → CheckMade N check columns columns
   made-unused used uses other =
       let unused : digit used check.digit ≡ 0 = omega (arith, digit_lt used check.digit) in
-      made_none no_rows (hits-unused check wiring residues columns d used uses unused) N (sym (lowest-past no_rows N 512 few lowest-empty)) (le_refl N)
+      made_none no_rows (hits-unused check columns check.d used uses unused) N (sym (lowest-past no_rows N 512 few lowest-empty)) (le_refl N)

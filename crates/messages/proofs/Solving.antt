@@ -2,41 +2,40 @@
 --   UnitResidues basis k d residues  entry i is what the basis leaves of the word whose one digit is at edge i (specs Columns)
 --   Uses d residues used             a digit that `used` does not have is in none of the first d residues (specs Columns)
 --   CheckMade .. columns left        `left` holds the rows of `columns` after one check more (specs Columns)
---   Eliminated .. m columns left     `left` holds the rows of `columns` after m checks of a side more (specs Columns)
---   Solved l r wiring columns        the columns hold the rows after all checks (specs Columns)
+--   Eliminated .. m columns left     `left` holds the rows of `columns` after m checks of a side of a plan more (specs Columns)
+--   Solved plan columns              the columns hold the rows after all checks (specs Columns)
 --   StoredPlan plan N columns        the columns hold the final rows of an accepted plan of N edges (specs Columns)
---   Fitted, Permuted, Wired          a side that fits a wiring, the edges of one, and an accepted wiring (wiring specs Checking)
---   PlanAccepted plan r              what a caller learns from a plan's check that accepts (wiring Plans)
 -- Laws are named by their subject, then by the fact: `residues-` is about the masks, `uses-` about the digits in use, `eliminated-` about
--- the checks of a side in turn, `side-` and `solved-` about those of a plan, `plan-` about an accepted plan.
-use Prim.Native.Nat.{ℕ, ◌+◌, ◌-◌, ◌*◌, ◌^◌, ◌≤◌, ◌<◌}
-use mathlib.Core.List.{List, []}
+-- the checks of a side in turn, `side-` about a side as the code holds it, `solved-` about the checks of a plan, `plan-` about a checked plan.
+use Prim.Native.Nat.{ℕ, ◌+◌, ◌-◌, ◌*◌, ◌^◌, ◌%◌, ◌≤◌, ◌<◌}
+use mathlib.Core.List.{List}
+use mathlib.Core.Logic.{◌≢◌}
 use mathlib.Core.Path.{◌≡◌, refl, sym, ap, ap₂, ◌∙◌}
 use native.Mathlib.Nat.{add-zero, zero-add, add_assoc, min-eq_left}
 use native.Mathlib.Decide.{ℕ_discrete}
 use native.Mathlib.Omega.{arith}
 use lib.Bits.{bit_or}
+use Rattle.std.specs.Borrow.{Bor}
 use Rattle.std.proofs.lemmas.Nat.Bits.{bit_at_or}
 use lib.ListN.{get_or, replicate}
 use Rattle.bits.specs.Window.{at}
 use Rattle.bits.specs.Bit.{digit}
-use Rattle.inner_code.specs.Reply.{done}
 use Rattle.inner_code.specs.Reduction.{reduced, reduced_by, with_echelon}
 use Rattle.inner_code.specs.Sheet.{row_of}
 use Rattle.inner_code.proofs.EchelonForm.{reduced_by-stored}
 use Rattle.wiring.specs.Plan.{Plan, edge_count, left, right, sheet_of, side_of}
-use Rattle.wiring.specs.Wiring.{plan_check}
-use Rattle.wiring.specs.Access.{both_codes}
-use Rattle.wiring.specs.Checking.{Fitted, Permuted, Wired, code_of}
-use Rattle.wiring.specs.declared.plan.CheckedPlan.{CheckedPlan}
+use Rattle.wiring.specs.PlanParts.{plan_in}
+use Rattle.wiring.specs.Checking.{Fitted, Permuted}
+use Rattle.wiring.specs.Code.{code_of}
+use Rattle.wiring.specs.declared.parts.CheckedPlan.{CheckedPlan}
 use Rattle.wiring.specs.declared.side.SideCode.{SideCode}
 use Rattle.wiring.specs.declared.side.SideName.{SideName}
-use Rattle.wiring.proofs.Plans.{PlanAccepted, plan-sound, accepted-edges}
-use Rattle.messages.specs.Elimination.{parity, after, start, side_check, plan_checks, final_state}
-use Rattle.messages.specs.Columns.{UnitResidues, Uses, Stores, check_of, CheckMade, Eliminated, Solved, StoredPlan}
+use Rattle.wiring.proofs.Plans.{plan-sound, plan-fits, plan-whole}
+use Rattle.messages.specs.Elimination.{parity, after, start, plan_checks, final_state}
+use Rattle.messages.specs.Columns.{UnitResidues, Uses, Stores, check_of, Within, CheckMade, Eliminated, Solved, StoredPlan}
 use Rattle.messages.proofs.Elimination.{after-zero}
 use Rattle.messages.proofs.Checks.{check-left, check-past}
-use Rattle.messages.proofs.Pivots.{check-value}
+use Rattle.messages.proofs.Pivots.{check-within, check-value, made-unused}
 
 -- ---- the masks
 
@@ -65,71 +64,68 @@ uses-one-more i residues used so_far = record { none = go }
           | no earlier ↦ so_far.none q j (omega arith) (omega (arith, either, e))
         ]
 
--- ---- the checks of a side in turn
+-- ---- the checks of a side of an accepted plan in turn
 
-module _ {N : ℕ} (name : SideName) (code : SideCode) {wiring : List ℕ} (columns : List ℕ) where
-  pub eliminated-none : Eliminated N name code wiring 0 columns columns
-  eliminated-none = record { rows = λ row stored few checks first same s. rw add-zero s }
+module _ (plan : Plan) (name : SideName) (columns : List ℕ) where
+  pub eliminated-none : Eliminated plan name 0 columns columns
+  eliminated-none = record { rows = λ checks first same s. rw add-zero s }
 
-  pub eliminated-one-more : Fitted code.d code.n wiring → code.n * code.d ≡ N → Permuted N wiring
-      → (residues : List ℕ) → UnitResidues code.basis code.k code.d residues
-      → (m : ℕ) → m < N → (so_far : List ℕ) → Eliminated N name code wiring m columns so_far
-      → (next : List ℕ) → CheckMade N code.d (check_of name code.d m) wiring residues so_far next
-      → Eliminated N name code wiring (m + 1) columns next
-  eliminated-one-more f even p residues units m low so_far earlier next made =
-      record {
-        rows = λ row stored few checks first same s.
-            let here = check-value f even p name m low residues row code.k (residues-masks row _ _ _ residues units stored few) in
-            rw (← add_assoc first m 1)
-            (made.rows checks (first + m) (λ g. here g ∙ ap (λ (a : ℕ → ℕ). parity N a g) (sym (same m (omega arith))))
-            (earlier.rows row stored few checks first (λ i l. same i (omega arith)) s));
-      }
+-- a side of a checked plan as the code holds it
+module _ (r : CheckedPlan) (name : SideName) (code : SideCode) (held : code ≡ code_of (plan_in r.parts) name) where
+  abbrev plan : Plan
+  plan = plan_in r.parts
 
--- ---- both sides of an accepted plan
+  pub side-fits : Fitted code.d code.n plan.wiring
+  side-fits = rw held (plan-fits plan r.passed name)
 
--- the checks of a side, after those of the plan that come before them
-side-made : (plan : Plan) → plan_check plan ≡ done [] → (name : SideName) (code : SideCode) → code ≡ code_of plan name
-    → (columns left : List ℕ) (m : ℕ) → Eliminated (edge_count plan) name code plan.wiring m columns left → (first : ℕ)
-    → ((i : ℕ) → i < m → plan_checks plan (first + i) ≡ side_check (side_of plan name) i)
-    → Stores (edge_count plan) (after (edge_count plan) (plan_checks plan) first) columns
-    → Stores (edge_count plan) (after (edge_count plan) (plan_checks plan) (first + m)) left
-side-made plan accepted name code held columns left m made first same =
-    (rw held at made).rows (row_of (sheet_of plan name)) refl ((plan-sound plan accepted).0 name).count-high (plan_checks plan) first same
+  side-entries : code.n * code.d ≡ edge_count plan
+  side-entries = rw held (plan-whole plan r.passed name).entries
 
-pub solved-both : (l r : SideCode) {wiring : List ℕ} (units half whole : List ℕ) → Stores (l.n * l.d) (start (l.n * l.d)) units
-    → Eliminated (l.n * l.d) left l wiring (l.n * l.d) units half → Eliminated (l.n * l.d) right r wiring (l.n * l.d) half whole
-    → Solved l r wiring whole
+  permuted : Permuted (edge_count plan) plan.wiring
+  permuted = (plan-sound plan r.passed).1.permuted
+
+  module _ (residues : Bor (List ℕ)) (m : ℕ) (low : m < edge_count plan) where
+    pub side-within : edge_count plan ≤ 512 → Within (check_of name r.parts.wiring residues code.d m)
+    side-within = check-within r.parts.wiring residues side-fits side-entries permuted name m low
+
+    pub eliminated-one-more : UnitResidues code.basis code.k code.d residues.now → (columns so_far : List ℕ) → Eliminated plan name m columns so_far
+        → (next : List ℕ) → CheckMade (edge_count plan) (check_of name r.parts.wiring residues code.d m) so_far next
+        → Eliminated plan name (m + 1) columns next
+    eliminated-one-more units columns so_far earlier next made =
+        let masks = residues-masks (row_of (sheet_of plan name)) _ _ _ residues.now (rw held at units) refl ((plan-sound plan r.passed).0 name).count-high in
+        let entries = (plan-whole plan r.passed name).entries in
+        let value = check-value r.parts.wiring residues (plan-fits plan r.passed name) entries permuted name m low _ _ masks in
+        record {
+          rows = λ checks first same s.
+              rw (← add_assoc first m 1)
+              ((rw held at made).rows checks (first + m)
+              (λ g. value g ∙ ap (λ (a : ℕ → ℕ). parity (edge_count plan) a g) (sym (same m (omega arith))))
+              (earlier.rows checks first (λ i l. same i (omega arith)) s));
+        }
+
+  -- a check whose digit is in no residue leaves the rows as they are
+  pub eliminated-unused : (residues : List ℕ) (m : ℕ) → m < edge_count plan → edge_count plan ≤ 512 → UnitResidues code.basis code.k code.d residues
+      → (used : ℕ) → Uses code.d residues used → digit used (m % code.d) ≢ 1
+      → (columns so_far : List ℕ) → Eliminated plan name m columns so_far → Eliminated plan name (m + 1) columns so_far
+  eliminated-unused residues m low few units used uses other columns so_far earlier =
+      let lent : Bor (List ℕ) = record { ref_ptr = r.parts.wiring.ref_ptr; now = residues } in
+      let kept = made-unused _ few (check_of name r.parts.wiring lent code.d m) so_far used uses other in
+      eliminated-one-more lent m low units columns so_far earlier so_far kept
+
+-- ---- both sides
+
+pub solved-both : (plan : Plan) (units half whole : List ℕ) → Stores (edge_count plan) (start (edge_count plan)) units
+    → Eliminated plan left (edge_count plan) units half → Eliminated plan right (edge_count plan) half whole → Solved plan whole
 unfolding final_state plan_checks
-solved-both l r units half whole started first second =
-    record {
-      rows = λ plan accepted wired same.
-          let N = edge_count plan in
-          let edges : l.n * l.d ≡ N = rw (same left) in
-          let begun : Stores N (after N (plan_checks plan) 0) units = rw after-zero (rw edges at started) in
-          let left-done = side-made plan accepted left l (same left) units half N (rw (edges, ← wired) at first) 0
-          (λ i h. rw zero-add (check-left (side_of plan) i h)) begun in
-          let both-done = side-made plan accepted right r (same right) half whole N (rw (edges, ← wired) at second) N
-          (λ i h. check-past (side_of plan) i) (rw zero-add at left-done) in
-          let twice : N + N ≡ 2 * N = omega arith in
-          rw twice at both-done;
-    }
+solved-both plan units half whole started first second =
+    let N = edge_count plan in
+    let begun : Stores N (after N (plan_checks plan) 0) units = rw after-zero started in
+    let left-done = first.rows (plan_checks plan) 0 (λ i h. rw zero-add (check-left (side_of plan) i h)) begun in
+    let both-done = second.rows (plan_checks plan) N (λ i h. check-past (side_of plan) i) (rw zero-add at left-done) in
+    let twice : N + N ≡ 2 * N = omega arith in
+    rw twice at both-done
 
--- ---- an accepted plan
-
-module _ (plan : Plan) (r : CheckedPlan) (a : PlanAccepted plan r) where
-  pub plan-wired-by : Wired r.left.d r.right.d r.left.n r.right.n plan.wiring
-  plan-wired-by = rw (a.code_is left, a.code_is right) a.plan-wired
-
-  pub plan-stored : (columns : List ℕ) → r.left.n * r.left.d ≤ 512 → Solved r.left r.right plan.wiring columns
-      → StoredPlan plan (r.left.n * r.left.d) columns
-  plan-stored columns short solved =
-      record {
-        accepted = a.plan-done;
-        edges = accepted-edges a;
-        short = short;
-        stored = rw (accepted-edges a) (solved.rows plan a.plan-done refl go);
-      }
-    where
-      go : (name : SideName) → both_codes r.left r.right name ≡ code_of plan name
-      go SideName.Left = a.code_is left
-      go SideName.Right = a.code_is right
+-- the rows of a checked plan, by the number of edges that the code counts
+pub plan-stored : (r : CheckedPlan) (N : ℕ) → N ≡ edge_count (plan_in r.parts) → N ≤ 512 → (columns : List ℕ) → Solved (plan_in r.parts) columns
+    → StoredPlan (plan_in r.parts) N columns
+plan-stored r N edges short columns stored = record { accepted = r.passed; edges = edges; short = short; stored = rw edges stored }

@@ -2,16 +2,16 @@
 --   encode_answer, encode_output   the encoder: 1 to 10, 23, 19, 20, 21, 13, or no value; its output at exit
 --   read_answer, read_output       the reader: 1 to 10, 23, 19, 11, 12, 22, 13, or no value; its output at exit
 --   encode_reply, taken_reply      the paper's number, place and values for each case of an answer in the code
-use Rattle.std.specs.Prelude.{ℕ, List, [], not, length, ltb}
+use Rattle.std.specs.Prelude.{ℕ, List, [], not, length, ltb, Result}
 use Rattle.bits.specs.Bit.{written}
-use Rattle.inner_code.specs.Reply.{Reply, done, refused, refuse_if, and_then, if_done}
+use Rattle.inner_code.specs.Reply.{Reply, done, refuse_if, and_then, if_done}
+use Rattle.inner_code.specs.Refusal.{check_reply}
+use Rattle.inner_code.specs.declared.refusal.Refusal.{Refusal}
 use Rattle.wiring.specs.Plan.{Plan, edge_count, side_of}
 use Rattle.wiring.specs.Wiring.{plan_check}
 use Rattle.wiring.specs.Block.{block_bytes, block_check, is_codeword_block}
 use Rattle.messages.specs.Position.{message_bits}
 use Rattle.messages.specs.Message.{message_check, encoded_block, read_message}
-use Rattle.messages.specs.declared.encoder.Encoded.{Encoded}
-use Rattle.messages.specs.declared.reader.Taken.{Taken}
 
 unfoldable pub encode_answer : Plan → List ℕ → List ℕ → Reply
 unfolding and_then refuse_if plan_check message_bits block_bytes
@@ -38,10 +38,8 @@ unfoldable pub read_output : Plan → List ℕ → List ℕ → List ℕ
 unfolding if_done written read_answer read_message
 read_output plan block output = if_done (read_answer plan block output) (written (read_message plan block) output) output
 
-abbrev pub encode_reply : Encoded → Reply
-encode_reply Encoded.Done = done []
-encode_reply (Encoded.Refused r) = refused r.number r.place
+abbrev pub encode_reply : Result Unit Refusal → Reply
+encode_reply = check_reply
 
-abbrev pub taken_reply : Taken → Reply
-taken_reply Taken.Done = done []
-taken_reply (Taken.Refused r) = refused r.number r.place
+abbrev pub taken_reply : Result Unit Refusal → Reply
+taken_reply = check_reply

@@ -6,18 +6,17 @@
 --   UnitResidues basis k d residues entry i is what the first k rows of the basis leave of the word whose one digit is at edge i
 --   Uses d residues used            a digit that `used` does not have is in none of the first d residues
 --   Stores N s columns              the columns hold the rows of the state s
---   check_of name d m                check m of a side as the code holds it: the side, the first entry of the vertex, and the digit
---   Within d wiring check           the check's digit and all its bits are within their ranges
---   check_value i check wiring residues f          its value on the vector f, by the first i edges of the vertex
---   FailSet i check wiring residues columns hits  column 0 of `hits` is the set of the rows on which that is 1
+--   check_of name wiring residues d m  check m of a side as the code holds it
+--   Within check                    the check's digit and all its bits are within their ranges
+--   check_value i check f            its value on the vector f, by the first i edges of the vertex
+--   FailSet i check columns hits    column 0 of `hits` is the set of the rows on which that is 1
 --   lowest_row hits N                the lowest row of column 0, N where it has none below N
 --   Spread N p hits columns left    `left` is `columns` with row p put on every row of `hits`
 -- Of the columns before and after some checks of a side, whatever checks were made before them:
---   CheckMade N d check wiring residues columns left  `left` holds the rows after one check more, which has this check's value on every vector
---   side_from row code wiring name   the side that the code holds, `row` being its generator rows
---   Eliminated N name code wiring m columns left  `left` holds the rows after m checks more, those of a side in order
+--   CheckMade N check columns left  `left` holds the rows after one check more, which has this check's value on every vector
+--   Eliminated plan name m columns left  `left` holds the rows after m checks more, those of a side of the plan in order
 -- and of all checks:
---   Solved l r wiring columns       the columns hold the final rows of every accepted plan whose sides the codes l and r are
+--   Solved plan columns             the columns hold the final rows of the plan
 --   StoredPlan plan N columns       the columns hold the final rows of an accepted plan of N edges, at most 512
 --   live_before columns j            how many rows below j have a 1 at their own place: those that are left
 --   Chosen N columns message chosen column 0 of `chosen` is the set of the rows left whose bit in the message is 1
@@ -25,18 +24,16 @@
 --   BitsPut N chosen columns l left `left` is the byte string l with those bits at its places 0 .. N - 1
 --   bits_taken columns block j l     the byte string l with the block's bits at the rows left below j put at its front
 use Rattle.std.specs.Prelude.{ℕ, zero, suc, ◌+◌, ◌-◌, ◌*◌, ◌/◌, ◌%◌, ◌^◌, ◌≤◌, ◌<◌, min, cond, not, List, [], ◌≡◌, eqb, length, get_or, replicate}
+use Rattle.std.specs.Borrow.{Bor}
 use Rattle.std.specs.Int.Bits.{bit_xor}
 use Rattle.bits.specs.Window.{at}
 use Rattle.bits.specs.Bit.{digit, bit_at, with_bit}
 use Rattle.bits.specs.Sum.{sum}
 use Rattle.bits.specs.Search.{first_failing}
 use Rattle.inner_code.specs.Reply.{done}
-use Rattle.inner_code.specs.Reduction.{reduced_by, with_echelon}
-use Rattle.wiring.specs.Plan.{Plan, Side, edge_count, side_bit}
+use Rattle.inner_code.specs.Reduction.{reduced_by}
+use Rattle.wiring.specs.Plan.{Plan, edge_count, side_bit, side_of}
 use Rattle.wiring.specs.Wiring.{plan_check}
-use Rattle.wiring.specs.Access.{both_codes}
-use Rattle.wiring.specs.Checking.{code_of}
-use Rattle.wiring.specs.declared.side.SideCode.{SideCode}
 use Rattle.wiring.specs.declared.side.SideName.{SideName}
 use Rattle.messages.specs.Position.{bits_put}
 use Rattle.messages.specs.Elimination.{parity, State, after, side_check, final_state}
@@ -65,21 +62,21 @@ pub record Uses (d : ℕ) (residues : List ℕ) (used : ℕ) : Type 0 where
 pub record Stores (N : ℕ) (s : State) (columns : List ℕ) : Type 0 where
   pub bits : (p e : ℕ) → p < 512 → e < N → row_bit columns p e ≡ s.row p e
 
-abbrev pub check_of : SideName → ℕ → ℕ → Check
-check_of name d m = record { side = name; base = m / d * d; digit = m % d }
+abbrev pub check_of : SideName → Bor (List ℕ) → Bor (List ℕ) → ℕ → ℕ → Check
+check_of name w r c m = record { side = name; wiring = w; residues = r; d = c; base = m / c * c; digit = m % c }
 
-pub record Within (d : ℕ) (wiring : List ℕ) (check : Check) : Type 0 where
-  pub narrow : d ≤ 16
+pub record Within (check : Check) : Type 0 where
+  pub narrow : check.d ≤ 16
   pub digit_lt : check.digit < 16
-  pub sized : 2 * (check.base + d) ≤ length wiring
-  pub bit-lt : (i : ℕ) → i < d → side_bit check.side wiring (check.base + i) < 512
+  pub sized : 2 * (check.base + check.d) ≤ length check.wiring.now
+  pub bit-lt : (i : ℕ) → i < check.d → side_bit check.side check.wiring.now (check.base + i) < 512
 
-abbrev pub check_value : ℕ → Check → List ℕ → List ℕ → (ℕ → ℕ) → ℕ
-check_value i check wiring residues f =
-    parity i (λ x. digit (get_or residues x 0) check.digit) (λ x. f (side_bit check.side wiring (check.base + x)))
+abbrev pub check_value : ℕ → Check → (ℕ → ℕ) → ℕ
+check_value i check f =
+    parity i (λ x. digit (get_or check.residues.now x 0) check.digit) (λ x. f (side_bit check.side check.wiring.now (check.base + x)))
 
-pub record FailSet (i : ℕ) (check : Check) (wiring residues columns hits : List ℕ) : Type 0 where
-  pub bits : (p : ℕ) → p < 512 → row_bit hits p 0 ≡ check_value i check wiring residues (row_bit columns p)
+pub record FailSet (i : ℕ) (check : Check) (columns hits : List ℕ) : Type 0 where
+  pub bits : (p : ℕ) → p < 512 → row_bit hits p 0 ≡ check_value i check (row_bit columns p)
 
 unfoldable pub lowest_row : List ℕ → ℕ → ℕ
 unfolding first_failing row_bit
@@ -88,21 +85,17 @@ lowest_row hits N = first_failing N (λ p. not (eqb (row_bit hits p 0) 1))
 pub record Spread (N p : ℕ) (hits columns left : List ℕ) : Type 0 where
   pub bits : (q e : ℕ) → q < 512 → e < N → row_bit left q e ≡ bit_xor (row_bit columns q e) (row_bit hits q 0 * row_bit columns p e)
 
-pub record CheckMade (N d : ℕ) (check : Check) (wiring residues columns left : List ℕ) : Type 0 where
-  pub rows : (checks : ℕ → ℕ → ℕ) (m : ℕ) → ((f : ℕ → ℕ) → check_value d check wiring residues f ≡ parity N (checks m) f)
+pub record CheckMade (N : ℕ) (check : Check) (columns left : List ℕ) : Type 0 where
+  pub rows : (checks : ℕ → ℕ → ℕ) (m : ℕ) → ((f : ℕ → ℕ) → check_value check.d check f ≡ parity N (checks m) f)
       → Stores N (after N checks m) columns → Stores N (after N checks (m + 1)) left
 
-abbrev pub side_from : (ℕ → ℕ) → SideCode → List ℕ → SideName → Side
-side_from rows code wiring name = record { n = code.n; d = code.d; k = code.k; row = rows; bit = side_bit name wiring }
+pub record Eliminated (plan : Plan) (name : SideName) (m : ℕ) (columns left : List ℕ) : Type 0 where
+  pub rows : (checks : ℕ → ℕ → ℕ) (first : ℕ) → ((i : ℕ) → i < m → checks (first + i) ≡ side_check (side_of plan name) i)
+      → Stores (edge_count plan) (after (edge_count plan) checks first) columns
+      → Stores (edge_count plan) (after (edge_count plan) checks (first + m)) left
 
-pub record Eliminated (N : ℕ) (name : SideName) (code : SideCode) (wiring : List ℕ) (m : ℕ) (columns left : List ℕ) : Type 0 where
-  pub rows : (row : ℕ → ℕ) → code.basis ≡ with_echelon row code.k (replicate 11 0) → code.k ≤ 11
-      → (checks : ℕ → ℕ → ℕ) (first : ℕ) → ((i : ℕ) → i < m → checks (first + i) ≡ side_check (side_from row code wiring name) i)
-      → Stores N (after N checks first) columns → Stores N (after N checks (first + m)) left
-
-pub record Solved (l r : SideCode) (wiring columns : List ℕ) : Type 0 where
-  pub rows : (plan : Plan) → plan_check plan ≡ done [] → plan.wiring ≡ wiring → ((name : SideName) → both_codes l r name ≡ code_of plan name)
-      → Stores (edge_count plan) (final_state plan) columns
+abbrev pub Solved : Plan → List ℕ → Type 0
+Solved plan columns = Stores (edge_count plan) (final_state plan) columns
 
 pub record StoredPlan (plan : Plan) (N : ℕ) (columns : List ℕ) : Type 0 where
   pub accepted : plan_check plan ≡ done []

@@ -3,4 +3,3 @@ pub mod Message
 pub mod Answer
 pub mod Elimination
 pub mod Columns
-pub mod Service

@@ -36,7 +36,7 @@ pub(crate) fn add_column(from: &[u64], a: usize, to: &mut [u64], b: usize)
 }
 
 // The columns of the unit rows: row p has its one 1 at p.
-pub(crate) fn unit_columns(edges: usize, columns: &mut [u64])
+pub(crate) fn unit_columns(edges: usize, columns: &mut [u64; COLUMN_WORDS])
     requires edges_bound { edges ≤ 512 }
     requires columns_value { columns.old ≡ no_columns }
     ensures { Stores edges (start edges) columns.new }
@@ -47,9 +47,8 @@ pub(crate) fn unit_columns(edges: usize, columns: &mut [u64])
 }
 
 // How many of the first `edges` rows are left: those that have a 1 at their own place.
-pub(crate) fn count_live(edges: usize, columns: &[u64]) -> usize
-    requires edges_bound { edges ≤ 512 }
-    requires columns_len { length columns.now ≡ 4096 }
+pub(crate) fn count_live(edges: usize, columns: &[u64; COLUMN_WORDS]) -> usize
+    requires { edges ≤ 512 }
     ensures { result ≡ live_before columns.now edges }
 {
     let mut live = 0;

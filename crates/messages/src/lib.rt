@@ -7,5 +7,5 @@ mod output;
 mod reader;
 mod solver;
 
-pub use encoder::{Encoded, encode};
-pub use reader::{Taken, read_block};
+pub use encoder::encode;
+pub use reader::read_block;

@@ -2,7 +2,7 @@
 --   Received received                what is received of the sent block (specs Sent)
 --   settled_after plan received i     the received block, swept i times, is a codeword (decoder specs Decode)
 --   Restored ..                      what a decoder call is promised (radius specs Demand)
---   sweeps_of, is_unsettled            how a call ended (specs Outcome)
+--   sweeps_of                        how a call ended (specs Outcome)
 -- Names: `decode-` is about a call: its tests pass (-passed), and no row before 15 stops it (-free), so the guarantee holds of it
 -- (-restored); the limit is the count at which the block settles (-at), or one less (-before). `outcome-` reads an answer of the code.
 use mathlib.Core.Path.{◌≡◌}
@@ -18,13 +18,15 @@ use Rattle.wiring.specs.Square.{square_plan}
 use Rattle.spans.proofs.Checking.{spans-none}
 use Rattle.decoder.specs.Decode.{settled_after}
 use Rattle.decoder.specs.Answer.{decode_check, decode_answer, decode_reply}
-use Rattle.decoder.specs.declared.decoding.Decoded.{Decoded}
+use Rattle.std.proofs.Common.{Result, Ok, Err, refl, ap}
+use Rattle.inner_code.specs.Refusal.{number_of}
+use Rattle.inner_code.specs.declared.refusal.Refusal.{Refusal}
 use Rattle.decoder.proofs.Settling.{settles-at, settles-none, decode-settled, decode-unsettled}
 use Rattle.radius.specs.Demand.{stopped_before15, Restored}
 use Rattle.radius.proofs.Calls.{call-passed, call-free}
 use Rattle.radius.proofs.Guarantee.{demand3}
 use Rattle.restored.specs.Sent.{sent_block, Received}
-use Rattle.restored.specs.Outcome.{sweeps_of, is_unsettled}
+use Rattle.restored.specs.Outcome.{sweeps_of}
 use Rattle.restored.proofs.SquarePlan.{square-accepted, square-margin, square-room, sent-codeword, received-block, received-few}
 
 module _ {received : List ℕ} (r : Received received) (output : List ℕ) (room : length output ≡ 8) where
@@ -52,10 +54,41 @@ module _ {received : List ℕ} (r : Received received) (output : List ℕ) (room
 
 -- ---- answers of the code
 
-pub outcome-count : (decoded : Decoded) (count : ℕ) → decode_reply decoded ≡ done (count ∷ []) → sweeps_of decoded ≡ count
-outcome-count (Decoded.Settled answered) count e = cc
-outcome-count (Decoded.Refused r) count e = let z : ◌≡◌ {A = ℕ} 0 1 = cc in absurd (omega arith)
+pub outcome-count : (outcome : Result ℕ Refusal) (count : ℕ) → decode_reply outcome ≡ done (count ∷ []) → sweeps_of outcome ≡ count
+outcome-count (Ok answered) count e = cc
+outcome-count (Err r) count e = let z : ◌≡◌ {A = ℕ} 0 1 = cc in absurd (omega arith)
 
-pub outcome-unsettled : (decoded : Decoded) → decode_reply decoded ≡ refused 15 0 → is_unsettled decoded ≡ true
-outcome-unsettled (Decoded.Settled answered) e = let z : ◌≡◌ {A = ℕ} 0 1 = cc in absurd (omega arith)
-outcome-unsettled (Decoded.Refused r) e = let same : r.number ≡ 15 = cc in eq-eqb r.number 15 same
+-- refusal 15 is one alone
+fifteen : (r : Refusal) → number_of r ≡ 15 → r ≡ Refusal.Unsettled
+fifteen Refusal.SheetShort e = absurd (omega arith)
+fifteen Refusal.DegreeOutOfRange e = absurd (omega arith)
+fifteen Refusal.RowsOutOfRange e = absurd (omega arith)
+fifteen Refusal.SheetLengthWrong e = absurd (omega arith)
+fifteen (Refusal.RowTooLarge row) e = absurd (omega arith)
+fifteen (Refusal.RowDependent row) e = absurd (omega arith)
+fifteen Refusal.VerticesOutOfRange e = absurd (omega arith)
+fifteen Refusal.EdgeCountsDiffer e = absurd (omega arith)
+fifteen Refusal.WiringLengthWrong e = absurd (omega arith)
+fifteen (Refusal.EntryTooLarge entry) e = absurd (omega arith)
+fifteen (Refusal.EntryRepeated entry) e = absurd (omega arith)
+fifteen Refusal.BlockLengthWrong e = absurd (omega arith)
+fifteen Refusal.StrayBit e = absurd (omega arith)
+fifteen Refusal.SpansLengthWrong e = absurd (omega arith)
+fifteen Refusal.SpanOutOfBlock e = absurd (omega arith)
+fifteen Refusal.SpanOutOfOrder e = absurd (omega arith)
+fifteen Refusal.OutputShort e = absurd (omega arith)
+fifteen Refusal.LimitTooLarge e = absurd (omega arith)
+fifteen Refusal.Unsettled e = refl
+fifteen Refusal.ListShort e = absurd (omega arith)
+fifteen Refusal.FlipsTooMany e = absurd (omega arith)
+fifteen Refusal.FlipsNotCovered e = absurd (omega arith)
+fifteen Refusal.BitTooLarge e = absurd (omega arith)
+fifteen Refusal.SweepsSpent e = absurd (omega arith)
+fifteen Refusal.PlanTooLarge e = absurd (omega arith)
+fifteen Refusal.MessageLengthWrong e = absurd (omega arith)
+fifteen Refusal.MessageStrayBit e = absurd (omega arith)
+fifteen Refusal.NoCodeword e = absurd (omega arith)
+
+pub outcome-unsettled : (outcome : Result ℕ Refusal) → decode_reply outcome ≡ refused 15 0 → outcome ≡ Err Refusal.Unsettled
+outcome-unsettled (Ok answered) e = let z : ◌≡◌ {A = ℕ} 0 1 = cc in absurd (omega arith)
+outcome-unsettled (Err r) e = let same : number_of r ≡ 15 = cc in ap Err (fifteen r same)

@@ -1,29 +1,22 @@
 // How a decoder call ended.
-ghost use Rattle.std.specs.Prelude.{◌≡◌};
-ghost use Rattle.restored.specs.Outcome.{sweeps_of, is_unsettled};
+ghost use Rattle.std.specs.Prelude.{◌≡◌, ◌↔◌, IsTrue, Err};
+ghost use Rattle.restored.specs.Outcome.{sweeps_of};
 
-use decoder::Decoded;
-use inner_code::refusal;
+use inner_code::Refusal;
 
 // More sweeps than a call may allow.
 const NEVER: usize = 4097;
 
 // The sweeps after which the block settled; more than a call may allow where the call was refused.
-pub fn sweeps(decoded: Decoded) -> usize
-    ensures { result ≡ sweeps_of decoded }
+pub fn sweeps(outcome: Result<usize, Refusal>) -> usize
+    ensures { result ≡ sweeps_of outcome }
 {
-    match decoded {
-        Decoded::Settled(count) => count,
-        Decoded::Refused(_) => NEVER,
-    }
+    outcome.unwrap_or(NEVER)
 }
 
 // The call was refused because the block did not settle within its limit.
-pub fn is_unsettled(decoded: Decoded) -> bool
-    ensures { result ≡ is_unsettled decoded }
+pub fn is_unsettled(outcome: Result<usize, Refusal>) -> bool
+    ensures { IsTrue result ↔ (outcome ≡ Err Refusal.Unsettled) }
 {
-    match decoded {
-        Decoded::Settled(_) => false,
-        Decoded::Refused(r) => r.number == refusal::UNSETTLED,
-    }
+    outcome == Err(Refusal::Unsettled)
 }

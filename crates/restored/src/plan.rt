@@ -4,20 +4,24 @@ ghost use Rattle.wiring.specs.Square.{square_wiring, square_plan};
 ghost use Rattle.decoder.specs.Answer.{decode_answer, decode_output, decode_reply};
 ghost use Rattle.restored.specs.Sent.{sent_block};
 
-use decoder::Decoded;
+use inner_code::Refusal;
+use wiring::PlanParts;
 
 // The decoder on the square plan, where no bit is lost.
-pub fn decode(received: &[u8], output: &mut [u8], limit: usize) -> Decoded
+pub fn decode(received: &[u8], output: &mut [u8], limit: usize) -> Result<usize, Refusal>
     ensures result_value { decode_reply result ≡ decode_answer square_plan received.now [] output.old limit }
     ensures output_after { output.new ≡ decode_output square_plan received.now [] output.old limit }
 {
     let sheet = inner_code::HouseCode::sheet();
     let wiring = square_wiring();
-    let none = [0u8; 0];
-    let decoding = decoder::decode(
-        &sheet, &sheet, 8, 8, &wiring, received, &none, output, limit,
-    );
-    decoding.outcome
+    let plan = PlanParts {
+        left_sheet: &sheet,
+        right_sheet: &sheet,
+        nl: 8,
+        nr: 8,
+        wiring: &wiring,
+    };
+    decoder::decode(plan, received, &[], output, limit).outcome
 }
 
 // The square plan's wiring: n = d = 8, entry v * 8 + j is edge 8 * j + v.

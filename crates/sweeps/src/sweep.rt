@@ -5,20 +5,19 @@
 ghost use Rattle.std.specs.Prelude.{true, false, cond, eqb, List, [], ◌≡◌, ℕ, ◌^◌, ◌≤◌, ◌<◌, length};
 ghost use Rattle.inner_code.specs.Sheet.{degree};
 ghost use Rattle.finder.specs.Finding.{Finds, Found, codeword_by};
-ghost use Rattle.inner_code.specs.Reply.{done};
-ghost use Rattle.wiring.specs.Plan.{Plan, plan_of, sheet_of, count_of, side_by, side_of};
+ghost use Rattle.wiring.specs.Plan.{sheet_of, count_of, side_by, side_of};
+ghost use Rattle.wiring.specs.PlanParts.{plan_in};
 ghost use Rattle.wiring.specs.Block.{vertex_word, satisfied, is_codeword_block};
 ghost use Rattle.bits.specs.Window.{at};
 ghost use Rattle.wiring.specs.declared.side.SideName.{SideName};
-ghost use Rattle.wiring.specs.Wiring.{plan_check};
 ghost use Rattle.sweeps.specs.Sweeping.{Ready, SideReady, SideSwept, VisitedAt, Hears, NewsSwept};
 ghost use Rattle.words.specs.Words.{WordsRead};
 ghost use Rattle.wiring.specs.Places.{Across};
 ghost use Rattle.words.specs.Marks.{Listening};
-ghost use Rattle.wiring.specs.Access.{sheet_for, count_for};
+ghost use Rattle.wiring.specs.Access.{sheet_for};
 
 use inner_code::Step;
-use wiring::{SideName, Vertex};
+use wiring::{CheckedPlan, SideName, Vertex};
 use words::{KEPT, left_word, news_of, numbers_of, put_pattern, put_told};
 
 // What a sweep tells: how many bits it changed, and at how many vertices it left a tie. Every other vertex of its side now reads a codeword.
@@ -65,33 +64,24 @@ pub struct News {
 
 // The second sweep, of every vertex of the right side, by the words that they read, with a finder for the right sheet.
 fn sweep_second(
-    left: &[u8],
-    right: &[u8],
-    nl: usize,
-    nr: usize,
-    wiring: &[u8],
+    plan: &CheckedPlan<'_>,
     finder: &mut [u16],
     kept: &mut [u16; KEPT],
     block: &mut [u8],
 ) -> Tally
-    requires plan_value { let plan : Plan = plan_of left.now right.now nl nr wiring.now in plan_check plan ≡ done [] }
-    requires finds { Finds right.now finder.old }
-    requires listening { let plan : Plan = plan_of left.now right.now nl nr wiring.now in Listening plan SideName.Right block.old block.old kept.old }
-    ensures side_swept { let plan : Plan = plan_of left.now right.now nl nr wiring.now in SideSwept (side_of plan SideName.Right) block.old result block.new }
-    ensures still_finds { Finds right.now finder.new }
-    ensures listening_left { let plan : Plan = plan_of left.now right.now nl nr wiring.now in Listening plan SideName.Left block.old block.new kept.new }
+    requires finds { Finds plan.now.parts.right_sheet.now finder.old }
+    requires listening { Listening (plan_in plan.now.parts) SideName.Right block.old block.old kept.old }
+    ensures side_swept { SideSwept (side_of (plan_in plan.now.parts) SideName.Right) block.old result block.new }
+    ensures still_finds { Finds plan.now.parts.right_sheet.now finder.new }
+    ensures listening_left { Listening (plan_in plan.now.parts) SideName.Left block.old block.new kept.new }
 {
     let none = [0u16; 0];
     let mut changed = 0;
     let mut ties = 0;
-    for v in 0..nr {
+    for v in 0..plan.parts.nr {
         if !finder::is_codeword(finder, kept[v]) {
             let bits = visit(
-                left,
-                right,
-                nl,
-                nr,
-                wiring,
+                plan,
                 Vertex {
                     side: SideName::Right,
                     v,
@@ -111,35 +101,27 @@ fn sweep_second(
 // The second sweep of a checked plan, with the finder of the right side; where there is none, both sides have the left sheet, and its finder
 // serves both.
 pub fn sweep_right(
-    left: &[u8],
-    right: &[u8],
-    nl: usize,
-    nr: usize,
-    wiring: &[u8],
+    plan: &CheckedPlan<'_>,
     left_finder: &mut [u16],
     right_finder: &mut [u16],
     kept: &mut [u16; KEPT],
     block: &mut [u8],
 ) -> Tally
-    requires ready { let plan : Plan = plan_of left.now right.now nl nr wiring.now in Ready plan left_finder.old right_finder.old }
-    requires listening { let plan : Plan = plan_of left.now right.now nl nr wiring.now in Listening plan SideName.Right block.old block.old kept.old }
-    ensures side_swept { let plan : Plan = plan_of left.now right.now nl nr wiring.now in SideSwept (side_of plan SideName.Right) block.old result block.new }
-    ensures still_ready { let plan : Plan = plan_of left.now right.now nl nr wiring.now in Ready plan left_finder.new right_finder.new }
-    ensures listening_left { let plan : Plan = plan_of left.now right.now nl nr wiring.now in Listening plan SideName.Left block.old block.new kept.new }
+    requires ready { Ready (plan_in plan.now.parts) left_finder.old right_finder.old }
+    requires listening { Listening (plan_in plan.now.parts) SideName.Right block.old block.old kept.old }
+    ensures side_swept { SideSwept (side_of (plan_in plan.now.parts) SideName.Right) block.old result block.new }
+    ensures still_ready { Ready (plan_in plan.now.parts) left_finder.new right_finder.new }
+    ensures listening_left { Listening (plan_in plan.now.parts) SideName.Left block.old block.new kept.new }
 {
     if right_finder.len() == 0 {
-        return sweep_second(left, right, nl, nr, wiring, left_finder, kept, block);
+        return sweep_second(plan, left_finder, kept, block);
     }
-    sweep_second(left, right, nl, nr, wiring, right_finder, kept, block)
+    sweep_second(plan, right_finder, kept, block)
 }
 
 // A later sweep of a checked plan, of the side that is named: with its finder, or the left one where it serves both.
 pub fn sweep_turn(
-    left: &[u8],
-    right: &[u8],
-    nl: usize,
-    nr: usize,
-    wiring: &[u8],
+    plan: &CheckedPlan<'_>,
     left_finder: &mut [u16],
     right_finder: &mut [u16],
     side: SideName,
@@ -147,79 +129,39 @@ pub fn sweep_turn(
     kept: &mut [u16; KEPT],
     block: &mut [u8],
 ) -> News
-    requires ready { let plan : Plan = plan_of left.now right.now nl nr wiring.now in Ready plan left_finder.old right_finder.old }
-    requires across { Across wiring.now side places.now }
-    requires hears { let plan : Plan = plan_of left.now right.now nl nr wiring.now in Hears plan side block.old kept.old }
-    ensures news_swept { let plan : Plan = plan_of left.now right.now nl nr wiring.now in NewsSwept plan side block.old kept.old result block.new kept.new }
-    ensures still_ready { let plan : Plan = plan_of left.now right.now nl nr wiring.now in Ready plan left_finder.new right_finder.new }
+    requires ready { Ready (plan_in plan.now.parts) left_finder.old right_finder.old }
+    requires across { Across plan.now.parts.wiring.now side places.now }
+    requires hears { Hears (plan_in plan.now.parts) side block.old kept.old }
+    ensures news_swept { NewsSwept (plan_in plan.now.parts) side block.old kept.old result block.new kept.new }
+    ensures still_ready { Ready (plan_in plan.now.parts) left_finder.new right_finder.new }
 {
     match side {
-        SideName::Left => {
-            sweep_news(
-                left,
-                right,
-                nl,
-                nr,
-                wiring,
-                side,
-                left_finder,
-                places,
-                kept,
-                block,
-            )
-        }
+        SideName::Left => sweep_news(plan, side, left_finder, places, kept, block),
         SideName::Right => {
             if right_finder.len() == 0 {
-                return sweep_news(
-                    left,
-                    right,
-                    nl,
-                    nr,
-                    wiring,
-                    side,
-                    left_finder,
-                    places,
-                    kept,
-                    block,
-                );
+                return sweep_news(plan, side, left_finder, places, kept, block);
             }
-            sweep_news(
-                left,
-                right,
-                nl,
-                nr,
-                wiring,
-                side,
-                right_finder,
-                places,
-                kept,
-                block,
-            )
+            sweep_news(plan, side, right_finder, places, kept, block)
         }
     }
 }
 
 // Visits the vertices of a side that have news, in their order. Their marks are taken off, sixteen at a time.
 fn sweep_news(
-    left: &[u8],
-    right: &[u8],
-    nl: usize,
-    nr: usize,
-    wiring: &[u8],
+    plan: &CheckedPlan<'_>,
     side: SideName,
     finder: &mut [u16],
     places: &[u16],
     kept: &mut [u16; KEPT],
     block: &mut [u8],
 ) -> News
-    requires plan_value { let plan : Plan = plan_of left.now right.now nl nr wiring.now in plan_check plan ≡ done [] }
-    requires finds { let plan : Plan = plan_of left.now right.now nl nr wiring.now in Finds (sheet_of plan side) finder.old }
-    requires across { Across wiring.now side places.now }
-    requires hears { let plan : Plan = plan_of left.now right.now nl nr wiring.now in Hears plan side block.old kept.old }
-    ensures news_swept { let plan : Plan = plan_of left.now right.now nl nr wiring.now in NewsSwept plan side block.old kept.old result block.new kept.new }
-    ensures still_finds { let plan : Plan = plan_of left.now right.now nl nr wiring.now in Finds (sheet_of plan side) finder.new }
+    requires finds { Finds (sheet_of (plan_in plan.now.parts) side) finder.old }
+    requires across { Across plan.now.parts.wiring.now side places.now }
+    requires hears { Hears (plan_in plan.now.parts) side block.old kept.old }
+    ensures news_swept { NewsSwept (plan_in plan.now.parts) side block.old kept.old result block.new kept.new }
+    ensures still_finds { Finds (sheet_of (plan_in plan.now.parts) side) finder.new }
 {
-    let numbers = numbers_of(count_of(side, nl, nr));
+    let numbers = numbers_of(plan.side(side).n);
     let from = news_of(side);
     let mut changed = 0;
     let mut visits: u64 = 0;
@@ -230,18 +172,7 @@ fn sweep_news(
         while rest != 0 {
             let high = bits::highest(rest);
             let v = 16 * i + (15 - high);
-            let bits = visit(
-                left,
-                right,
-                nl,
-                nr,
-                wiring,
-                Vertex { side, v },
-                finder,
-                places,
-                kept,
-                block,
-            );
+            let bits = visit(plan, Vertex { side, v }, finder, places, kept, block);
             changed += bits as usize;
             visits += 1;
             rest = rest - bits::power(high);
@@ -250,78 +181,48 @@ fn sweep_news(
     News { changed, visits }
 }
 
-// The number of vertices of a side.
-fn count_of(side: SideName, nl: usize, nr: usize) -> usize
-    ensures { result ≡ count_for side nl nr }
-{
-    match side {
-        SideName::Left => nl,
-        SideName::Right => nr,
-    }
-}
-
 // Visits a vertex: puts the nearest word there, and tells how many bits that changes.
 fn visit(
-    left: &[u8],
-    right: &[u8],
-    nl: usize,
-    nr: usize,
-    wiring: &[u8],
+    plan: &CheckedPlan<'_>,
     vertex: Vertex,
     finder: &mut [u16],
     places: &[u16],
     kept: &mut [u16; KEPT],
     block: &mut [u8],
 ) -> u32
-    requires plan_value { let plan : Plan = plan_of left.now right.now nl nr wiring.now in plan_check plan ≡ done [] }
-    requires v_bound { let plan : Plan = plan_of left.now right.now nl nr wiring.now in vertex.v < count_of plan vertex.side }
-    requires finds { let plan : Plan = plan_of left.now right.now nl nr wiring.now in Finds (sheet_of plan vertex.side) finder.old }
-    requires across { Across wiring.now vertex.side places.now }
-    requires words_read { let plan : Plan = plan_of left.now right.now nl nr wiring.now in WordsRead (side_of plan SideName.Right) block.old kept.old }
-    ensures visited_at { let plan : Plan = plan_of left.now right.now nl nr wiring.now in VisitedAt plan vertex.side vertex.v result block.old kept.old block.new kept.new }
-    ensures still_finds { let plan : Plan = plan_of left.now right.now nl nr wiring.now in Finds (sheet_of plan vertex.side) finder.new }
+    requires v_bound { vertex.v < count_of (plan_in plan.now.parts) vertex.side }
+    requires finds { Finds (sheet_of (plan_in plan.now.parts) vertex.side) finder.old }
+    requires across { Across plan.now.parts.wiring.now vertex.side places.now }
+    requires words_read { WordsRead (side_of (plan_in plan.now.parts) SideName.Right) block.old kept.old }
+    ensures visited_at { VisitedAt (plan_in plan.now.parts) vertex.side vertex.v result block.old kept.old block.new kept.new }
+    ensures still_finds { Finds (sheet_of (plan_in plan.now.parts) vertex.side) finder.new }
 {
-    let word = word_of(left, right, nl, nr, wiring, vertex, kept, block);
+    let word = word_of(plan, vertex, kept, block);
     if finder::is_codeword(finder, word) {
         return 0;
     }
     let side = vertex.side;
-    let step = nearest_on(left, right, side, finder, word);
-    put_told(
-        left,
-        right,
-        nl,
-        nr,
-        wiring,
-        vertex,
-        word ^ step.word,
-        places,
-        kept,
-        block,
+    let step = nearest_on(
+        plan.parts.left_sheet,
+        plan.parts.right_sheet,
+        side,
+        finder,
+        word,
     );
+    put_told(plan, vertex, word ^ step.word, places, kept, block);
     step.changed
 }
 
 // The word that a vertex reads: a left one's stands in the block, a right one's is kept.
-fn word_of(
-    left: &[u8],
-    right: &[u8],
-    nl: usize,
-    nr: usize,
-    wiring: &[u8],
-    vertex: Vertex,
-    kept: &[u16; KEPT],
-    block: &[u8],
-) -> u16
-    requires plan_value { let plan : Plan = plan_of left.now right.now nl nr wiring.now in plan_check plan ≡ done [] }
-    requires v_bound { let plan : Plan = plan_of left.now right.now nl nr wiring.now in vertex.v < count_of plan vertex.side }
-    requires words_read { let plan : Plan = plan_of left.now right.now nl nr wiring.now in WordsRead (side_of plan SideName.Right) block.now kept.now }
-    ensures { let plan : Plan = plan_of left.now right.now nl nr wiring.now in result ≡ vertex_word (side_of plan vertex.side) block.now vertex.v }
+fn word_of(plan: &CheckedPlan<'_>, vertex: Vertex, kept: &[u16; KEPT], block: &[u8]) -> u16
+    requires v_bound { vertex.v < count_of (plan_in plan.now.parts) vertex.side }
+    requires words_read { WordsRead (side_of (plan_in plan.now.parts) SideName.Right) block.now kept.now }
+    ensures { result ≡ vertex_word (side_of (plan_in plan.now.parts) vertex.side) block.now vertex.v }
 {
     let side = vertex.side;
     let v = vertex.v;
     match side {
-        SideName::Left => left_word(block, v, left[0] as usize),
+        SideName::Left => left_word(block, v, plan.left.d),
         SideName::Right => kept[v],
     }
 }
@@ -364,27 +265,23 @@ pub fn all_codewords(sheet: &[u8], n: usize, finder: &[u16], block: &[u8]) -> bo
 
 // Whether every vertex of both sides reads a codeword.
 pub fn all_satisfied(
-    left: &[u8],
-    right: &[u8],
-    nl: usize,
-    nr: usize,
-    wiring: &[u8],
+    plan: &CheckedPlan<'_>,
     left_finder: &[u16],
     right_finder: &[u16],
     kept: &[u16; KEPT],
     block: &[u8],
 ) -> bool
-    requires ready { let plan : Plan = plan_of left.now right.now nl nr wiring.now in Ready plan left_finder.now right_finder.now }
-    requires words_read { let plan : Plan = plan_of left.now right.now nl nr wiring.now in WordsRead (side_of plan SideName.Right) block.now kept.now }
-    ensures { let plan : Plan = plan_of left.now right.now nl nr wiring.now in result ≡ is_codeword_block (side_of plan) block.now }
+    requires ready { Ready (plan_in plan.now.parts) left_finder.now right_finder.now }
+    requires words_read { WordsRead (side_of (plan_in plan.now.parts) SideName.Right) block.now kept.now }
+    ensures { result ≡ is_codeword_block (side_of (plan_in plan.now.parts)) block.now }
 {
-    if !all_codewords(left, nl, left_finder, block) {
+    if !all_codewords(plan.parts.left_sheet, plan.parts.nl, left_finder, block) {
         return false;
     }
     if right_finder.len() == 0 {
-        return kept_codewords(nr, left_finder, kept);
+        return kept_codewords(plan.parts.nr, left_finder, kept);
     }
-    kept_codewords(nr, right_finder, kept)
+    kept_codewords(plan.parts.nr, right_finder, kept)
 }
 
 // Whether the first n of the words kept are codewords.

@@ -2,16 +2,9 @@
 use crate::input::SPACE;
 use crate::service::Service;
 use crate::{input, output};
-use decoder::Decoded;
-use inner_code::Nearest;
-use meetings::Spread;
-use messages::{Encoded, Taken};
-use panel::Shown;
-use radius::Margin;
-use report::Reported;
+use inner_code::{Refusal, Step};
 use std::io;
-use tables::Built;
-use wiring::{Located, SideName};
+use wiring::{PlanParts, SideName};
 
 // Reads the fields of a record and writes what the service answers. The service says which fields there are, so it is looked at before any is read.
 pub fn answer(rt: &impl Print, from: &mut impl io::Read, service: Service) -> io::Result<()> {
@@ -43,16 +36,14 @@ fn read_plan(rt: &impl Print, from: &mut impl io::Read, service: Service) -> io:
     let nr = input::number(from)?;
     let mut wiring_space = [0u8; SPACE];
     let wiring = input::bytes(from, &mut wiring_space)?;
-    on_plan(
-        rt,
-        from,
-        service,
-        &left_space[..left],
-        &right_space[..right],
-        nl as usize,
-        nr as usize,
-        &wiring_space[..wiring],
-    )
+    let plan = PlanParts {
+        left_sheet: &left_space[..left],
+        right_sheet: &right_space[..right],
+        nl: nl as usize,
+        nr: nr as usize,
+        wiring: &wiring_space[..wiring],
+    };
+    on_plan(rt, from, service, plan)
 }
 
 // The services that take a plan.
@@ -60,19 +51,15 @@ fn on_plan(
     rt: &impl Print,
     from: &mut impl io::Read,
     service: Service,
-    left: &[u8],
-    right: &[u8],
-    nl: usize,
-    nr: usize,
-    wiring: &[u8],
+    plan: PlanParts<'_>,
 ) -> io::Result<()> {
     match service {
-        Service::Piece => piece(rt, from, left, right, nl, nr, wiring),
-        Service::Spread => spread(rt, left, right, nl, nr, wiring),
-        Service::Margin => margin(rt, from, left, right, nl, nr, wiring),
-        Service::Sweep => sweep(rt, from, left, right, nl, nr, wiring),
-        Service::SetBit => set_bit(rt, from, left, right, nl, nr, wiring),
-        _ => read_block(rt, from, service, left, right, nl, nr, wiring),
+        Service::Piece => piece(rt, from, plan),
+        Service::Spread => number(rt, meetings::plan_spread(plan)),
+        Service::Margin => margin(rt, from, plan),
+        Service::Sweep => sweep(rt, from, plan),
+        Service::SetBit => set_bit(rt, from, plan),
+        _ => read_block(rt, from, service, plan),
     }
 }
 
@@ -81,27 +68,13 @@ fn read_block(
     rt: &impl Print,
     from: &mut impl io::Read,
     service: Service,
-    left: &[u8],
-    right: &[u8],
-    nl: usize,
-    nr: usize,
-    wiring: &[u8],
+    plan: PlanParts<'_>,
 ) -> io::Result<()> {
     let mut space = [0u8; SPACE];
     let block = input::bytes(from, &mut space)?;
     match service {
-        Service::Locate => locate(rt, left, right, nl, nr, wiring, &space[..block]),
-        _ => on_block(
-            rt,
-            from,
-            service,
-            left,
-            right,
-            nl,
-            nr,
-            wiring,
-            &space[..block],
-        ),
+        Service::Locate => locate(rt, plan, &space[..block]),
+        _ => on_block(rt, from, service, plan, &space[..block]),
     }
 }
 
@@ -110,380 +83,210 @@ fn on_block(
     rt: &impl Print,
     from: &mut impl io::Read,
     service: Service,
-    left: &[u8],
-    right: &[u8],
-    nl: usize,
-    nr: usize,
-    wiring: &[u8],
+    plan: PlanParts<'_>,
     block: &[u8],
 ) -> io::Result<()> {
     let mut space = [0u8; SPACE];
     let second = input::bytes(from, &mut space)?;
     match service {
-        Service::Report => report(
-            rt,
-            from,
-            left,
-            right,
-            nl,
-            nr,
-            wiring,
-            block,
-            &space[..second],
-        ),
-        Service::Decode => decode_around(
-            rt,
-            from,
-            left,
-            right,
-            nl,
-            nr,
-            wiring,
-            block,
-            &space[..second],
-        ),
-        Service::Load => load(rt, left, right, nl, nr, wiring, block, &mut space[..second]),
-        Service::Encode => encode(rt, left, right, nl, nr, wiring, block, &mut space[..second]),
-        _ => read(rt, left, right, nl, nr, wiring, block, &mut space[..second]),
+        Service::Report => report(rt, from, plan, block, &space[..second]),
+        Service::Decode => decode_around(rt, from, plan, block, &space[..second]),
+        Service::Load => load(rt, plan, block, &mut space[..second]),
+        Service::Encode => encode(rt, plan, block, &mut space[..second]),
+        _ => read(rt, plan, block, &mut space[..second]),
     }
 }
 
+// `ok`, or the refusal.
+fn done(rt: &impl Print, answer: Result<(), Refusal>) -> io::Result<()> {
+    match answer {
+        Ok(()) => print!(rt; "ok"),
+        Err(refusal) => print!(rt; "{refusal}"),
+    }
+}
+
+// A number, or the refusal.
+fn number(rt: &impl Print, answer: Result<u64, Refusal>) -> io::Result<()> {
+    match answer {
+        Ok(value) => print!(rt; "ok {value}"),
+        Err(refusal) => print!(rt; "{refusal}"),
+    }
+}
+
+// A word and the number of bits changed, or the refusal.
+fn word(rt: &impl Print, answer: Result<Step, Refusal>) -> io::Result<()> {
+    match answer {
+        Ok(step) => print!(rt; "ok {} {}", step.word, step.changed),
+        Err(refusal) => print!(rt; "{refusal}"),
+    }
+}
+
+// What stands in a lent buffer after the call.
+fn left_in(rt: &impl Print, buffer: &[u8]) -> io::Result<()> {
+    print!(rt; " ")?;
+    output::bytes(rt, buffer)
+}
+
 fn nearest(rt: &impl Print, from: &mut impl io::Read, sheet: &[u8]) -> io::Result<()> {
-    let word = input::number(from)?;
-    word_line(rt, inner_code::nearest_word(sheet, word))
+    let given = input::number(from)?;
+    word(rt, inner_code::nearest_word(sheet, given))
 }
 
 fn build(rt: &impl Print, from: &mut impl io::Read, sheet: &[u8]) -> io::Result<()> {
     let mut space = [0u8; SPACE];
-    let table = input::bytes(from, &mut space)?;
-    build_into(rt, sheet, &mut space[..table])
+    let size = input::bytes(from, &mut space)?;
+    build_into(rt, sheet, &mut space[..size])
 }
 
 fn build_into(rt: &impl Print, sheet: &[u8], table: &mut [u8]) -> io::Result<()> {
-    match tables::build_table(sheet, table) {
-        Built::Done => print!(rt; "ok")?,
-        Built::Refused(r) => output::refused(rt, r.number, r.place)?,
-    }
-    print!(rt; " ")?;
-    output::bytes(rt, table)
+    done(rt, tables::build_table(sheet, table))?;
+    left_in(rt, table)
 }
 
 fn look_up(rt: &impl Print, from: &mut impl io::Read, sheet: &[u8]) -> io::Result<()> {
-    let word = input::number(from)?;
+    let given = input::number(from)?;
     let mut space = [0u8; SPACE];
     let table = input::bytes(from, &mut space)?;
-    word_line(rt, tables::look_up(sheet, word, &space[..table]))
+    word(rt, tables::look_up(sheet, given, &space[..table]))
 }
 
-// A word and the number of bits changed, or the refusal.
-fn word_line(rt: &impl Print, answer: Nearest) -> io::Result<()> {
-    match answer {
-        Nearest::Word { word, changed } => print!(rt; "ok {word} {changed}"),
-        Nearest::Refused(r) => output::refused(rt, r.number, r.place),
-    }
-}
-
-fn piece(
-    rt: &impl Print,
-    from: &mut impl io::Read,
-    left: &[u8],
-    right: &[u8],
-    nl: usize,
-    nr: usize,
-    wiring: &[u8],
-) -> io::Result<()> {
+fn piece(rt: &impl Print, from: &mut impl io::Read, plan: PlanParts<'_>) -> io::Result<()> {
     let v = input::number(from)?;
     print!(rt; "piece ")?;
-    output::bytes(
-        rt,
-        wiring::piece_of(left, right, nl, nr, wiring, v as usize),
-    )
+    output::bytes(rt, wiring::piece_of(plan, v as usize))
 }
 
-fn locate(
-    rt: &impl Print,
-    left: &[u8],
-    right: &[u8],
-    nl: usize,
-    nr: usize,
-    wiring: &[u8],
-    block: &[u8],
-) -> io::Result<()> {
-    match wiring::locate(left, right, nl, nr, wiring, block) {
-        Located::Nowhere => print!(rt; "ok none"),
-        Located::At { side, vertex } => match side {
-            SideName::Left => print!(rt; "ok left {vertex}"),
-            SideName::Right => print!(rt; "ok right {vertex}"),
+fn locate(rt: &impl Print, plan: PlanParts<'_>, block: &[u8]) -> io::Result<()> {
+    match wiring::locate(plan, block) {
+        Ok(None) => print!(rt; "ok none"),
+        Ok(Some(vertex)) => match vertex.side {
+            SideName::Left => print!(rt; "ok left {}", vertex.v),
+            SideName::Right => print!(rt; "ok right {}", vertex.v),
         },
-        Located::Refused(r) => output::refused(rt, r.number, r.place),
+        Err(refusal) => print!(rt; "{refusal}"),
     }
 }
 
 fn report(
     rt: &impl Print,
     from: &mut impl io::Read,
-    left: &[u8],
-    right: &[u8],
-    nl: usize,
-    nr: usize,
-    wiring: &[u8],
+    plan: PlanParts<'_>,
     received: &[u8],
     settled: &[u8],
 ) -> io::Result<()> {
     let mut space = [0u8; SPACE];
-    let list = input::bytes(from, &mut space)?;
-    report_into(
-        rt,
-        left,
-        right,
-        nl,
-        nr,
-        wiring,
-        received,
-        settled,
-        &mut space[..list],
-    )
+    let size = input::bytes(from, &mut space)?;
+    report_into(rt, plan, received, settled, &mut space[..size])
 }
 
 fn report_into(
     rt: &impl Print,
-    left: &[u8],
-    right: &[u8],
-    nl: usize,
-    nr: usize,
-    wiring: &[u8],
+    plan: PlanParts<'_>,
     received: &[u8],
     settled: &[u8],
     list: &mut [u8],
 ) -> io::Result<()> {
-    match report::report_runs(left, right, nl, nr, wiring, received, settled, list) {
-        Reported::Pairs(pairs) => print!(rt; "ok {pairs}")?,
-        Reported::Refused(r) => output::refused(rt, r.number, r.place)?,
+    match report::report_runs(plan, received, settled, list) {
+        Ok(pairs) => print!(rt; "ok {pairs}")?,
+        Err(refusal) => print!(rt; "{refusal}")?,
     }
-    print!(rt; " ")?;
-    output::bytes(rt, list)
+    left_in(rt, list)
 }
 
-fn spread(
-    rt: &impl Print,
-    left: &[u8],
-    right: &[u8],
-    nl: usize,
-    nr: usize,
-    wiring: &[u8],
-) -> io::Result<()> {
-    match meetings::plan_spread(left, right, nl, nr, wiring) {
-        Spread::Value(value) => print!(rt; "ok {value}"),
-        Spread::Refused(r) => output::refused(rt, r.number, r.place),
-    }
-}
-
-fn margin(
-    rt: &impl Print,
-    from: &mut impl io::Read,
-    left: &[u8],
-    right: &[u8],
-    nl: usize,
-    nr: usize,
-    wiring: &[u8],
-) -> io::Result<()> {
+fn margin(rt: &impl Print, from: &mut impl io::Read, plan: PlanParts<'_>) -> io::Result<()> {
     let flips = input::number(from)?;
-    match radius::margin_sweeps(left, right, nl, nr, wiring, flips) {
-        Margin::Sweeps(sweeps) => print!(rt; "ok {sweeps}"),
-        Margin::Refused(r) => output::refused(rt, r.number, r.place),
-    }
+    number(rt, radius::margin_sweeps(plan, flips))
 }
 
 // The fields of the decoder behind the lost spans.
 fn decode_around(
     rt: &impl Print,
     from: &mut impl io::Read,
-    left: &[u8],
-    right: &[u8],
-    nl: usize,
-    nr: usize,
-    wiring: &[u8],
+    plan: PlanParts<'_>,
     received: &[u8],
     lost: &[u8],
 ) -> io::Result<()> {
     let mut space = [0u8; SPACE];
-    let lent = input::bytes(from, &mut space)?;
+    let size = input::bytes(from, &mut space)?;
     let limit = input::number(from)?;
     decode(
         rt,
-        left,
-        right,
-        nl,
-        nr,
-        wiring,
+        plan,
         received,
         lost,
-        &mut space[..lent],
+        &mut space[..size],
         limit as usize,
     )
 }
 
 fn decode(
     rt: &impl Print,
-    left: &[u8],
-    right: &[u8],
-    nl: usize,
-    nr: usize,
-    wiring: &[u8],
+    plan: PlanParts<'_>,
     received: &[u8],
     lost: &[u8],
     output: &mut [u8],
     limit: usize,
 ) -> io::Result<()> {
-    let decoding = decoder::decode(left, right, nl, nr, wiring, received, lost, output, limit);
-    let outcome = decoding.outcome;
+    let decoding = decoder::decode(plan, received, lost, output, limit);
     let sums = decoding.sums;
-    let visits = decoding.visits;
-    match outcome {
-        Decoded::Settled(sweeps) => print!(rt; "ok {sweeps}")?,
-        Decoded::Refused(r) => output::refused(rt, r.number, r.place)?,
+    match decoding.outcome {
+        Ok(sweeps) => print!(rt; "ok {sweeps}")?,
+        Err(refusal) => print!(rt; "{refusal}")?,
     }
-    print!(rt; " ")?;
-    output::bytes(rt, output)?;
+    left_in(rt, output)?;
     print!(rt; " ")?;
     output::sums(rt, &sums)?;
-    print!(rt; " {visits}")
+    print!(rt; " {}", decoding.visits)
 }
 
 fn encode(
     rt: &impl Print,
-    left: &[u8],
-    right: &[u8],
-    nl: usize,
-    nr: usize,
-    wiring: &[u8],
+    plan: PlanParts<'_>,
     message: &[u8],
     output: &mut [u8],
 ) -> io::Result<()> {
-    match messages::encode(left, right, nl, nr, wiring, message, output) {
-        Encoded::Done => print!(rt; "ok")?,
-        Encoded::Refused(r) => output::refused(rt, r.number, r.place)?,
-    }
-    print!(rt; " ")?;
-    output::bytes(rt, output)
+    done(rt, messages::encode(plan, message, output))?;
+    left_in(rt, output)
 }
 
-fn read(
-    rt: &impl Print,
-    left: &[u8],
-    right: &[u8],
-    nl: usize,
-    nr: usize,
-    wiring: &[u8],
-    block: &[u8],
-    output: &mut [u8],
-) -> io::Result<()> {
-    match messages::read_block(left, right, nl, nr, wiring, block, output) {
-        Taken::Done => print!(rt; "ok")?,
-        Taken::Refused(r) => output::refused(rt, r.number, r.place)?,
-    }
-    print!(rt; " ")?;
-    output::bytes(rt, output)
+fn read(rt: &impl Print, plan: PlanParts<'_>, block: &[u8], output: &mut [u8]) -> io::Result<()> {
+    done(rt, messages::read_block(plan, block, output))?;
+    left_in(rt, output)
 }
 
-fn load(
-    rt: &impl Print,
-    left: &[u8],
-    right: &[u8],
-    nl: usize,
-    nr: usize,
-    wiring: &[u8],
-    block: &[u8],
-    state: &mut [u8],
-) -> io::Result<()> {
-    state_line(
-        rt,
-        panel::load_state(left, right, nl, nr, wiring, block, state),
-    )?;
-    print!(rt; " ")?;
-    output::bytes(rt, state)
+// The count and the sweep number that a call on a state answers stand in the state itself, which the line shows.
+
+fn load(rt: &impl Print, plan: PlanParts<'_>, block: &[u8], state: &mut [u8]) -> io::Result<()> {
+    done(rt, panel::load_state(plan, block, state).map(|_| ()))?;
+    left_in(rt, state)
 }
 
-fn sweep(
-    rt: &impl Print,
-    from: &mut impl io::Read,
-    left: &[u8],
-    right: &[u8],
-    nl: usize,
-    nr: usize,
-    wiring: &[u8],
-) -> io::Result<()> {
+fn sweep(rt: &impl Print, from: &mut impl io::Read, plan: PlanParts<'_>) -> io::Result<()> {
     let mut space = [0u8; SPACE];
-    let state = input::bytes(from, &mut space)?;
-    sweep_in(rt, left, right, nl, nr, wiring, &mut space[..state])
+    let size = input::bytes(from, &mut space)?;
+    sweep_in(rt, plan, &mut space[..size])
 }
 
-fn sweep_in(
-    rt: &impl Print,
-    left: &[u8],
-    right: &[u8],
-    nl: usize,
-    nr: usize,
-    wiring: &[u8],
-    state: &mut [u8],
-) -> io::Result<()> {
-    state_line(rt, panel::sweep_state(left, right, nl, nr, wiring, state))?;
-    print!(rt; " ")?;
-    output::bytes(rt, state)
+fn sweep_in(rt: &impl Print, plan: PlanParts<'_>, state: &mut [u8]) -> io::Result<()> {
+    done(rt, panel::sweep_state(plan, state).map(|_| ()))?;
+    left_in(rt, state)
 }
 
-fn set_bit(
-    rt: &impl Print,
-    from: &mut impl io::Read,
-    left: &[u8],
-    right: &[u8],
-    nl: usize,
-    nr: usize,
-    wiring: &[u8],
-) -> io::Result<()> {
+fn set_bit(rt: &impl Print, from: &mut impl io::Read, plan: PlanParts<'_>) -> io::Result<()> {
     let bit = input::number(from)?;
     let value = input::number(from)?;
     let mut space = [0u8; SPACE];
-    let state = input::bytes(from, &mut space)?;
-    set_in(
-        rt,
-        left,
-        right,
-        nl,
-        nr,
-        wiring,
-        bit as usize,
-        value,
-        &mut space[..state],
-    )
+    let size = input::bytes(from, &mut space)?;
+    set_in(rt, plan, bit as usize, value, &mut space[..size])
 }
 
 fn set_in(
     rt: &impl Print,
-    left: &[u8],
-    right: &[u8],
-    nl: usize,
-    nr: usize,
-    wiring: &[u8],
+    plan: PlanParts<'_>,
     bit: usize,
     value: u64,
     state: &mut [u8],
 ) -> io::Result<()> {
-    state_line(
-        rt,
-        panel::set_bit(left, right, nl, nr, wiring, bit, value, state),
-    )?;
-    print!(rt; " ")?;
-    output::bytes(rt, state)
-}
-
-// A call on a state: its count and sweep number stand in the state itself, which the line shows.
-fn state_line(rt: &impl Print, answer: Shown) -> io::Result<()> {
-    match answer {
-        Shown::State {
-            count: _,
-            sweeps: _,
-        } => print!(rt; "ok"),
-        Shown::Refused(r) => output::refused(rt, r.number, r.place),
-    }
+    done(rt, panel::set_bit(plan, bit, value, state).map(|_| ()))?;
+    left_in(rt, state)
 }

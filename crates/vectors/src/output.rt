@@ -1,11 +1,6 @@
 // The words of a line on standard output.
 use std::io;
 
-// The word `refused` with a number and a place.
-pub fn refused(rt: &impl Print, number: u32, place: u32) -> io::Result<()> {
-    print!(rt; "refused {number} {place}")
-}
-
 // Bytes in hexadecimal, `-` for none.
 pub fn bytes(rt: &impl Print, value: &[u8]) -> io::Result<()> {
     if value.is_empty() {

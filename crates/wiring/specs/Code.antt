@@ -1,4 +1,4 @@
--- A side of a plan as the code holds it.
+-- A side of a plan as the code holds it: none of this is needed to believe a contract of a service.
 --   code_of plan name   its n, d and k, and the echelon form of its rows before zeros
 use Rattle.std.specs.Prelude.{ℕ, List, replicate}
 use Rattle.inner_code.specs.Sheet.{degree, row_count, row_of}

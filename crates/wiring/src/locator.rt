@@ -1,6 +1,6 @@
 // The locator: the first vertex that reads no inner codeword.
-ghost use Rattle.std.specs.Prelude.{◌≡◌, ◌<◌, ℕ, IfSome, IfNone};
-ghost use Rattle.wiring.specs.Access.{both_codes, Readable, AllReadable, located_by, unsatisfied_by};
+ghost use Rattle.std.specs.Prelude.{◌≡◌};
+ghost use Rattle.wiring.specs.Access.{both_codes, AllReadable, located_by};
 ghost use Rattle.wiring.specs.PlanParts.{plan_in};
 ghost use Rattle.wiring.specs.Answer.{locate_answer, locate_reply, place_found};
 
@@ -32,33 +32,27 @@ pub fn first_unsatisfied(
     requires { AllReadable (both_codes left right) wiring.now block.now }
     ensures { place_found result ≡ located_by (both_codes left right) wiring.now block.now }
 {
-    match first_on(SideName::Left, left, wiring, block) {
-        Some(v) => Some(Vertex {
-            side: SideName::Left,
-            v,
-        }),
-        None => match first_on(SideName::Right, right, wiring, block) {
-            Some(v) => Some(Vertex {
-                side: SideName::Right,
-                v,
-            }),
-            None => None,
-        },
+    'search: {
+        for side in [SideName::Left, SideName::Right] {
+            let code = code_of(side, left, right);
+            let basis = code.basis;
+            for v in 0..code.n {
+                let word = read_word(side, wiring, code.d, block, v);
+                if inner_code::residue(&basis, code.k, word) != 0 {
+                    break 'search Some(Vertex { side, v });
+                }
+            }
+        }
+        None
     }
 }
 
-// The first such vertex of one side.
-fn first_on(side: SideName, code: SideCode, wiring: &[u8], block: &[u8]) -> Option<usize>
-    requires { (v : ℕ) → v < code.n → Readable side wiring.now code.d block.now v }
-    ensures found { IfSome result (λ v. (v < code.n) × (unsatisfied_by code side wiring.now code.n block.now ≡ v)) }
-    ensures none { IfNone result (unsatisfied_by code side wiring.now code.n block.now ≡ code.n) }
+// The side of a name.
+fn code_of(side: SideName, left: SideCode, right: SideCode) -> SideCode
+    ensures { result ≡ both_codes left right side }
 {
-    let basis = code.basis;
-    for v in 0..code.n {
-        let word = read_word(side, wiring, code.d, block, v);
-        if inner_code::residue(&basis, code.k, word) != 0 {
-            return Some(v);
-        }
+    match side {
+        SideName::Left => left,
+        SideName::Right => right,
     }
-    None
 }

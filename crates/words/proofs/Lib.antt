@@ -1,3 +1,4 @@
+pub mod Degrees
 pub mod Patterns
 pub mod RightWords
 pub mod Marks

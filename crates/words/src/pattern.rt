@@ -1,16 +1,15 @@
 // A pattern put on the bits of one vertex: each of its ones turns a bit of the block. It costs as many steps as the pattern has ones.
 ghost use Rattle.std.specs.Prelude.{[], ◌≡◌, ◌+◌, ◌-◌, ◌*◌, ◌/◌, ◌^◌, ◌≤◌, ◌<◌, length};
-ghost use Rattle.inner_code.specs.Reply.{done};
 ghost use Rattle.inner_code.specs.Sheet.{degree};
-ghost use Rattle.wiring.specs.Plan.{Plan, plan_of, side_of, sheet_of, count_of, side_bit};
-ghost use Rattle.wiring.specs.Wiring.{plan_check};
+ghost use Rattle.wiring.specs.PlanParts.{plan_in};
+ghost use Rattle.wiring.specs.Plan.{side_of, sheet_of, count_of, side_bit};
 ghost use Rattle.wiring.specs.declared.side.SideName.{SideName};
 ghost use Rattle.words.specs.Words.{pattern_put, WordsRead};
 ghost use Rattle.wiring.specs.Places.{PlacesNoted, Across};
 ghost use Rattle.words.specs.Marks.{told_right, PutAt};
 
 use crate::news::{KEPT, mark, news_of};
-use wiring::{SideName, Vertex};
+use wiring::{CheckedPlan, SideName, Vertex};
 
 // Puts a pattern on the d bits at the entries of a side from `base` on, its highest digit at the first.
 pub fn put_pattern(
@@ -38,55 +37,43 @@ pub fn put_pattern(
 // Puts a pattern on the bits of a vertex, and tells the vertices at the other ends: each of them has news, and where they are right ones, their
 // words are kept up with the block. A right vertex's own word is kept up too.
 pub fn put_told(
-    left: &[u8],
-    right: &[u8],
-    nl: usize,
-    nr: usize,
-    wiring: &[u8],
+    plan: &CheckedPlan<'_>,
     vertex: Vertex,
     pattern: u16,
     places: &[u16],
     kept: &mut [u16; KEPT],
     block: &mut [u8],
 )
-    requires plan_value { let plan : Plan = plan_of left.now right.now nl nr wiring.now in plan_check plan ≡ done [] }
-    requires v_bound { let plan : Plan = plan_of left.now right.now nl nr wiring.now in vertex.v < count_of plan vertex.side }
-    requires pattern_bound { let plan : Plan = plan_of left.now right.now nl nr wiring.now in pattern < 2 ^ degree (sheet_of plan vertex.side) }
-    requires across { Across wiring.now vertex.side places.now }
-    requires words_read { let plan : Plan = plan_of left.now right.now nl nr wiring.now in WordsRead (side_of plan SideName.Right) block.old kept.old }
-    ensures { let plan : Plan = plan_of left.now right.now nl nr wiring.now in PutAt plan vertex.side vertex.v pattern block.old kept.old block.new kept.new }
+    requires v_bound { vertex.v < count_of (plan_in plan.now.parts) vertex.side }
+    requires pattern_bound { pattern < 2 ^ degree (sheet_of (plan_in plan.now.parts) vertex.side) }
+    requires across { Across plan.now.parts.wiring.now vertex.side places.now }
+    requires words_read { WordsRead (side_of (plan_in plan.now.parts) SideName.Right) block.old kept.old }
+    ensures { PutAt (plan_in plan.now.parts) vertex.side vertex.v pattern block.old kept.old block.new kept.new }
 {
     let side = vertex.side;
     match side {
-        SideName::Left => put_left(
-            left, right, nl, nr, wiring, vertex.v, pattern, places, kept, block,
-        ),
-        SideName::Right => put_right(left, right, nl, nr, wiring, vertex.v, pattern, kept, block),
+        SideName::Left => put_left(plan, vertex.v, pattern, places, kept, block),
+        SideName::Right => put_right(plan, vertex.v, pattern, kept, block),
     }
 }
 
 // The same for left vertex v. The place of an edge tells the right vertex at its other end.
 fn put_left(
-    left: &[u8],
-    right: &[u8],
-    nl: usize,
-    nr: usize,
-    wiring: &[u8],
+    plan: &CheckedPlan<'_>,
     v: usize,
     pattern: u16,
     places: &[u16],
     kept: &mut [u16; KEPT],
     block: &mut [u8],
 )
-    requires plan_value { let plan : Plan = plan_of left.now right.now nl nr wiring.now in plan_check plan ≡ done [] }
-    requires v_lt_nl { v < nl }
-    requires pattern_bound { pattern < 2 ^ degree left.now }
-    requires places_noted { PlacesNoted wiring.now places.now }
-    requires words_read { let plan : Plan = plan_of left.now right.now nl nr wiring.now in WordsRead (side_of plan SideName.Right) block.old kept.old }
-    ensures { let plan : Plan = plan_of left.now right.now nl nr wiring.now in PutAt plan SideName.Left v pattern block.old kept.old block.new kept.new }
+    requires v_lt_nl { v < plan.now.parts.nl }
+    requires pattern_bound { pattern < 2 ^ degree plan.now.parts.left_sheet.now }
+    requires places_noted { PlacesNoted plan.now.parts.wiring.now places.now }
+    requires words_read { WordsRead (side_of (plan_in plan.now.parts) SideName.Right) block.old kept.old }
+    ensures { PutAt (plan_in plan.now.parts) SideName.Left v pattern block.old kept.old block.new kept.new }
 {
-    let d = left[0] as usize;
-    let dr = right[0] as usize;
+    let d = plan.left.d;
+    let dr = plan.right.d;
     let base = v * d;
     let mut rest = pattern;
     // A while: each turn takes the highest digit of what is left, and no index counts them.
@@ -114,30 +101,25 @@ fn tell_right(d: usize, place: usize, kept: &mut [u16; KEPT])
 
 // The same for right vertex v. The number of a bit tells its left vertex.
 fn put_right(
-    left: &[u8],
-    right: &[u8],
-    nl: usize,
-    nr: usize,
-    wiring: &[u8],
+    plan: &CheckedPlan<'_>,
     v: usize,
     pattern: u16,
     kept: &mut [u16; KEPT],
     block: &mut [u8],
 )
-    requires plan_value { let plan : Plan = plan_of left.now right.now nl nr wiring.now in plan_check plan ≡ done [] }
-    requires v_lt_nr { v < nr }
-    requires pattern_bound { pattern < 2 ^ degree right.now }
-    requires words_read { let plan : Plan = plan_of left.now right.now nl nr wiring.now in WordsRead (side_of plan SideName.Right) block.old kept.old }
-    ensures { let plan : Plan = plan_of left.now right.now nl nr wiring.now in PutAt plan SideName.Right v pattern block.old kept.old block.new kept.new }
+    requires v_lt_nr { v < plan.now.parts.nr }
+    requires pattern_bound { pattern < 2 ^ degree plan.now.parts.right_sheet.now }
+    requires words_read { WordsRead (side_of (plan_in plan.now.parts) SideName.Right) block.old kept.old }
+    ensures { PutAt (plan_in plan.now.parts) SideName.Right v pattern block.old kept.old block.new kept.new }
 {
-    let d = right[0] as usize;
-    let dl = left[0] as usize;
+    let d = plan.right.d;
+    let dl = plan.left.d;
     let base = v * d;
     let mut rest = pattern;
     // A while: each turn takes the highest digit of what is left, and no index counts them.
     while rest != 0 {
         let high = bits::highest(rest);
-        let edge = wiring::edge_at(wiring, base + (d - 1 - high));
+        let edge = wiring::edge_at(plan.parts.wiring, base + (d - 1 - high));
         bits::turn_bit(block, edge);
         kept[v] = kept[v] ^ bits::power(high);
         mark(kept, news_of(SideName::Left), wiring::vertex_at(edge, dl));

@@ -2,15 +2,15 @@
 ghost use Rattle.std.specs.Prelude.{[], ◌≡◌, ◌+◌, ◌*◌, ◌≤◌, ◌<◌};
 ghost use Rattle.bits.specs.Window.{word_at};
 ghost use Rattle.inner_code.specs.Reply.{done};
-ghost use Rattle.wiring.specs.Plan.{Plan, plan_of, side_of, edge_count};
-ghost use Rattle.wiring.specs.Wiring.{plan_check};
+ghost use Rattle.wiring.specs.Plan.{side_of, edge_count};
+ghost use Rattle.wiring.specs.PlanParts.{plan_in};
 ghost use Rattle.wiring.specs.Block.{block_check};
 ghost use Rattle.wiring.specs.declared.side.SideName.{SideName};
 ghost use Rattle.words.specs.Words.{WordsRead};
 ghost use Rattle.words.specs.Marks.{Cleared};
 
 use crate::news::KEPT;
-use wiring::SideName;
+use wiring::CheckedPlan;
 
 // The word that left vertex v reads: one or two whole bytes where d is 8 or 16, which is what large plans have. It stays small enough for the
 // compiler to put it into the sweeps' loops.
@@ -32,23 +32,14 @@ pub fn left_word(block: &[u8], v: usize, d: usize) -> u16
 }
 
 // The words that all vertices of the right side read, in front of a list that keeps more.
-pub fn read_words(
-    left: &[u8],
-    right: &[u8],
-    nl: usize,
-    nr: usize,
-    wiring: &[u8],
-    block: &[u8],
-    kept: &mut [u16; KEPT],
-)
-    requires plan_value { let plan : Plan = plan_of left.now right.now nl nr wiring.now in plan_check plan ≡ done [] }
-    requires block_value { let plan : Plan = plan_of left.now right.now nl nr wiring.now in block_check (edge_count plan) block.now ≡ done [] }
+pub fn read_words(plan: &CheckedPlan<'_>, block: &[u8], kept: &mut [u16; KEPT])
+    requires block_value { block_check (edge_count (plan_in plan.now.parts)) block.now ≡ done [] }
     requires cleared { Cleared kept.old }
-    ensures words_read { let plan : Plan = plan_of left.now right.now nl nr wiring.now in WordsRead (side_of plan SideName.Right) block.now kept.new }
+    ensures words_read { WordsRead (side_of (plan_in plan.now.parts) SideName.Right) block.now kept.new }
     ensures still_cleared { Cleared kept.new }
 {
-    let d = right[0] as usize;
-    for v in 0..nr {
-        kept[v] = wiring::gathered(wiring, v * d, d, block);
+    let d = plan.right.d;
+    for v in 0..plan.parts.nr {
+        kept[v] = wiring::gathered(plan.parts.wiring, v * d, d, block);
     }
 }

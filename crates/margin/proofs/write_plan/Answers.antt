@@ -1,6 +1,6 @@
 -- `margin::write_plan` meets what each function that writes numbers requires: each F of the loop is covered, for it is below the first that is
 -- not, and the last line has that number.
-use native.Mathlib.Omega.{arith}
+use Rattle.std.proofs.Common.{arith, ◌≡◌, ◌∙◌}
 use Rattle.margin.proofs.Outputs.{numbers-within, line-covered, line-sweeps, last-is}
 use Rattle.margin.proofs.write_plan.Goals as goal
 
@@ -16,4 +16,6 @@ write_line-requires g c =
     (sweeps, rw sweeps (line-covered _ _ (omega (arith, last-is _ _ c.requires _ c.first_uncovered-beyond.ensures))))
 
 pub write_beyond-requires : goal.write_beyond-requires
-write_beyond-requires g c = last-is _ _ c.requires _ c.first_uncovered-beyond.ensures
+write_beyond-requires g c =
+    let all : c.loop-flips.lines ≡ c.first_uncovered-beyond.result = omega (arith, c.loop-flips.invariant) in
+    all ∙ last-is _ _ c.requires _ c.first_uncovered-beyond.ensures

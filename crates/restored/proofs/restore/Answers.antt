@@ -53,4 +53,4 @@ expect-requires-then-count-gt0 c =
     let room = c.decode-again.auto.output ∙ c.decode.auto.output in
     let some : 0 < p.count = rw count at c.if-count-gt0.true in
     let before = decode-before c.requires _ room p.count (omega (arith, p.within)) p.first some in
-    c.is_unsettled.ensures ∙ outcome-unsettled c.decode-sooner.result ((rw count at c.decode-sooner.ensures.result_value) ∙ before)
+    c.is_unsettled.ensures.1 (outcome-unsettled c.decode-sooner.result ((rw count at c.decode-sooner.ensures.result_value) ∙ before))

@@ -4,7 +4,8 @@ use mathlib.Core.List.{List}
 use mathlib.Core.Path.{sym, ◌∙◌}
 use Prim.Native.Nat.{ℕ, ◌+◌, ◌≤◌, ◌<◌, min}
 use native.Mathlib.Omega.{arith}
-use Rattle.wiring.specs.Plan.{Plan, plan_of, count_of}
+use Rattle.wiring.specs.Plan.{Plan, count_of}
+use Rattle.wiring.specs.PlanParts.{plan_in}
 use Rattle.wiring.specs.declared.side.SideName.{SideName}
 use Rattle.sweeps.specs.Sweep.{turn}
 use Rattle.sweeps.specs.Sweeping.{Ready, NewsSwept}
@@ -20,7 +21,7 @@ use Rattle.decoder.proofs.settle.finish.Goals.{After-sweep_turn-here, At-loop-co
 -- ---- the call and the loop's head
 
 abbrev plan : At-loop-count → Plan
-plan c = plan_of c.args.left.now c.args.right.now c.args.nl c.args.nr c.args.wiring.now
+plan c = plan_in c.args.plan.now.parts
 
 ready : (c : At-loop-count) → Ready (plan c) c.loop-count.left_finder c.loop-count.right_finder
 ready c = c.loop-count.invariant.2 c.requires.ready
@@ -43,7 +44,7 @@ begun c m = record { plan-done = (ready c).plan-done; block-done = m.begun }
 -- ---- one more sweep
 
 swept : (c : After-sweep_turn-here)
-    → NewsSwept (plan_of c.args.left.now c.args.right.now c.args.nl c.args.nr c.args.wiring.now) (turn c.loop-count.count) c.loop-count.block
+    → NewsSwept (plan_in c.args.plan.now.parts) (turn c.loop-count.count) c.loop-count.block
     c.loop-count.kept c.sweep_turn-here.result c.sweep_turn-here.new.block c.sweep_turn-here.new.kept
 swept c = rw c.loop-count.invariant.0 at c.sweep_turn-here.ensures.news_swept
 

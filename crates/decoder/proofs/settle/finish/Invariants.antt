@@ -1,7 +1,8 @@
 use mathlib.Core.List.{List}
 use mathlib.Core.Path.{◌≡◌}
 use Prim.Native.Nat.{ℕ}
-use Rattle.wiring.specs.Plan.{Plan, plan_of}
+use Rattle.wiring.specs.Plan.{Plan}
+use Rattle.wiring.specs.PlanParts.{plan_in}
 use Rattle.sweeps.specs.Sweep.{turn}
 use Rattle.sweeps.specs.Sweeping.{Ready}
 use Rattle.decoder.specs.Turns.{Midway}
@@ -9,7 +10,7 @@ use Rattle.decoder.proofs.settle.finish.Given as goal
 
 abbrev pub invariant-loop-count : goal.invariant-loop-count
 invariant-loop-count l =
-    let plan : Plan = plan_of l.left l.right l.nl l.nr l.wiring in
+    let plan : Plan = plan_in l.plan.parts in
     (l.side ≡ turn l.count)
     × ((received : List ℕ) → Midway plan received l.limit 2 l.initial.sums l.initial.visits l.initial.kept l.initial.block
     → Midway plan received l.limit l.count l.sums l.visits l.kept l.block)

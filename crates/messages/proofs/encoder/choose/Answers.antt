@@ -1,16 +1,16 @@
 -- `messages::choose` meets its contract: after p turns the rows below p are chosen, and `rank` of them are left.
-use Rattle.std.proofs.Common.{◌≡◌, sym, ap, ap₂, ◌∙◌, ◌*◌, ◌<◌, length, length-set, arith}
+use Rattle.std.proofs.Common.{◌≡◌, refl, sym, ap, ap₂, ◌∙◌, ◌*◌, ◌<◌, length-set, arith}
 use Rattle.bits.specs.Bit.{bit_at}
 use Rattle.bits.proofs.Bytes.{bit_at_lt}
 use Rattle.bits.proofs.Xor.{digits_product}
-use Rattle.messages.proofs.StoredRows.{row_bit-lt, length-no_rows}
+use Rattle.messages.specs.Columns.{no_rows}
+use Rattle.messages.proofs.StoredRows.{row_bit-lt}
 use Rattle.messages.proofs.LiveRows.{live-none, live-one-more, live-le, chosen_none, chosen-one-more}
 use Rattle.messages.proofs.encoder.choose.Goals as goal
 
 pub loop-p-init : goal.loop-p-init
-loop-p-init c =
-    let empty = c.requires.chosen_value in
-    record { sized = ap length empty ∙ length-no_rows; counted = sym (live-none _); so_far = rw empty (chosen_none _ _) }
+unfolding no_rows
+loop-p-init c = record { sized = refl; counted = sym (live-none _); so_far = chosen_none _ _ }
 
 pub overflow_mul-bit : goal.overflow_mul-bit
 overflow_mul-bit c =

@@ -21,4 +21,4 @@ pub returns : goal.returns
 returns c =
     let end : c.loop-w.w ≡ 8 = omega arith in
     let whole = rw end at c.loop-w.invariant in
-    c.from.ensures ∙ whole ∙ ones-both-parity _ _ _ (λ v. (c.type_inv.chosen v).fits)
+    c.from.ensures ∙ whole ∙ ones-both-parity _ _ _ c.fits-chosen

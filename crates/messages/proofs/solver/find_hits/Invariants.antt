@@ -1,5 +1,6 @@
+use Rattle.std.proofs.Common.{◌≡◌, length}
 use Rattle.messages.specs.Columns.{FailSet}
 use Rattle.messages.proofs.solver.find_hits.Given as goal
 
 abbrev pub invariant-loop-i : goal.invariant-loop-i
-invariant-loop-i l = FailSet l.i l.fn.check l.wiring l.residues l.columns l.hits
+invariant-loop-i l = record { sized : length l.hits ≡ 8; so_far : FailSet l.i l.fn.check l.columns l.hits }

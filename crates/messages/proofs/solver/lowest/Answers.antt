@@ -11,7 +11,7 @@ loop-w-preserved c = lowest-passed _ _ c.loop-w.invariant c.if-word-ne0.false
 
 pub returns-then-word-ne0 : goal.returns-then-word-ne0
 returns-then-word-ne0 c =
-    c.min.ensures ∙ sym (lowest-found _ _ _ c.loop-w.invariant (omega arith) (c.type_inv.hits c.loop-w.w).fits)
+    c.min.ensures ∙ sym (lowest-found _ _ _ c.loop-w.invariant (omega arith) (c.fits-hits c.loop-w.w))
 
 pub returns : goal.returns
 returns c = sym (lowest-past _ _ _ (omega arith) c.loop-w.invariant)

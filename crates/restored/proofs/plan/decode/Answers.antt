@@ -11,6 +11,6 @@ returns c =
     let plan-is : plan_of c.sheet-sheet.result c.sheet-sheet.result 8 8 c.square_wiring-wiring.result ≡ square_plan =
     ap₂ (λ (s w : List ℕ). plan_of s s 8 8 w) c.sheet-sheet.ensures c.square_wiring-wiring.ensures in
     record {
-      result_value = rw plan-is at c.decode-decoding.ensures.answer;
-      output_after = rw plan-is at c.decode-decoding.ensures.leaves;
+      result_value = rw plan-is at c.decode.ensures.answer;
+      output_after = rw plan-is at c.decode.ensures.leaves;
     }

@@ -10,12 +10,13 @@ use lib.ListN.{length, get_or, set}
 use lib.Pow.{pow_pos}
 use Rattle.bits.specs.Window.{at}
 use Rattle.finder.specs.Finding.{Finds}
-use Rattle.wiring.specs.Plan.{Plan, plan_of, sheet_of, count_of}
+use Rattle.wiring.specs.Plan.{Plan, sheet_of, count_of}
+use Rattle.wiring.specs.PlanParts.{plan_in}
+use Rattle.wiring.specs.declared.side.SideCode.{SideCode}
 use Rattle.bits.proofs.Lists.{at_set_same, at_set_other}
 use Rattle.words.specs.Marks.{news_of}
 use Rattle.words.proofs.Marks.{marks-high}
 use Rattle.wiring.proofs.Plans.{plan-fits}
-use Rattle.wiring.proofs.Sides.{count-for}
 use Rattle.sweeps.proofs.Rounds.{news-round-start, news-round-changed, news-round-few, news-round-end, news-round-clear}
 use Rattle.sweeps.proofs.Rounds.{NewsScan, news-scan-start, news-scan-end, news-scan-vertex, news-scan-more}
 use Rattle.sweeps.proofs.sweep.sweep_news.Goals as goal
@@ -28,7 +29,7 @@ marks-few : (c : After-news_of-from) → c.news_of-from.result + 128 ≤ 2304
 marks-few c = omega (arith, c.news_of-from.ensures, marks-high c.args.side)
 
 abbrev plan : At-loop-rest → Plan
-plan c = plan_of c.args.left.now c.args.right.now c.args.nl c.args.nr c.args.wiring.now
+plan c = plan_in c.args.plan.now.parts
 
 few : (c : At-loop-rest) → c.loop-i.i < 128
 few c = omega (arith, c.numbers_of-numbers.ensures.1)
@@ -42,7 +43,7 @@ unfolding at
 scanned c =
     let turn = c.loop-i in
     let place = c.news_of-from.ensures in
-    news-scan-start c.requires.plan_value c.requires.hears (few c) turn.invariant.0
+    news-scan-start c.args.plan.now.passed c.requires.hears (few c) turn.invariant.0
     (ap (λ (from : ℕ). set turn.kept (from + turn.i) 0) place)
     (ap (λ (from : ℕ). get_or turn.kept (from + turn.i) 0) place ∙ turn.invariant.2 turn.i (le_refl _) (few c))
 
@@ -56,12 +57,12 @@ finds c = c.loop-rest.invariant.1 c.loop-i.invariant.1
 
 pub numbers_of-numbers-requires : goal.numbers_of-numbers-requires
 numbers_of-numbers-requires c =
-    let plan : Plan = plan_of c.args.left.now c.args.right.now c.args.nl c.args.nr c.args.wiring.now in
-    le_trans (le_of_eq (c.count_of.ensures ∙ count-for plan c.args.side)) (plan-fits plan c.requires.plan_value c.args.side).n-high
+    let plan : Plan = plan_in c.args.plan.now.parts in
+    le_trans (le_of_eq (ap (λ (x : SideCode). x.n) c.side.ensures)) (plan-fits plan c.args.plan.now.passed c.args.side).n-high
 
 pub loop-i-init : goal.loop-i-init
 loop-i-init c =
-    (news-round-start c.requires.plan_value c.requires.hears, c.requires.finds, λ j l h. refl, λ j l. absurd (omega arith))
+    (news-round-start c.args.plan.now.passed c.requires.hears, c.requires.finds, λ j l h. refl, λ j l. absurd (omega arith))
 
 pub overflow_add-rest : goal.overflow_add-rest
 overflow_add-rest c = omega (arith, marks-few (goal.at.overflow_add-rest c).After-news_of-from)
@@ -98,8 +99,7 @@ pub visit-bits-requires : goal.visit-bits-requires
 visit-bits-requires c =
     let here = (goal.at.visit-bits-requires c).At-loop-rest in
     let so_far = state here in record {
-      plan_value = c.requires.plan_value;
-      v_bound = news-scan-vertex c.requires.plan_value c.requires.hears (few here) so_far _ c.highest-high.ensures.power_low
+      v_bound = news-scan-vertex c.args.plan.now.passed c.requires.hears (few here) so_far _ c.highest-high.ensures.power_low
           c.highest-high.ensures.power_high c.highest-high.ensures.fits_word;
       finds = finds here;
       across = c.requires.across;
@@ -109,11 +109,11 @@ visit-bits-requires c =
 pub overflow_add-changed : goal.overflow_add-changed
 overflow_add-changed c =
     let here = (goal.at.overflow_add-changed c).At-loop-rest in
-    omega (arith, news-round-changed c.requires.plan_value c.requires.hears (finds here) (state here).round)
+    omega (arith, news-round-changed c.args.plan.now.passed c.requires.hears (finds here) (state here).round)
 
 pub overflow_add-visits : goal.overflow_add-visits
 overflow_add-visits c =
-    omega (arith, news-round-few c.requires.plan_value c.requires.hears (state (goal.at.overflow_add-visits c).At-loop-rest).round)
+    omega (arith, news-round-few c.args.plan.now.passed c.requires.hears (state (goal.at.overflow_add-visits c).At-loop-rest).round)
 
 pub power-rest-requires : goal.power-rest-requires
 power-rest-requires c = c.highest-high.ensures.fits_word
@@ -132,7 +132,7 @@ loop-rest-preserved c =
     let turn = c.loop-rest in
     let visit = c.visit-bits.ensures in (
       λ before marks h so_far.
-          news-scan-more c.requires.plan_value h (few here) (turn.invariant.0 before marks h so_far) _ c.highest-high.ensures.power_low
+          news-scan-more c.args.plan.now.passed h (few here) (turn.invariant.0 before marks h so_far) _ c.highest-high.ensures.power_low
           c.highest-high.ensures.power_high c.highest-high.ensures.fits_word visit.visited_at c.power-rest.ensures,
       λ f. visit.still_finds,
       λ j l. visit.visited_at.keeps.own j l ∙ turn.invariant.2 j l,
@@ -165,7 +165,7 @@ loop-i-preserved c =
     let kept : (j : ℕ) → j < 128
     → at c.loop-rest.kept (news_of c.args.side + j) ≡ at (set turn.kept (news_of c.args.side + turn.i) 0) (news_of c.args.side + j) =
     λ j l. c.loop-rest.invariant.2 j l ∙ ap (λ (from : ℕ). at (set turn.kept (from + turn.i) 0) (news_of c.args.side + j)) place in (
-      news-scan-end c.requires.plan_value c.requires.hears (few here) (state here) c.loop-rest-test.false,
+      news-scan-end c.args.plan.now.passed c.requires.hears (few here) (state here) c.loop-rest-test.false,
       finds here,
       λ j l h. kept j h ∙ at_set_other turn.kept _ _ 0 (marks-after (news_of c.args.side) turn.i l) ∙ turn.invariant.2 j (below_next turn.i l) h,
       λ j l. elim (ℕ_discrete j turn.i) [
@@ -182,12 +182,12 @@ loop-i-preserved c =
 pub returns : goal.returns
 returns c =
     let turn = c.loop-i in
-    let plan : Plan = plan_of c.args.left.now c.args.right.now c.args.nl c.args.nr c.args.wiring.now in
+    let plan : Plan = plan_in c.args.plan.now.parts in
     let enough : count_of plan c.args.side ≤ 16 * c.numbers_of-numbers.result =
-    le_trans (le_of_eq (sym (c.count_of.ensures ∙ count-for plan c.args.side))) c.numbers_of-numbers.ensures.0 in
+    le_trans (le_of_eq (sym (ap (λ (x : SideCode). x.n) c.side.ensures))) c.numbers_of-numbers.ensures.0 in
     let all : count_of plan c.args.side ≤ 16 * turn.i = omega (arith, enough) in
     record {
-      news_swept = news-round-end c.requires.plan_value c.requires.hears all turn.invariant.0
-          (news-round-clear c.requires.plan_value c.requires.hears turn.kept turn.i all turn.invariant.3 turn.invariant.2);
+      news_swept = news-round-end c.args.plan.now.passed c.requires.hears all turn.invariant.0
+          (news-round-clear c.args.plan.now.passed c.requires.hears turn.kept turn.i all turn.invariant.3 turn.invariant.2);
       still_finds = turn.invariant.1;
     }

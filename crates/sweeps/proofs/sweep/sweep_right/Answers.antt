@@ -7,7 +7,6 @@ use Rattle.sweeps.proofs.sweep.sweep_right.Goals as goal
 pub sweep_second-requires : goal.sweep_second-requires
 sweep_second-requires c =
     record {
-      plan_value = c.requires.ready.plan-done;
       finds = ready-shared c.requires.ready c.if-right_finder-eq0.true;
       listening = c.requires.listening;
     }
@@ -23,7 +22,6 @@ returns-then-right_finder-eq0 c =
 pub sweep_second-requires-2 : goal.sweep_second-requires-2
 sweep_second-requires-2 c =
     record {
-      plan_value = c.requires.ready.plan-done;
       finds = c.requires.ready.right-finds c.if-right_finder-eq0.false;
       listening = c.requires.listening;
     }

@@ -9,7 +9,8 @@ use lib.ListN.{get_or}
 use Rattle.bits.specs.Window.{at}
 use Rattle.finder.proofs.Finding.{Member, member-means}
 use Rattle.wiring.specs.Block.{vertex_word}
-use Rattle.wiring.specs.Plan.{Plan, plan_of, side_of, right, other}
+use Rattle.wiring.specs.Plan.{Plan, side_of, right, other}
+use Rattle.wiring.specs.PlanParts.{plan_in}
 use Rattle.words.proofs.Marks.{news-ext, silent-clear}
 use Rattle.wiring.proofs.Plans.{plan-fits}
 use Rattle.sweeps.specs.Sweeping.{SideReady, VisitedAt}
@@ -21,17 +22,17 @@ use Rattle.sweeps.proofs.sweep.sweep_second.Goals.{After-is_codeword, Start, the
 
 -- ---- the call and the loop's head
 
-few : (c : Start) → c.args.nr ≤ 2048
-few c = (plan-fits (plan_of c.args.left.now c.args.right.now c.args.nl c.args.nr c.args.wiring.now) c.requires.plan_value right).n-high
+few : (c : Start) → c.args.plan.now.parts.nr ≤ 2048
+few c = (plan-fits (plan_in c.args.plan.now.parts) c.args.plan.now.passed right).n-high
 
 abbrev plan : After-is_codeword → Plan
-plan c = plan_of c.args.left.now c.args.right.now c.args.nl c.args.nr c.args.wiring.now
+plan c = plan_in c.args.plan.now.parts
 
-below : (c : After-is_codeword) → c.loop-v.v < c.args.nr
+below : (c : After-is_codeword) → c.loop-v.v < c.args.plan.now.parts.nr
 below c = omega arith
 
-ready : (c : After-is_codeword) → SideReady c.args.right.now c.args.nr c.args.wiring.now c.loop-v.finder
-ready c = ready-side (plan c) c.requires.plan_value right c.loop-v.invariant.1
+ready : (c : After-is_codeword) → SideReady c.args.plan.now.parts.right_sheet.now c.args.plan.now.parts.nr c.args.plan.now.parts.wiring.now c.loop-v.finder
+ready c = ready-side (plan c) c.args.plan.now.passed right c.loop-v.invariant.1
 
 -- the word kept is the vertex's
 word-is : (c : After-is_codeword) → get_or c.loop-v.kept c.loop-v.v 0 ≡ vertex_word (side_of (plan c) right) c.loop-v.block c.loop-v.v
@@ -59,7 +60,6 @@ pub visit-bits-requires : goal.visit-bits-requires
 visit-bits-requires c =
     let turn = c.loop-v in
     record {
-      plan_value = c.requires.plan_value;
       v_bound = below (goal.at.visit-bits-requires c).After-is_codeword;
       finds = turn.invariant.1;
       across = record { noted = λ e. absurd (right-left e) };
@@ -89,16 +89,17 @@ loop-v-preserved c =
     let round = c.loop-v.invariant.0 in
     elim c.if-not-is_codeword.branch [
       | then-not-is_codeword w ↦
-          let visit : VisitedAt (plan here) right c.loop-v.v w.visit-bits.result block c.loop-v.kept w.visit-bits.new.block w.visit-bits.new.kept = w.visit-bits.ensures.visited_at in
+          let visit : VisitedAt (plan here) right c.loop-v.v w.visit-bits.result block c.loop-v.kept w.visit-bits.new.block w.visit-bits.new.kept =
+          w.visit-bits.ensures.visited_at in
           rw (w.changed-is, w.ties-is, w.block-is, w.kept-is, w.finder-is) (
-            round-visited c.requires.plan_value (below here) round visit
+            round-visited c.args.plan.now.passed (below here) round visit
                 (visit-waits (ready here) right block (below here) (word-is here) (member here) w.if-not-is_codeword.true visit.counted w.tie-ties.ensures),
             w.visit-bits.ensures.still_finds,
             λ i l. visit.keeps.own i l ∙ c.loop-v.invariant.2 i l,
           )
       | else-not-is_codeword w ↦
           rw (w.changed-is, w.ties-is, w.block-is, w.kept-is, w.finder-is) (
-            round-kept c.requires.plan_value (below here) round
+            round-kept c.args.plan.now.passed (below here) round
                 (word-stays (ready here) right block (below here) (word-is here) (member here) w.if-not-is_codeword.false)
                 (word-untied (ready here) right block (below here) (word-is here) (member here) w.if-not-is_codeword.false),
             c.loop-v.invariant.1,
@@ -113,5 +114,5 @@ returns c =
     let clear = news-ext c.requires.listening.news turn.invariant.2 (few (goal.at.returns c).Start) in record {
       side_swept = visits-sweep turn.invariant.0.visits (omega arith);
       still_finds = turn.invariant.1;
-      listening_left = round-listening c.requires.plan_value turn.invariant.0 (silent-clear clear);
+      listening_left = round-listening c.args.plan.now.passed turn.invariant.0 (silent-clear clear);
     }

@@ -6,7 +6,6 @@ pub sweep_news-requires : goal.sweep_news-requires
 sweep_news-requires c =
     let is = c.in-Left.is in
     record {
-      plan_value = c.requires.ready.plan-done;
       finds = rw is c.requires.ready.left-finds;
       across = c.requires.across;
       hears = c.requires.hears;
@@ -16,7 +15,6 @@ pub sweep_news-requires-then-right_finder-eq0 : goal.sweep_news-requires-then-ri
 sweep_news-requires-then-right_finder-eq0 c =
     let is = c.in-Right.is in
     record {
-      plan_value = c.requires.ready.plan-done;
       finds = rw is (ready-shared c.requires.ready c.if-right_finder-eq0.true);
       across = c.requires.across;
       hears = c.requires.hears;
@@ -35,7 +33,6 @@ pub sweep_news-requires-in-Right : goal.sweep_news-requires-in-Right
 sweep_news-requires-in-Right c =
     let is = c.in-Right.is in
     record {
-      plan_value = c.requires.ready.plan-done;
       finds = rw is (c.requires.ready.right-finds c.if-right_finder-eq0.false);
       across = c.requires.across;
       hears = c.requires.hears;

@@ -40,9 +40,5 @@ loop-rest-preserved c =
     rest_more c.loop-rest.invariant _ c.highest-high.ensures.power_low c.highest-high.ensures.power_high c.bit_of.ensures
     c.power-rest.ensures c.turn_bit.ensures
 
--- look: no goal for `same-length`
--- same_length : tie.Need-same-length invariant-loop decreases-loop
--- same_length c = rest-sized c.loop-rest.invariant ∙ length-pattern _ _ _ _ _ _
-
 pub returns : goal.returns
 returns c = rest-none c.loop-rest.invariant (omega arith)

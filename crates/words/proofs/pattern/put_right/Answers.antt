@@ -1,102 +1,91 @@
 -- `words::put_right` meets its contract: each turn puts the highest one of the rest on the block and on the vertex's own word, and marks the left
 -- vertex of the bit.
-use Prim.Native.Nat.{ℕ, ◌+◌, ◌-◌, ◌*◌, ◌/◌, ◌%◌, ◌^◌, ◌<◌}
-use mathlib.Core.List.{[]}
-use mathlib.Core.Path.{◌≡◌, refl, sym, ap, ap₂, ◌∙◌}
-use native.Mathlib.Nat.{div-lt_iff_lt-mul, le_of_lt, mul-le-mul}
-use native.Mathlib.Omega.{arith}
-use lib.Arith.{digits_div, digits_mod}
+use Rattle.std.proofs.Common.{ℕ, ◌≡◌, ◌+◌, ◌-◌, ◌*◌, ◌/◌, ◌%◌, ◌^◌, ◌<◌, ◌∙◌, refl, sym, ap, ap₂, arith}
+use native.Mathlib.Nat.{div-lt_iff_lt-mul}
+use lib.Arith.{digits_lt, digits_div, digits_mod}
 use lib.Bits.{bit_xor}
 use lib.ListN.{set, length-set}
 use lib.Pow.{pow_pos}
 use Rattle.bits.specs.Window.{at}
-use Rattle.inner_code.specs.Reply.{done}
 use Rattle.inner_code.specs.Sheet.{degree}
-use Rattle.wiring.specs.Wiring.{plan_check}
-use Rattle.wiring.specs.Plan.{plan_of, side_bit, edge_of, edge_count, left, right, other}
-use Rattle.wiring.proofs.Plans.{fitted-sheet, plan-fits, plan-whole, plan-few}
+use Rattle.wiring.specs.Plan.{Plan, side_bit, edge_of, edge_count, left, right, other}
+use Rattle.wiring.specs.PlanParts.{plan_in}
+use Rattle.wiring.proofs.Permutation.{fitted-edges}
+use Rattle.wiring.proofs.Plans.{plan-whole, plan-few}
 use Rattle.words.specs.Marks.{news_of, marked}
+use Rattle.words.proofs.Degrees.{left-degree, right-degree, left-fits, right-fits}
 use Rattle.words.proofs.Marks.{marks-high}
 use Rattle.words.proofs.Patterns.{rest-high}
 use Rattle.words.proofs.Putting.{putting-start, putting-done, putting-entry, putting-more}
 use Rattle.words.proofs.pattern.put_right.Goals as goal
 use Rattle.words.proofs.pattern.put_right.Goals.{After-highest-high, Start}
 
--- ---- the call, the loop's head, and the plan
-
-accepted : (c : Start) → plan_check (plan_of c.args.left.now c.args.right.now c.args.nl c.args.nr c.args.wiring.now) ≡ done []
-accepted c = c.requires.plan_value
-
 vertex-few : (c : Start) → c.args.v < 2048
-vertex-few c = omega (arith, c.requires.v_lt_nr, (plan-fits (plan_of c.args.left.now c.args.right.now c.args.nl c.args.nr c.args.wiring.now) (accepted c) right).n-high)
-
-pub bounds-right-0 : goal.bounds-right-0
-bounds-right-0 c =
-    fitted-sheet _ (plan-fits (plan_of c.args.left.now c.args.right.now c.args.nl c.args.nr c.args.wiring.now) (accepted (goal.at.bounds-right-0 c).Start) right)
-
--- look: no goal for `overflow-cast-d`
--- cast-d : tie.Need-overflow-cast-d invariant-loop decreases-loop
--- cast-d c = omega (arith, c.type_inv.right 0)
-
-pub bounds-left-0 : goal.bounds-left-0
-bounds-left-0 c = fitted-sheet _ (plan-fits (plan_of c.args.left.now c.args.right.now c.args.nl c.args.nr c.args.wiring.now) (accepted (goal.at.bounds-left-0 c).Start) left)
-
--- look: no goal for `overflow-cast-dl`
--- cast-dl : tie.Need-overflow-cast-dl invariant-loop decreases-loop
--- cast-dl c = omega (arith, c.type_inv.left 0)
+vertex-few c = omega (arith, c.requires.v_lt_nr, (right-fits c.args.plan.now).n-high)
 
 pub overflow_mul-base : goal.overflow_mul-base
-unfolding degree
 overflow_mul-base c =
-    let fits = plan-fits (plan_of c.args.left.now c.args.right.now c.args.nl c.args.nr c.args.wiring.now) (accepted (goal.at.overflow_mul-base c).Start) right in
-    omega (arith, vertex-few (goal.at.overflow_mul-base c).Start, mul-le-mul (le_of_lt (vertex-few (goal.at.overflow_mul-base c).Start)) fits.d-high)
+    let fits = right-fits c.args.plan.now in
+    omega (arith, digits_lt {r = 0} {c = c.args.plan.now.right.d} c.requires.v_lt_nr (omega (arith, fits.d-low)), fitted-edges fits)
 
 pub loop-rest-init : goal.loop-rest-init
 loop-rest-init c =
-    putting-start (plan_of c.args.left.now c.args.right.now c.args.nl c.args.nr c.args.wiring.now) (accepted (goal.at.loop-rest-init c).Start) right c.args.v c.requires.v_lt_nr c.args.pattern _ _ c.requires.pattern_bound c.requires.words_read
+    let p = c.args.plan.now in
+    putting-start (plan_in p.parts) p.passed right c.args.v c.requires.v_lt_nr c.args.pattern _ _ c.requires.pattern_bound c.requires.words_read
 
--- the highest one is within the word, and its entry is one of the plan's
-within : (c : After-highest-high) → c.highest-high.result < degree c.args.right.now
-within c = rest-high c.loop-rest.invariant.left_over _ c.highest-high.ensures.power_low c.highest-high.ensures.power_high
+-- ---- the highest one of the rest, its entry, and the edge there
 
-entry_lt : (c : After-highest-high) → (c.args.v * degree c.args.right.now + (degree c.args.right.now - 1 - c.highest-high.result)) < edge_count (plan_of c.args.left.now c.args.right.now c.args.nl c.args.nr c.args.wiring.now)
-entry_lt c =
-    putting-entry (plan_of c.args.left.now c.args.right.now c.args.nl c.args.nr c.args.wiring.now) (accepted c.before.before.before.before.before.before.before.before.before.before) right c.args.v c.requires.v_lt_nr c.args.pattern _ _ c.loop-rest.invariant _ c.highest-high.ensures.power_low
-    c.highest-high.ensures.power_high
+module _ (c : After-highest-high) where
+  abbrev plan : Plan
+  plan = plan_in c.args.plan.now.parts
 
-entry-few : (c : After-highest-high) → (c.args.v * degree c.args.right.now + (degree c.args.right.now - 1 - c.highest-high.result)) < 32768
-entry-few c = omega (arith, entry_lt c, plan-few (plan_of c.args.left.now c.args.right.now c.args.nl c.args.nr c.args.wiring.now) (accepted c.before.before.before.before.before.before.before.before.before.before))
+  abbrev entry : ℕ
+  entry = c.args.v * c.args.plan.now.right.d + (c.args.plan.now.right.d - 1 - c.highest-high.result)
 
--- the bit's left vertex
-high-few : (c : After-highest-high) → c.highest-high.result < 16
-high-few c = omega (arith, within c, (plan-fits (plan_of c.args.left.now c.args.right.now c.args.nl c.args.nr c.args.wiring.now) (accepted c.before.before.before.before.before.before.before.before.before.before) right).d-high)
+  within : c.highest-high.result < c.args.plan.now.right.d
+  within =
+      rw (right-degree c.args.plan.now)
+      (rest-high c.loop-rest.invariant.left_over _ c.highest-high.ensures.power_low c.highest-high.ensures.power_high)
 
-edge-lt : (c : After-highest-high) {edge : ℕ} → edge ≡ edge_of c.args.wiring.now ((c.args.v * degree c.args.right.now + (degree c.args.right.now - 1 - c.highest-high.result))) → edge < edge_count (plan_of c.args.left.now c.args.right.now c.args.nl c.args.nr c.args.wiring.now)
-unfolding side_bit
-edge-lt c e = rw e ((plan-whole (plan_of c.args.left.now c.args.right.now c.args.nl c.args.nr c.args.wiring.now) (accepted c.before.before.before.before.before.before.before.before.before.before) right).bit-lt ((c.args.v * degree c.args.right.now + (degree c.args.right.now - 1 - c.highest-high.result))) (entry_lt c))
+  high-few : c.highest-high.result < 16
+  high-few = omega (arith, within, (right-fits c.args.plan.now).d-high)
 
-left-few : (c : After-highest-high) {edge : ℕ} → edge ≡ edge_of c.args.wiring.now ((c.args.v * degree c.args.right.now + (degree c.args.right.now - 1 - c.highest-high.result)))
-    → edge / degree c.args.left.now < 2048
-left-few c {edge} e =
-    let w = plan-whole (plan_of c.args.left.now c.args.right.now c.args.nl c.args.nr c.args.wiring.now) (accepted c.before.before.before.before.before.before.before.before.before.before) left in
-    let l : edge / degree c.args.left.now < c.args.nl = (div-lt_iff_lt-mul w.degree-pos).1 (rw w.entries (edge-lt c e)) in
-    omega (arith, l, (plan-fits (plan_of c.args.left.now c.args.right.now c.args.nl c.args.nr c.args.wiring.now) (accepted c.before.before.before.before.before.before.before.before.before.before) left).n-high)
+  in-word : c.args.plan.now.right.d - 1 - c.highest-high.result < c.args.plan.now.right.d
+  in-word = omega (arith, within)
+
+  entry-lt : entry < edge_count plan
+  entry-lt =
+      rw (right-degree c.args.plan.now)
+      (putting-entry plan c.args.plan.now.passed right c.args.v c.requires.v_lt_nr c.args.pattern _ _ c.loop-rest.invariant _
+      c.highest-high.ensures.power_low c.highest-high.ensures.power_high)
+
+  entry-few : entry < 32768
+  entry-few = omega (arith, entry-lt, plan-few plan c.args.plan.now.passed)
+
+  edge-lt : edge_of c.args.plan.now.parts.wiring.now entry < edge_count plan
+  unfolding side_bit
+  edge-lt = (plan-whole plan c.args.plan.now.passed right).bit-lt entry entry-lt
+
+  -- its left vertex
+  left-few : edge_of c.args.plan.now.parts.wiring.now entry / c.args.plan.now.left.d < 2048
+  left-few =
+      let w = plan-whole plan c.args.plan.now.passed left in
+      let l : edge_of c.args.plan.now.parts.wiring.now entry / degree c.args.plan.now.parts.left_sheet.now < c.args.plan.now.parts.nl =
+      (div-lt_iff_lt-mul w.degree-pos).1 (rw w.entries edge-lt) in
+      rw (left-degree c.args.plan.now) (omega (arith, l, (left-fits c.args.plan.now).n-high))
 
 pub overflow_sub-d : goal.overflow_sub-d
-unfolding degree
-overflow_sub-d c = omega (arith, within c)
+overflow_sub-d c = omega (arith, within (goal.at.overflow_sub-d c).After-highest-high)
 
 pub overflow_sub-d-in-loop-rest : goal.overflow_sub-d-in-loop-rest
-unfolding degree
-overflow_sub-d-in-loop-rest c = omega (arith, within c)
+overflow_sub-d-in-loop-rest c = omega (arith, within (goal.at.overflow_sub-d-in-loop-rest c).After-highest-high)
 
 pub overflow_add-base : goal.overflow_add-base
-unfolding degree
-overflow_add-base c = omega (arith, entry-few c)
+overflow_add-base c = omega (arith, entry-few (goal.at.overflow_add-base c).After-highest-high)
 
 pub edge_at-edge-requires : goal.edge_at-edge-requires
-unfolding degree
-edge_at-edge-requires c = omega (arith, entry_lt c, (plan-fits (plan_of c.args.left.now c.args.right.now c.args.nl c.args.nr c.args.wiring.now) (accepted (goal.at.edge_at-edge-requires c).Start) left).sized)
+edge_at-edge-requires c =
+    omega (arith, digits_lt c.requires.v_lt_nr (in-word (goal.at.edge_at-edge-requires c).After-highest-high), (right-fits c.args.plan.now).sized)
 
 pub offset_bounds-kept-v : goal.offset_bounds-kept-v
 offset_bounds-kept-v c = omega (arith, vertex-few (goal.at.offset_bounds-kept-v c).Start)
@@ -114,16 +103,14 @@ pub bounds-kept-v-in-loop-rest : goal.bounds-kept-v-in-loop-rest
 bounds-kept-v-in-loop-rest c = omega (arith, vertex-few (goal.at.bounds-kept-v-in-loop-rest c).Start)
 
 pub vertex_at-requires : goal.vertex_at-requires
-unfolding degree
-vertex_at-requires c = omega (arith, (plan-fits (plan_of c.args.left.now c.args.right.now c.args.nl c.args.nr c.args.wiring.now) (accepted (goal.at.vertex_at-requires c).Start) left).d-low)
+vertex_at-requires c = omega (arith, (left-fits c.args.plan.now).d-low)
 
 pub mark-requires : goal.mark-requires
-unfolding degree
 mark-requires c =
     record {
       kept_len = length-set {A = ℕ} c.loop-rest.kept c.args.v _ ∙ c.loop-rest.invariant.keeps.reads.sized;
       from_bound = omega (arith, c.news_of.ensures, marks-high left);
-      v_bound = omega (arith, c.vertex_at.ensures, left-few (goal.at.mark-requires c).After-highest-high c.edge_at-edge.ensures);
+      v_bound = rw (c.vertex_at.ensures, c.edge_at-edge.ensures) (left-few (goal.at.mark-requires c).After-highest-high);
     }
 
 pub power-rest-requires : goal.power-rest-requires
@@ -133,33 +120,26 @@ pub overflow_sub-rest : goal.overflow_sub-rest
 overflow_sub-rest c = omega (arith, c.power-rest.ensures, c.highest-high.ensures.power_low)
 
 pub loop-rest-smaller : goal.loop-rest-smaller
-loop-rest-smaller c =
-    let some = pow_pos c.highest-high.result in
-    omega (arith, c.power-rest.ensures, c.highest-high.ensures.power_low)
+loop-rest-smaller c = omega (arith, c.power-rest.ensures, c.highest-high.ensures.power_low, pow_pos c.highest-high.result)
 
 pub loop-rest-preserved : goal.loop-rest-preserved
-unfolding degree at side_bit news_of other
+unfolding at side_bit news_of other
 loop-rest-preserved c =
-    let d : ℕ = degree c.args.right.now in
+    let p = c.args.plan.now in
+    let here = (goal.at.loop-rest-preserved c).After-highest-high in
     let kept = c.loop-rest.kept in
-    let in-word : d - 1 - c.highest-high.result < d = omega (arith, within (goal.at.loop-rest-preserved c).After-highest-high) in
-    let vertex : c.args.v ≡ (c.args.v * degree c.args.right.now + (degree c.args.right.now - 1 - c.highest-high.result)) / d = sym (digits_div c.args.v in-word) in
-    let weight : c.highest-high.result ≡ d - 1 - (c.args.v * degree c.args.right.now + (degree c.args.right.now - 1 - c.highest-high.result)) % d = omega (arith, within (goal.at.loop-rest-preserved c).After-highest-high, digits_mod c.args.v in-word) in
-    let edge = c.edge_at-edge.ensures in
-    let power = c.power.ensures in
-    putting-more (plan_of c.args.left.now c.args.right.now c.args.nl c.args.nr c.args.wiring.now) (accepted (goal.at.loop-rest-preserved c).Start) right c.args.v c.requires.v_lt_nr c.args.pattern _ _ c.loop-rest.invariant _ c.highest-high.ensures.power_low
-    c.highest-high.ensures.power_high _ edge c.power-rest.ensures c.turn_bit.ensures
-    ((c.args.v * degree c.args.right.now + (degree c.args.right.now - 1 - c.highest-high.result))) (entry_lt (goal.at.loop-rest-preserved c).After-highest-high) edge
-    (ap₂ (λ (i x : ℕ). set kept i (bit_xor (at kept i) x)) vertex (power ∙ ap (λ (i : ℕ). 2 ^ i) weight))
-    c.edge_at-edge.result (edge-lt (goal.at.loop-rest-preserved c).After-highest-high edge) refl
-    (c.mark.ensures
-    ∙ ap₂ (λ (from u : ℕ). marked (set kept c.args.v (bit_xor (at kept c.args.v) c.power.result)) from u)
-    c.news_of.ensures c.vertex_at.ensures)
-
--- look: no goal for `same-length`
--- same_length : tie.Need-same-length invariant-loop decreases-loop
--- same_length c = rest-sized c.loop-rest.invariant.left_over ∙ length-pattern _ _ _ _ _ _
+    let vertex : c.args.v ≡ entry here / p.right.d = sym (digits_div c.args.v (in-word here)) in
+    let weight : c.highest-high.result ≡ p.right.d - 1 - entry here % p.right.d = omega (arith, within here, digits_mod c.args.v (in-word here)) in
+    let bit = rw (right-degree p) at c.edge_at-edge.ensures in
+    let word = ap₂ (λ (i x : ℕ). set kept i (bit_xor (at kept i) x)) vertex (c.power.ensures ∙ ap (λ (i : ℕ). 2 ^ i) weight) in
+    let told =
+    c.mark.ensures
+    ∙ ap₂ (λ (from u : ℕ). marked (set kept c.args.v (bit_xor (at kept c.args.v) c.power.result)) from u) c.news_of.ensures c.vertex_at.ensures in
+    putting-more (plan_in p.parts) p.passed right c.args.v c.requires.v_lt_nr c.args.pattern _ _ c.loop-rest.invariant _
+    c.highest-high.ensures.power_low c.highest-high.ensures.power_high _ bit c.power-rest.ensures c.turn_bit.ensures _ (rw (right-degree p) at (entry-lt here)) bit
+    (rw (right-degree p) at word) c.edge_at-edge.result (rw c.edge_at-edge.ensures (edge-lt here)) refl (rw (left-degree p) at told)
 
 pub returns : goal.returns
 returns c =
-    putting-done (plan_of c.args.left.now c.args.right.now c.args.nl c.args.nr c.args.wiring.now) (accepted (goal.at.returns c).Start) right c.args.v c.requires.v_lt_nr c.args.pattern _ _ c.loop-rest.invariant (omega arith)
+    let p = c.args.plan.now in
+    putting-done (plan_in p.parts) p.passed right c.args.v c.requires.v_lt_nr c.args.pattern _ _ c.loop-rest.invariant (omega arith)

@@ -1,11 +1,11 @@
-use Rattle.wiring.specs.Plan.{plan_of}
+use Rattle.wiring.specs.PlanParts.{plan_in}
 use Rattle.wiring.specs.declared.side.SideName.{SideName}
 use Rattle.words.proofs.Putting.{Putting}
 use Rattle.words.proofs.pattern.put_right.Given as goal
 
 abbrev pub invariant-loop-rest : goal.invariant-loop-rest
 invariant-loop-rest l =
-    Putting (plan_of l.left l.right l.nl l.nr l.wiring) SideName.Right l.v l.pattern l.initial.block l.initial.kept l.block l.kept l.rest
+    Putting (plan_in l.plan.parts) SideName.Right l.v l.pattern l.initial.block l.initial.kept l.block l.kept l.rest
 
 abbrev pub decreases-loop-rest : goal.decreases-loop-rest
 decreases-loop-rest l = l.rest

@@ -5,7 +5,6 @@ pub put_left-requires : goal.put_left-requires
 put_left-requires c =
     let is = c.in-Left.is in
     record {
-      plan_value = c.requires.plan_value;
       v_lt_nl = rw is at c.requires.v_bound;
       pattern_bound = rw is at c.requires.pattern_bound;
       places_noted = c.requires.across.noted is;
@@ -16,7 +15,6 @@ pub put_right-requires : goal.put_right-requires
 put_right-requires c =
     let is = c.in-Right.is in
     record {
-      plan_value = c.requires.plan_value;
       v_lt_nr = rw is at c.requires.v_bound;
       pattern_bound = rw is at c.requires.pattern_bound;
       words_read = c.requires.words_read;

@@ -21,10 +21,6 @@ module _ (block : List ℕ) (small : (k : ℕ) → get_or block k 0 < 256) (v d 
       let at : v * 16 / 8 ≡ 2 * v = omega arith in
       rw e (word_at-pair block (v * 16) (omega arith) small ∙ ap (pair_at block) at)
 
--- look: no goal for `overflow-cast-result`
--- cast-result : tie.Need-overflow-cast-result
--- cast-result c = omega (arith, c.type_inv.block c.args.v)
-
 pub returns-then-v-block : goal.returns-then-v-block
 returns-then-v-block c =
     let args = c.args in

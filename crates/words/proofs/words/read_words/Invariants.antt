@@ -2,7 +2,8 @@ use mathlib.Core.Path.{◌≡◌}
 use Prim.Native.Nat.{ℕ, ◌<◌}
 use Rattle.bits.specs.Window.{at}
 use Rattle.wiring.specs.Block.{vertex_word}
-use Rattle.wiring.specs.Plan.{plan_of, side_of}
+use Rattle.wiring.specs.Plan.{side_of}
+use Rattle.wiring.specs.PlanParts.{plan_in}
 use Rattle.wiring.specs.declared.side.SideName.{SideName}
 use Rattle.words.specs.Marks.{Cleared}
 use Rattle.words.proofs.words.read_words.Given as goal
@@ -10,4 +11,4 @@ use Rattle.words.proofs.words.read_words.Given as goal
 abbrev pub invariant-loop-v : goal.invariant-loop-v
 invariant-loop-v l =
     Cleared l.kept
-    × ((u : ℕ) → u < l.v → at l.kept u ≡ vertex_word (side_of (plan_of l.left l.right l.nl l.nr l.wiring) SideName.Right) l.block u)
+    × ((u : ℕ) → u < l.v → at l.kept u ≡ vertex_word (side_of (plan_in l.plan.parts) SideName.Right) l.block u)
