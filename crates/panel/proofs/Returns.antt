@@ -39,46 +39,46 @@ use Rattle.panel.proofs.Answers.{set_in, set-state, set-checked, set-stopped, se
 use Rattle.panel.proofs.Counts.{count-le, change-le, set_to-lt}
 
 abbrev Returned : Reply → List ℕ → Reply → List ℕ → Type 0
-Returned answer output reply after = (reply ≡ answer) × (after ≡ output)
+Returned answer output reply after = record { result_value : reply ≡ answer; state_after : after ≡ output }
 
 returned : {answer reply said : Reply} {output left after : List ℕ} → Ends answer output reply left → said ≡ reply → after ≡ left
     → Returned answer output said after
-returned e says same = (says ∙ sym e.answers, same ∙ sym e.leaves)
+returned e says same = record { result_value = says ∙ sym e.answers; state_after = same ∙ sym e.leaves }
 
 -- ---- loading
 
-module _ (plan : Plan) (block : List ℕ) {reply : Reply} (counts : reply ≡ count_answer plan block) {count : ℕ} (told : reply ≡ done (count ∷ [])) where
+module _ (plan : Plan) (block : List ℕ) {count : ℕ} (counts : done (count ∷ []) ≡ count_answer plan block) where
   count-told : ((values : List ℕ) × (plan_check plan ≡ done values)) × ((values : List ℕ) × (block_check (edge_count plan) block ≡ done values))
       × (count ≡ unsatisfied_count (side_of plan) block)
   unfolding count_answer
   count-told =
-      let (accepted, rest) = and_then-done _ _ _ (sym counts ∙ told) in
+      let (accepted, rest) = and_then-done _ _ _ (sym counts) in
       let (pass, same) = and_then-done _ _ _ rest in
       (accepted, pass, cc same)
 
   pub load_low : count < 65536
   load_low = let ((values, accepted), pass, is) = count-told in omega (arith, count-le plan accepted block)
 
-module _ (plan : Plan) (block lent : List ℕ) {reply : Reply} (counts : reply ≡ count_answer plan block) where
+module _ (plan : Plan) (block lent : List ℕ) where
   abbrev Loaded : Reply → List ℕ → Type 0
   Loaded = Returned (load_answer plan block lent) (load_output plan block lent)
 
-  pub load-block-refused : {number place : ℕ} → reply ≡ refused number place → Loaded (refused number place) lent
-  load-block-refused e = returned (load-stopped plan block lent (load-uncounted plan block lent (sym counts ∙ e))) refl refl
+  pub load-block-refused : {number place : ℕ} → refused number place ≡ count_answer plan block → Loaded (refused number place) lent
+  load-block-refused e = returned (load-stopped plan block lent (load-uncounted plan block lent (sym e))) refl refl
 
-  module _ {count : ℕ} (told : reply ≡ done (count ∷ [])) where
-    pub load-no-room : length lent < 4 + length block → {said : Reply} → said ≡ refused 13 0 → Loaded said lent
+  module _ {count : ℕ} (counts : done (count ∷ []) ≡ count_answer plan block) where
+    pub load-no-room : length lent < 4 + length block → Loaded (refused 13 0) lent
     unfolding state_bytes
-    load-no-room short says =
-        let ((values, accepted), (others, pass), is) = count-told plan block counts told in
+    load-no-room short =
+        let ((values, accepted), (others, pass), is) = count-told plan block counts in
         let stops = load-short plan block lent accepted pass (omega (arith, block-sized _ block pass)) in
-        returned (load-stopped plan block lent stops) says refl
+        returned (load-stopped plan block lent stops) refl refl
 
     pub load-put : 4 + length block ≤ length lent → {head after : List ℕ} → head ≡ state_of count 0 (block_in lent)
         → after ≡ written block (lent_block head) → Loaded (done (count ∷ 0 ∷ [])) (with_block head after)
     unfolding state_bytes
     load-put room {head} put copied =
-        let ((values, accepted), (others, pass), is) = count-told plan block counts told in
+        let ((values, accepted), (others, pass), is) = count-told plan block counts in
         let free = load-passed plan block lent accepted pass (omega (arith, block-sized _ block pass)) in
         returned (load-made plan block lent free count is) refl (ap (with_block head) copied ∙ block-copied head count 0 lent block put)
 
@@ -88,22 +88,22 @@ pub record Lent (plan : Plan) (state : List ℕ) (check : Reply) (next : List �
   pub tells : reply ≡ and_then check (done (count_change (side_of plan) (block_in state) next ∷ []))
   pub leaves : after ≡ if_done check next (block_in state)
 
-module _ {plan : Plan} {state : List ℕ} {check : Reply} {next : List ℕ} {reply : Reply} {after : List ℕ}
-    (l : Lent plan state check next reply after) where
-  lent-refused : {number place : ℕ} → reply ≡ refused number place → (check ≡ refused number place) × (with_block state after ≡ state)
-  lent-refused {number} {place} e =
-      let stops = and_then-back check _ number place (sym l.tells ∙ e) in
+module _ {plan : Plan} {state : List ℕ} {check : Reply} {next after : List ℕ} where
+  lent-refused : {number place : ℕ} → Lent plan state check next (refused number place) after
+      → (check ≡ refused number place) × (with_block state after ≡ state)
+  lent-refused {number} {place} l =
+      let stops = and_then-back check _ number place (sym l.tells) in
       (stops, block_same state after (l.leaves ∙ if_done-refused check next _ number place stops))
 
-  module _ {change : ℕ} (told : reply ≡ done (change ∷ [])) where
+  module _ {change : ℕ} (l : Lent plan state check next (done (change ∷ [])) after) where
     lent-check : (values : List ℕ) × (check ≡ done values)
-    lent-check = (and_then-done check _ _ (sym l.tells ∙ told)).0
+    lent-check = (and_then-done check _ _ (sym l.tells)).0
 
     lent-next : after ≡ next
     lent-next = let (values, pass) = lent-check in l.leaves ∙ if_done-done check next _ values pass
 
     lent-change : change ≡ count_change (side_of plan) (block_in state) next
-    lent-change = let same = (and_then-done check _ _ (sym l.tells ∙ told)).1 in cc same
+    lent-change = let same = (and_then-done check _ _ (sym l.tells)).1 in cc same
 
     lent-low : plan_check plan ≡ done [] → change ≤ 69632
     lent-low accepted = rw lent-change (change-le plan accepted (block_in state) next)
@@ -119,19 +119,15 @@ module _ (plan : Plan) (state : List ℕ) where
   abbrev Swept : Reply → List ℕ → Type 0
   Swept = Returned (sweep_answer plan state) (sweep_output plan state)
 
-  pub sweep-state-refused : {reply : Reply} {number place : ℕ} → reply ≡ state_check plan state → reply ≡ refused number place
-      → Swept (refused number place) state
-  sweep-state-refused checks e = returned (sweep-stopped plan state (sweep-state plan state (sym checks ∙ e))) refl refl
+  pub sweep-state-refused : {number place : ℕ} → refused number place ≡ state_check plan state → Swept (refused number place) state
+  sweep-state-refused e = returned (sweep-stopped plan state (sweep-state plan state (sym e))) refl refl
 
   pub sweep-too-short : length state < 4 → {number place : ℕ} → refused number place ≡ and_then (plan_check plan) (refused 11 0)
       → Swept (refused number place) state
-  sweep-too-short short e = sweep-state-refused (e ∙ sym (state-short plan state short)) refl
+  sweep-too-short short e = sweep-state-refused (e ∙ sym (state-short plan state short))
 
   module _ {count sweeps : ℕ} (counted : count ≡ pair_at state 0) (numbered : sweeps ≡ pair_at state 2)
-      {reply : Reply} (checks : reply ≡ state_check plan state) (passed : reply ≡ done []) where
-    accepted : state_check plan state ≡ done []
-    accepted = sym checks ∙ passed
-
+      (accepted : state_check plan state ≡ done []) where
     pub sweep-settled : count ≡ 0 → Swept (done (count ∷ sweeps ∷ [])) state
     unfolding count_in sweeps_in
     sweep-settled none =
@@ -158,24 +154,24 @@ module _ (plan : Plan) (state : List ℕ) where
         leaves = leaves ∙ ap₂ (once_block plan) side-is (block-lent state) ∙ rw check;
       }
 
-  module _ {reply : Reply} {after : List ℕ} (l : SweptLent reply after) where
-    pub sweep-block-refused : {number place : ℕ} → reply ≡ refused number place → Swept (refused number place) (with_block state after)
-    sweep-block-refused e =
-        let (stops, same) = lent-refused l e in
+  module _ {after : List ℕ} where
+    pub sweep-block-refused : {number place : ℕ} → SweptLent (refused number place) after → Swept (refused number place) (with_block state after)
+    sweep-block-refused l =
+        let (stops, same) = lent-refused l in
         returned (sweep-stopped plan state (sweep-state plan state stops)) refl same
 
-    module _ {change : ℕ} (told : reply ≡ done (change ∷ [])) where
+    module _ {change : ℕ} (l : SweptLent (done (change ∷ [])) after) where
       pub sweep-low : change ≤ 69632
-      sweep-low = let (values, pass) = lent-check l told in lent-low l told (state-plan plan state pass)
+      sweep-low = let (values, pass) = lent-check l in lent-low l (state-plan plan state pass)
 
       pub sweep-put : {count sweeps : ℕ} → count ≡ pair_at state 0 → sweeps ≡ pair_at state 2 → 4 ≤ length state → (count ≡ 0 → ⊥) → sweeps < 4096
           → {left : List ℕ} → left ≡ state_of ((count + change) % 65536) (sweeps + 1) (block_in (with_block state after))
           → Swept (done ((count + change) % 65536 ∷ (sweeps + 1) ∷ [])) left
       unfolding count_in sweeps_in
       sweep-put {count} counted numbered long some low put =
-          let (values, pass) = lent-check l told in
+          let (values, pass) = lent-check l in
           let unsettled = sweep-made plan state pass (λ none. some (counted ∙ none)) (omega arith) in
-          returned (unsettled _ after (lent-next l told) (lent-moved l told count counted))
+          returned (unsettled _ after (lent-next l) (lent-moved l count counted))
           (ap (λ (m : ℕ). done ((count + change) % 65536 ∷ (m + 1) ∷ [])) numbered)
           (put ∙ ap₂ (λ (m : ℕ) (block : List ℕ). state_of ((count + change) % 65536) (m + 1) block) numbered (block_back state long after))
 
@@ -204,22 +200,22 @@ module _ (plan : Plan) (bit value : ℕ) (state : List ℕ) where
         leaves = leaves ∙ ap₂ (bit_block plan bit) is (block-lent state) ∙ rw (check, same);
       }
 
-  module _ {reply : Reply} {after : List ℕ} (l : SetLent reply after) where
-    pub set-block-refused : {number place : ℕ} → reply ≡ refused number place → Set (refused number place) (with_block state after)
-    set-block-refused e = let (stops, same) = lent-refused l e in returned (set-stopped plan bit value state stops) refl same
+  module _ {after : List ℕ} where
+    pub set-block-refused : {number place : ℕ} → SetLent (refused number place) after → Set (refused number place) (with_block state after)
+    set-block-refused l = let (stops, same) = lent-refused l in returned (set-stopped plan bit value state stops) refl same
 
-    module _ {change : ℕ} (told : reply ≡ done (change ∷ [])) where
+    module _ {change : ℕ} (l : SetLent (done (change ∷ [])) after) where
       pub set-low : change ≤ 69632
       unfolding set_check
       set-low =
-          let (values, pass) = lent-check l told in
+          let (values, pass) = lent-check l in
           let ((passed, accepted), inside) = and_then-done (state_check plan state) _ values pass in
-          lent-low l told (state-plan plan state accepted)
+          lent-low l (state-plan plan state accepted)
 
       pub set-put : 4 ≤ length state → (count : ℕ) {left : List ℕ} → count ≡ pair_at state 0
           → left ≡ state_of ((count + change) % 65536) 0 (block_in (with_block state after))
           → Set (done ((count + change) % 65536 ∷ 0 ∷ [])) left
       set-put long count counted put =
-          let (values, pass) = lent-check l told in
-          returned (set-made plan bit value state pass _ after (lent-next l told) (lent-moved l told count counted)) refl
+          let (values, pass) = lent-check l in
+          returned (set-made plan bit value state pass _ after (lent-next l) (lent-moved l count counted)) refl
           (put ∙ ap (state_of _ 0) (block_back state long after))

@@ -6,9 +6,11 @@
 --   sweep_check, sweep_answer, sweep_output  a sweep call: a state's refusals, 28 for an unsettled one at sweep 4,096 or above, or the state swept
 --   set_check, set_answer, set_output        a bit set: a state's refusals, 27 for a bit number at or above N, or the state with the bit set
 --   shown_reply r               the paper's number, place and values for each case of an answer in the code
-use Rattle.std.specs.Prelude.{ℕ, List, [], ◌∷◌, not, ◌&&◌, eqb, ltb, leb, length}
+use Rattle.std.specs.Prelude.{ℕ, List, [], ◌∷◌, not, ◌&&◌, eqb, ltb, leb, length, Result, Ok, Err}
 use Rattle.bits.specs.Bit.{written}
+use Rattle.inner_code.specs.Refusal.{number_of, place_of}
 use Rattle.inner_code.specs.Reply.{Reply, done, refused, refuse_if, and_then, if_done}
+use Rattle.inner_code.specs.declared.refusal.Refusal.{Refusal}
 use Rattle.wiring.specs.Plan.{Plan, edge_count}
 use Rattle.wiring.specs.Wiring.{plan_check}
 use Rattle.wiring.specs.Block.{block_check}
@@ -64,6 +66,6 @@ unfoldable pub set_output : Plan → ℕ → ℕ → List ℕ → List ℕ
 unfolding if_done set_check set_state
 set_output plan bit value state = if_done (set_check plan bit state) (set_state plan bit value state) state
 
-abbrev pub shown_reply : Shown → Reply
-shown_reply (Shown.State count sweeps) = done (count ∷ sweeps ∷ [])
-shown_reply (Shown.Refused r) = refused r.number r.place
+abbrev pub shown_reply : Result Shown Refusal → Reply
+shown_reply (Ok shown) = done (shown.count ∷ shown.sweeps ∷ [])
+shown_reply (Err r) = refused (number_of r) (place_of r)

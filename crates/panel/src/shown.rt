@@ -1,9 +1,8 @@
-// What a call on a state answers.
-use inner_code::Refusal;
+// What a call on a state answers, and what stands before a state's block.
 
-// The state's count and sweep number after the call, or the refusal.
-#[derive(Clone, Copy)]
-pub enum Shown {
-    State { count: usize, sweeps: usize },
-    Refused(Refusal),
+// A state's count and sweep number.
+#[derive(Clone, Copy, Debug, PartialEq, Eq)]
+pub struct Shown {
+    pub count: usize,
+    pub sweeps: usize,
 }

@@ -3,9 +3,9 @@
 --   missed_of code w                1 where the code's test of a word fails (unsatisfied specs Answer)
 --   across_from side wiring places i  the entry of the other side at which the bit stands that entry i of a side has (specs Telling)
 --   Across wiring side places      what leads there (wiring specs Places)
---   both_codes, code_of              a side as the code holds it (wiring specs Access, Checking)
--- Laws are named by their subject, then by the fact: `code-` and `sheet-` are about the parts of a side, `across-` about the entry of the other
--- side, `told-` about the count of a side in which one bit is turned, `count-` about the counts of both sides.
+--   code_of                         a side as the code holds it (wiring specs Code)
+-- Laws are named by their subject, then by the fact: `across-` is about the entry of the other side, `told-` about the count of a side in which
+-- one bit is turned, `count-` about the counts of both sides.
 use Prim.Native.Nat.{ℕ, ◌+◌, ◌-◌, ◌*◌, ◌/◌, ◌%◌, ◌^◌, ◌≤◌, ◌<◌}
 use mathlib.Core.List.{List, []}
 use mathlib.Core.Path.{◌≡◌, refl, sym, ap, ap₂, ◌∙◌}
@@ -15,31 +15,23 @@ use lib.Bits.{bit_xor}
 use lib.ListN.{length}
 use Rattle.bits.specs.Window.{turned}
 use Rattle.inner_code.specs.Reply.{done}
-use Rattle.wiring.specs.Plan.{Plan, Side, edge_count, sheet_of, count_of, side_of, side_bit, left, right, other}
+use Rattle.wiring.specs.Plan.{Plan, Side, edge_count, sheet_of, count_of, side_of, side_bit, right, other}
 use Rattle.wiring.specs.Wiring.{plan_check}
 use Rattle.wiring.specs.Block.{vertex_word}
-use Rattle.wiring.specs.Access.{both_codes, read_word, Readable}
-use Rattle.wiring.specs.Checking.{code_of}
+use Rattle.wiring.specs.Access.{read_word, Readable}
+use Rattle.wiring.specs.Code.{code_of}
 use Rattle.wiring.specs.declared.side.SideCode.{SideCode}
 use Rattle.wiring.specs.declared.side.SideName.{SideName}
 use Rattle.wiring.proofs.Plans.{plan-whole}
-use Rattle.wiring.proofs.Sides.{right-left}
 use Rattle.wiring.proofs.TurnedBits.{vertex-turned-same}
 use Rattle.wiring.proofs.VertexAccess.{read-vertex, plan-readable}
 use Rattle.unsatisfied.specs.Count.{unsatisfied_at, unsatisfied_count}
 use Rattle.unsatisfied.specs.Answer.{missed_of}
 use Rattle.unsatisfied.proofs.Counting.{missed, missed_word, missed-word, at-turned}
 use Rattle.unsatisfied.proofs.VertexTests.{word-defined}
-use Rattle.wiring.specs.Places.{PlacesNoted, Across}
+use Rattle.wiring.specs.Places.{Across}
 use Rattle.wiring.proofs.EdgePlaces.{places-lt, places-bit}
 use Rattle.single_sweep.specs.Telling.{across_from}
-
--- ---- the parts of a side
-
-pub code-named : (plan : Plan) {l r : SideCode} → l ≡ code_of plan left → r ≡ code_of plan right → (name : SideName)
-    → both_codes l r name ≡ code_of plan name
-code-named plan l r SideName.Left = l
-code-named plan l r SideName.Right = r
 
 -- the true count, from either side
 pub count-split : (sides : SideName → Side) (name : SideName) (block : List ℕ)
@@ -61,12 +53,6 @@ module _ (plan : Plan) (accepted : plan_check plan ≡ done []) where
       let noted = across.noted refl in
       (places-lt plan accepted noted i below, sym (places-bit plan accepted noted i below))
   across-meets SideName.Right across i below = ((plan-whole plan accepted right).bit-lt i below, refl)
-
-  pub across-left : {places : List ℕ} → PlacesNoted plan.wiring places → Across plan.wiring left places
-  across-left noted = record { noted = λ _. noted }
-
-  pub across-right : {places : List ℕ} → Across plan.wiring right places
-  across-right = record { noted = λ e. absurd (right-left e) }
 
   -- ---- a bit that is turned, by the code's test of the vertex that reads it
 

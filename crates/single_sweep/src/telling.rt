@@ -1,51 +1,39 @@
 // Bits that change, told to the vertices of the other side.
-ghost use Rattle.std.specs.Prelude.{[], ◌≡◌, ◌+◌, ◌-◌, ◌*◌, ◌^◌, ◌≤◌, ◌<◌, length};
-ghost use Rattle.inner_code.specs.Reply.{done};
+ghost use Rattle.std.specs.Prelude.{◌≡◌, ◌+◌, ◌*◌, ◌^◌, ◌≤◌, ◌<◌, length};
 ghost use Rattle.inner_code.specs.Sheet.{degree};
 ghost use Rattle.bits.specs.Window.{turned};
-ghost use Rattle.wiring.specs.Plan.{Plan, plan_of, side_of, sheet_of, count_of, edge_count, side_bit, other};
-ghost use Rattle.wiring.specs.Wiring.{plan_check};
-ghost use Rattle.wiring.specs.Checking.{code_of};
+ghost use Rattle.wiring.specs.Plan.{Plan, side_of, sheet_of, count_of, edge_count, side_bit, other};
+ghost use Rattle.wiring.specs.PlanParts.{plan_in};
+ghost use Rattle.wiring.specs.Places.{Across};
 ghost use Rattle.wiring.specs.declared.side.SideName.{SideName};
 ghost use Rattle.unsatisfied.specs.Count.{unsatisfied_at};
 ghost use Rattle.words.specs.Words.{pattern_put};
-ghost use Rattle.wiring.specs.Places.{Across};
 ghost use Rattle.single_sweep.specs.Telling.{across_from};
 
 use unsatisfied::missed_word;
-use wiring::{SideCode, SideName};
+use wiring::{CheckedPlan, SideName};
 
 // Puts a pattern on the bits of vertex v of a side, its highest digit at the first, and tells by how much the number of unsatisfied vertices of
 // the other side is above what it was, 65,536 added.
 pub(crate) fn put_told(
-    left: &[u8],
-    right: &[u8],
-    nl: usize,
-    nr: usize,
-    wiring: &[u8],
-    left_code: SideCode,
-    right_code: SideCode,
+    plan: CheckedPlan<'_>,
     side: SideName,
     v: usize,
     pattern: u16,
     places: &[u16],
     block: &mut [u8],
 ) -> usize
-    requires plan_value { let plan : Plan = plan_of left.now right.now nl nr wiring.now in plan_check plan ≡ done [] }
-    requires left_code_value { let plan : Plan = plan_of left.now right.now nl nr wiring.now in left_code ≡ code_of plan SideName.Left }
-    requires right_code_value { let plan : Plan = plan_of left.now right.now nl nr wiring.now in right_code ≡ code_of plan SideName.Right }
-    requires v_bound { let plan : Plan = plan_of left.now right.now nl nr wiring.now in v < count_of plan side }
-    requires pattern_bound { let plan : Plan = plan_of left.now right.now nl nr wiring.now in pattern < 2 ^ degree (sheet_of plan side) }
-    requires across { Across wiring.now side places.now }
-    requires plan_in_bounds { let plan : Plan = plan_of left.now right.now nl nr wiring.now in edge_count plan ≤ length block.old * 8 }
-    ensures block_value { let plan : Plan = plan_of left.now right.now nl nr wiring.now in result + unsatisfied_at (side_of plan (other side)) block.old
-        ≡ 65536 + unsatisfied_at (side_of plan (other side)) block.new }
-    ensures block_after { let plan : Plan = plan_of left.now right.now nl nr wiring.now in block.new ≡ pattern_put (side_bit side wiring.now) (degree (sheet_of plan side))
-        (v * degree (sheet_of plan side)) pattern
-        (degree (sheet_of plan side)) block.old }
+    requires v_bound { v < count_of (plan_in plan.parts) side }
+    requires pattern_bound { pattern < 2 ^ degree (sheet_of (plan_in plan.parts) side) }
+    requires across { Across plan.parts.wiring.now side places.now }
+    requires room { edge_count (plan_in plan.parts) ≤ length block.old * 8 }
+    ensures told { let sides = side_of (plan_in plan.entry.parts) in
+        result + unsatisfied_at (sides (other side)) block.old ≡ 65536 + unsatisfied_at (sides (other side)) block.new }
+    ensures block_after { let d = degree (sheet_of (plan_in plan.entry.parts) side) in
+        block.new ≡ pattern_put (side_bit side plan.entry.parts.wiring.now) d (v * d) pattern d block.old }
 {
-    let here = wiring::code_of(side, left_code, right_code);
-    let d = here.d;
+    let wiring = plan.parts.wiring;
+    let d = plan.side(side).d;
     let base = v * d;
     let mut told = 65536;
     let mut rest = pattern;
@@ -53,18 +41,7 @@ pub(crate) fn put_told(
     while rest != 0 {
         let high = bits::highest(rest);
         let place = place_across(side, wiring, places, base + (d - 1 - high));
-        let one = turn_told(
-            left,
-            right,
-            nl,
-            nr,
-            wiring,
-            left_code,
-            right_code,
-            wiring::other_side(side),
-            place,
-            block,
-        );
+        let one = turn_told(plan, side.other(), place, block);
         told = told + one - 1;
         rest = rest - bits::power(high);
     }
@@ -73,28 +50,15 @@ pub(crate) fn put_told(
 
 // Turns the bit at an entry of a side, and tells by how much the number of unsatisfied vertices of that side is above what it was, 1 added: the
 // word of the vertex that reads the bit is fetched once and tested with the bit as it was and turned.
-fn turn_told(
-    left: &[u8],
-    right: &[u8],
-    nl: usize,
-    nr: usize,
-    wiring: &[u8],
-    left_code: SideCode,
-    right_code: SideCode,
-    side: SideName,
-    place: usize,
-    block: &mut [u8],
-) -> usize
-    requires plan_value { let plan : Plan = plan_of left.now right.now nl nr wiring.now in plan_check plan ≡ done [] }
-    requires left_code_value { let plan : Plan = plan_of left.now right.now nl nr wiring.now in left_code ≡ code_of plan SideName.Left }
-    requires right_code_value { let plan : Plan = plan_of left.now right.now nl nr wiring.now in right_code ≡ code_of plan SideName.Right }
-    requires place_bound { let plan : Plan = plan_of left.now right.now nl nr wiring.now in place < edge_count plan }
-    requires plan_in_bounds { let plan : Plan = plan_of left.now right.now nl nr wiring.now in edge_count plan ≤ length block.old * 8 }
-    ensures block_value { let plan : Plan = plan_of left.now right.now nl nr wiring.now in result + unsatisfied_at (side_of plan side) block.old
-        ≡ 1 + unsatisfied_at (side_of plan side) block.new }
-    ensures block_after { block.new ≡ turned block.old (side_bit side wiring.now place) 1 }
+fn turn_told(plan: CheckedPlan<'_>, side: SideName, place: usize, block: &mut [u8]) -> usize
+    requires place_bound { place < edge_count (plan_in plan.parts) }
+    requires room { edge_count (plan_in plan.parts) ≤ length block.old * 8 }
+    ensures told { let here = side_of (plan_in plan.entry.parts) side in
+        result + unsatisfied_at here block.old ≡ 1 + unsatisfied_at here block.new }
+    ensures block_after { block.new ≡ turned block.old (side_bit side plan.entry.parts.wiring.now place) 1 }
 {
-    let code = wiring::code_of(side, left_code, right_code);
+    let code = plan.side(side);
+    let wiring = plan.parts.wiring;
     let d = code.d;
     let word = wiring::read_word(side, wiring, d, block, place / d);
     let before = missed_word(code, word);

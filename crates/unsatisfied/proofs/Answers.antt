@@ -3,14 +3,12 @@
 --   bit_check plan bit block         the refusal of the plan, then of the block, then 27, or done with no value (specs Answer)
 --   bit_answer plan bit value block  these, or the change of the true count (specs Answer)
 --   bit_block plan bit value block   the block at exit (specs Answer)
---   CheckedBit plan left right bit block  a bit that the check accepts, with the codes of the plan's sides (specs Answer)
---   PlanAccepted plan r             what a caller learns from a check of a plan that accepts it (wiring Plans)
 --   after_checks plan block next     the refusal of the plan, then of the block, or what comes next
 --   BitTold plan bit value block reply after  the reply and the block at exit are what the setting of the bit answers and leaves
 -- Laws are named by the service, `count-` or `bit-`, then by the outcome: `-plan-refused` and `-block-refused` are checks that turn back,
--- `-told` is the count, `-past` a bit that the plan does not have, `-checked` one that it has, `-kept` one that has its value already,
+-- `-told` is the count, `-past` a bit that the plan does not have, `-kept` one that has its value already,
 -- `-turned` one that has the other. `checks-` laws are about what both services begin with.
-use Prim.Native.Nat.{ℕ, ◌+◌, ◌*◌, ◌%◌, ◌≤◌, ◌<◌}
+use Prim.Native.Nat.{ℕ, ◌+◌, ◌%◌, ◌≤◌, ◌<◌}
 use mathlib.Core.List.{List, [], ◌∷◌}
 use mathlib.Core.Path.{◌≡◌, sym, ap, ap₂, ◌∙◌}
 use native.Mathlib.Nat.{mod-lt}
@@ -25,12 +23,9 @@ use Rattle.inner_code.proofs.Replies.{refuse-taken, refuse-passed, and_then-pass
 use Rattle.wiring.specs.Plan.{Plan, edge_count, side_of, left, right}
 use Rattle.wiring.specs.Wiring.{plan_check}
 use Rattle.wiring.specs.Block.{block_check}
-use Rattle.wiring.specs.declared.plan.CheckedPlan.{CheckedPlan}
-use Rattle.wiring.proofs.Plans.{PlanAccepted, accepted-edges}
-use Rattle.unsatisfied.specs.Count.{unsatisfied_count, count_change}
-use Rattle.unsatisfied.specs.Answer.{CheckedBit, missed_up_to, count_answer, bit_check, bit_answer, bit_block}
+use Rattle.unsatisfied.specs.Count.{unsatisfied_at, unsatisfied_count, count_change}
+use Rattle.unsatisfied.specs.Answer.{count_answer, bit_check, bit_answer, bit_block}
 use Rattle.unsatisfied.proofs.Counting.{change-none}
-use Rattle.unsatisfied.proofs.VertexTests.{up-to-defined}
 
 -- ---- the checks that both begin with
 
@@ -38,12 +33,12 @@ module _ (plan : Plan) (block : List ℕ) (next : Reply) where
   abbrev after_checks : Reply
   after_checks = and_then (plan_check plan) (and_then (block_check (edge_count plan) block) next)
 
-  module _ (r : CheckedPlan) (p : PlanAccepted plan r) where
-    checks-block-refused : (a b : ℕ) → block_check (r.left.n * r.left.d) block ≡ refused a b → after_checks ≡ refused a b
-    checks-block-refused a b e = and_then-passed _ _ [] p.plan-done ∙ and_then-refused _ _ a b (rw (accepted-edges p) at e)
+  module _ (accepted : plan_check plan ≡ done []) where
+    checks-block-refused : (a b : ℕ) → block_check (edge_count plan) block ≡ refused a b → after_checks ≡ refused a b
+    checks-block-refused a b e = and_then-passed _ _ [] accepted ∙ and_then-refused _ _ a b e
 
-    checks-passed : block_check (r.left.n * r.left.d) block ≡ done [] → after_checks ≡ next
-    checks-passed e = and_then-passed _ _ [] p.plan-done ∙ and_then-passed _ _ [] (rw (accepted-edges p) at e)
+    checks-passed : block_check (edge_count plan) block ≡ done [] → after_checks ≡ next
+    checks-passed e = and_then-passed _ _ [] accepted ∙ and_then-passed _ _ [] e
 
 -- ---- the true count
 
@@ -52,19 +47,17 @@ module _ (plan : Plan) (block : List ℕ) where
   unfolding count_answer
   count-plan-refused a b e = sym (and_then-refused _ _ a b e)
 
-  module _ (r : CheckedPlan) (p : PlanAccepted plan r) where
-    pub count-block-refused : (a b : ℕ) → block_check (r.left.n * r.left.d) block ≡ refused a b → refused a b ≡ count_answer plan block
+  module _ (accepted : plan_check plan ≡ done []) where
+    pub count-block-refused : (a b : ℕ) → block_check (edge_count plan) block ≡ refused a b → refused a b ≡ count_answer plan block
     unfolding count_answer
-    count-block-refused a b e = sym (checks-block-refused plan block _ r p a b e)
+    count-block-refused a b e = sym (checks-block-refused plan block _ accepted a b e)
 
-    pub count-told : block_check (r.left.n * r.left.d) block ≡ done [] → (here there : ℕ)
-        → here ≡ missed_up_to r.left left plan.wiring r.left.n block → there ≡ missed_up_to r.right right plan.wiring r.right.n block
+    pub count-told : block_check (edge_count plan) block ≡ done [] → (here there : ℕ)
+        → here ≡ unsatisfied_at (side_of plan left) block → there ≡ unsatisfied_at (side_of plan right) block
         → done ((here + there) ∷ []) ≡ count_answer plan block
     unfolding count_answer unsatisfied_count
     count-told e here there counted-left counted-right =
-        ap₂ (λ (x y : ℕ). done ((x + y) ∷ [])) (counted-left ∙ up-to-defined plan p.plan-done left block (p.code_is left))
-        (counted-right ∙ up-to-defined plan p.plan-done right block (p.code_is right))
-        ∙ sym (checks-passed plan block _ r p e)
+        ap₂ (λ (x y : ℕ). done ((x + y) ∷ [])) counted-left counted-right ∙ sym (checks-passed plan block _ accepted e)
 
 -- ---- a bit that is set
 
@@ -75,50 +68,41 @@ with_bit-turned bytes i b small other =
     let low = bit_at_lt bytes i in
     ap (with_bit bytes i) (omega (arith, xor-bits-parity (bit_at bytes i) 1 low (omega arith)))
 
-module _ (plan : Plan) (bit : ℕ) (block : List ℕ) (r : CheckedPlan) (p : PlanAccepted plan r) where
-  pub bit-checked : block_check (r.left.n * r.left.d) block ≡ done [] → bit < r.left.n * r.left.d
-      → CheckedBit plan r.left r.right bit block
-  bit-checked pass within =
-      record {
-        plan-done = p.plan-done;
-        left_is = p.code_is left;
-        right_is = p.code_is right;
-        block-done = rw (accepted-edges p) at pass;
-        bit-lt = rw (accepted-edges p) at within;
-      }
-
 module _ (plan : Plan) (bit value : ℕ) (block : List ℕ) where
   abbrev BitTold : Reply → List ℕ → Type 0
-  BitTold reply after = (reply ≡ bit_answer plan bit value block) × (after ≡ bit_block plan bit value block)
+  BitTold reply after =
+      record { result_value : reply ≡ bit_answer plan bit value block; block_after : after ≡ bit_block plan bit value block }
 
   turned-back : (a b : ℕ) → bit_check plan bit block ≡ refused a b → BitTold (refused a b) block
   unfolding bit_answer bit_block
-  turned-back a b e = (sym (and_then-refused _ _ a b e), sym (if_done-refused _ _ block a b e))
+  turned-back a b e =
+      record { result_value = sym (and_then-refused _ _ a b e); block_after = sym (if_done-refused _ _ block a b e) }
 
   pub bit-plan-refused : (a b : ℕ) → plan_check plan ≡ refused a b → BitTold (refused a b) block
   unfolding bit_check
   bit-plan-refused a b e = turned-back a b (and_then-refused _ _ a b e)
 
-  module _ (r : CheckedPlan) (p : PlanAccepted plan r) where
-    pub bit-block-refused : (a b : ℕ) → block_check (r.left.n * r.left.d) block ≡ refused a b → BitTold (refused a b) block
+  module _ (accepted : plan_check plan ≡ done []) where
+    pub bit-block-refused : (a b : ℕ) → block_check (edge_count plan) block ≡ refused a b → BitTold (refused a b) block
     unfolding bit_check
-    bit-block-refused a b e = turned-back a b (checks-block-refused plan block _ r p a b e)
+    bit-block-refused a b e = turned-back a b (checks-block-refused plan block _ accepted a b e)
 
-    module _ (pass : block_check (r.left.n * r.left.d) block ≡ done []) where
-      pub bit_past : r.left.n * r.left.d ≤ bit → BitTold (refused 27 0) block
+    module _ (pass : block_check (edge_count plan) block ≡ done []) where
+      pub bit_past : edge_count plan ≤ bit → BitTold (refused 27 0) block
       unfolding bit_check
       bit_past past =
-          turned-back 27 0 (checks-passed plan block _ r p pass ∙ refuse-taken _ 27 0 _ (le-leb _ bit (rw (accepted-edges p) at past)))
+          turned-back 27 0 (checks-passed plan block _ accepted pass ∙ refuse-taken _ 27 0 _ (le-leb _ bit past))
 
-      module _ (within : bit < r.left.n * r.left.d) where
+      module _ (within : bit < edge_count plan) where
         carried-out : {change : ℕ} {after : List ℕ} → with_bit block bit (value % 2) ≡ after → change ≡ count_change (side_of plan) block after
             → BitTold (done (change ∷ [])) after
         unfolding bit_check bit_answer bit_block
         carried-out leaves changes =
-            let passed = checks-passed plan block _ r p pass ∙ refuse-passed _ 27 0 _ (lt-leb _ bit (rw (accepted-edges p) at within)) in (
-              sym (and_then-passed _ _ [] passed ∙ rw (leaves, changes)),
-              sym (if_done-done _ _ block [] passed ∙ leaves),
-            )
+            let passed = checks-passed plan block _ accepted pass ∙ refuse-passed _ 27 0 _ (lt-leb _ bit within) in
+            record {
+              result_value = sym (and_then-passed _ _ [] passed ∙ rw (leaves, changes));
+              block_after = sym (if_done-done _ _ block [] passed ∙ leaves);
+            }
 
         pub bit_kept : bit_at block bit ≡ value % 2 → BitTold (done (65536 ∷ [])) block
         bit_kept e = carried-out (with_bit-keeps block bit _ (sym e)) (sym (change-none (side_of plan) block))

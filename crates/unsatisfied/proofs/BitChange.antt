@@ -1,7 +1,8 @@
 -- A bit that is turned: which two vertices read it, and what the code's tests of these tell of the change of the true count.
 --   entry_with wiring e      the first entry of a wiring at which edge e stands; their number where it stands at none (specs Answer)
 --   place_of N side e        the entry of a side at which bit e stands (wiring Permutation)
---   CheckedBit plan left right bit block  a bit of a checked block of an accepted plan, and the codes are those of the plan's sides (specs Answer)
+--   CheckedBit plan bit block  a bit of a checked block of a plan (specs Answer)
+--   CheckedPlan             a plan that has passed its check, with its sides as the code holds them (wiring src/parts.rt)
 --   missed_by code side wiring block v  1 where the code's test of vertex v fails, 0 where it passes (specs Answer)
 --   turned block e b        the block with its bit e turned where b is 1 (bits specs Window)
 --   count_change sides before after  the change of the true count, 65,536 added (specs Count)
@@ -26,7 +27,9 @@ use Rattle.inner_code.specs.Reply.{done}
 use Rattle.wiring.specs.Plan.{Plan, edge_of, edge_count, left, right, side_bit, side_of}
 use Rattle.wiring.specs.Wiring.{plan_check}
 use Rattle.wiring.specs.Access.{Readable}
-use Rattle.wiring.specs.Checking.{code_of}
+use Rattle.wiring.specs.Code.{code_of}
+use Rattle.wiring.specs.PlanParts.{plan_in}
+use Rattle.wiring.specs.declared.parts.CheckedPlan.{CheckedPlan}
 use Rattle.wiring.specs.declared.side.SideCode.{SideCode}
 use Rattle.wiring.specs.declared.side.SideName.{SideName}
 use Rattle.wiring.proofs.Permutation.{Whole, place_of, place-lt, bit-place}
@@ -68,15 +71,18 @@ module _ (plan : Plan) (accepted : plan_check plan ≡ done []) (e : ℕ) (below
 
 -- ---- the change
 
-module _ {plan : Plan} {l r : SideCode} {e : ℕ} {block : List ℕ} (checked : CheckedBit plan l r e block) where
+module _ (r : CheckedPlan) {e : ℕ} {block : List ℕ} (checked : CheckedBit (plan_in r.parts) e block) where
+  abbrev plan : Plan
+  plan = plan_in r.parts
+
   whole : (name : SideName) → Whole (edge_count plan) (side_of plan name)
-  whole = (plan-joined plan checked.plan-done).whole
+  whole = (plan-joined plan r.passed).whole
 
-  pub degree-left : 0 < l.d
-  degree-left = rw checked.left_is (whole left).degree-pos
+  pub degree-left : 0 < r.left.d
+  degree-left = rw r.left_is (whole left).degree-pos
 
-  pub degree-right : 0 < r.d
-  degree-right = rw checked.right_is (whole right).degree-pos
+  pub degree-right : 0 < r.right.d
+  degree-right = rw r.right_is (whole right).degree-pos
 
   -- the two vertices that read the bit can be read, in the block and in any of its length
   room : edge_count plan ≤ length block * 8
@@ -85,22 +91,22 @@ module _ {plan : Plan} {l r : SideCode} {e : ℕ} {block : List ℕ} (checked : 
   entry-vertex : (name : SideName) (place : ℕ) → place < edge_count plan → place / (side_of plan name).d < (side_of plan name).n
   entry-vertex name place within = (div-lt_iff_lt-mul (whole name).degree-pos).1 (rw (whole name).entries within)
 
-  pub left-readable : (bytes : List ℕ) → length bytes ≡ length block → Readable left plan.wiring l.d bytes (e / l.d)
+  pub left-readable : (bytes : List ℕ) → length bytes ≡ length block → Readable left plan.wiring r.left.d bytes (e / r.left.d)
   left-readable bytes same =
-      rw checked.left_is (plan-readable plan checked.plan-done bytes (rw same room) left _ (entry-vertex left e checked.bit-lt))
+      rw r.left_is (plan-readable plan r.passed bytes (rw same room) left _ (entry-vertex left e checked.bit-lt))
 
   pub right-readable : {place : ℕ} → place ≡ entry_with plan.wiring e → (bytes : List ℕ) → length bytes ≡ length block
-      → Readable right plan.wiring r.d bytes (place / r.d)
+      → Readable right plan.wiring r.right.d bytes (place / r.right.d)
   right-readable {place} is bytes same =
-      let within : place < edge_count plan = rw is (entry_lt plan checked.plan-done e checked.bit-lt) in
-      rw checked.right_is (plan-readable plan checked.plan-done bytes (rw same room) right _ (entry-vertex right place within))
+      let within : place < edge_count plan = rw is (entry_lt plan r.passed e checked.bit-lt) in
+      rw r.right_is (plan-readable plan r.passed bytes (rw same room) right _ (entry-vertex right place within))
 
   -- what the code's test tells of the vertex that reads an entry
   entry-missed : (name : SideName) {code : SideCode} → code ≡ code_of plan name → (bytes : List ℕ) (place x : ℕ) → place < edge_count plan
       → x ≡ missed_by code name plan.wiring bytes (place / code.d) → x ≡ missed (side_of plan name) bytes (place / (side_of plan name).d)
   entry-missed name held bytes place x within told =
       told ∙ ap (λ (code : SideCode). missed_by code name plan.wiring bytes (place / code.d)) held
-      ∙ vertex-defined plan checked.plan-done name bytes _
+      ∙ vertex-defined plan r.passed name bytes _
       (entry-vertex name place within)
 
   module _ {after : List ℕ} (turns : after ≡ turned block e 1) where
@@ -115,18 +121,18 @@ module _ {plan : Plan} {l r : SideCode} {e : ℕ} {block : List ℕ} (checked : 
         (rw there at (at-turned (side_of plan name) (whole name) block room place within))
 
     pub change-turned : {place : ℕ} → place ≡ entry_with plan.wiring e → {left-before right-before left-after right-after : ℕ}
-        → left-before ≡ missed_by l left plan.wiring block (e / l.d) → right-before ≡ missed_by r right plan.wiring block (place / r.d)
-        → left-after ≡ missed_by l left plan.wiring after (e / l.d) → right-after ≡ missed_by r right plan.wiring after (place / r.d)
+        → left-before ≡ missed_by r.left left plan.wiring block (e / r.left.d) → right-before ≡ missed_by r.right right plan.wiring block (place / r.right.d)
+        → left-after ≡ missed_by r.left left plan.wiring after (e / r.left.d) → right-after ≡ missed_by r.right right plan.wiring after (place / r.right.d)
         → left-before ≤ 1 → right-before ≤ 1
         → 65536 + left-after + right-after - left-before - right-before ≡ count_change (side_of plan) block (turned block e 1)
     unfolding unsatisfied_count
     change-turned {place} is lb rb la ra low-left low-right =
-        let accepted = checked.plan-done in
+        let accepted = r.passed in
         let below = checked.bit-lt in
         rw (← turns)
         (change-is (side_of plan) block after _
         (omega (
           arith,
-          side-turned left checked.left_is e _ _ below ((plan-joined plan accepted).in_order e) lb la,
-          side-turned right checked.right_is place _ _ (rw is (entry_lt plan accepted e below)) (rw is (entry-bit plan accepted e below)) rb ra,
+          side-turned left r.left_is e _ _ below ((plan-joined plan accepted).in_order e) lb la,
+          side-turned right r.right_is place _ _ (rw is (entry_lt plan accepted e below)) (rw is (entry-bit plan accepted e below)) rb ra,
         )))

@@ -4,7 +4,7 @@
 --   missed_up_to code side wiring m block  how many of the vertices 0 .. m - 1 of a side fail it (specs Answer)
 --   missed_word side w, missed side block v  the same by the definition of a codeword (Counting)
 --   unsatisfied_at side block             how many vertices of a side read no inner codeword (specs Count)
---   code_of plan name                     a side of a plan as the code holds it (wiring specs Checking)
+--   code_of plan name                     a side of a plan as the code holds it (wiring specs Code)
 -- Laws are named by their subject, then by the fact: `word-` is about one word, `vertex-` about one vertex, `up-to-` about the vertices before
 -- one. At the end of a name, `-told` is what the code's cast of a test tells, `-none` and `-one-more` are the steps of a loop, `-defined` says that
 -- in an accepted plan the code's number is the definition's.
@@ -22,7 +22,7 @@ use Rattle.inner_code.specs.Reduction.{reduced_by}
 use Rattle.inner_code.specs.Sheet.{row_count, row_of}
 use Rattle.wiring.specs.Plan.{Plan, sheet_of, count_of, side_of}
 use Rattle.wiring.specs.Wiring.{plan_check}
-use Rattle.wiring.specs.Checking.{code_of}
+use Rattle.wiring.specs.Code.{code_of}
 use Rattle.wiring.specs.declared.side.SideCode.{SideCode}
 use Rattle.wiring.specs.declared.side.SideName.{SideName}
 use Rattle.wiring.proofs.Locating.{codeword-residue}

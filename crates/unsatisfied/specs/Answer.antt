@@ -2,29 +2,29 @@
 --   missed_of code w               1 where the first k rows of the basis leave something of the word w, 0 where they do not
 --   missed_by code side wiring block v  the same of the word that vertex v reads: the code's test of a vertex
 --   missed_up_to code side wiring m block  how many of the vertices 0 .. m - 1 of a side fail it
---   CheckedBit plan left right bit block  a bit of a checked block of an accepted plan, and the codes are those of the plan's sides
+--   CheckedBit plan bit block      a bit of a checked block of a plan
 --   entry_with wiring e            the first entry of a wiring at which edge e stands; their number where it stands at none
 --   count_answer plan block        1 to 10, 23, 11, 12, or the true count
 --   bit_check plan bit block       what stops the setting of a bit: 1 to 10, 23, 11, 12, 27
 --   bit_answer plan bit value block  these, or the change of the true count where the bit is made the last binary digit of the value
 --   bit_block plan bit value block  the block at exit
 --   counted_reply r                the number, place and value for each case of an answer in the code
-use Rattle.std.specs.Prelude.{ℕ, ◌/◌, ◌%◌, ◌<◌, min, List, [], ◌∷◌, not, ◌≡◌, leb, eqb, length}
+use Rattle.std.specs.Prelude.{ℕ, ◌/◌, ◌%◌, ◌<◌, min, List, [], ◌∷◌, not, ◌≡◌, leb, eqb, length, Result, Ok, Err}
 use Rattle.bits.specs.Bit.{with_bit}
 use Rattle.bits.specs.Sum.{sum, flag}
 use Rattle.bits.specs.Search.{first_failing}
 use Rattle.bits.specs.Window.{at}
 use Rattle.inner_code.specs.Reduction.{reduced_by}
+use Rattle.inner_code.specs.Refusal.{number_of, place_of}
 use Rattle.inner_code.specs.Reply.{Reply, done, refused, refuse_if, and_then, if_done}
-use Rattle.wiring.specs.Plan.{Plan, edge_of, edge_count, side_of, left, right}
+use Rattle.inner_code.specs.declared.refusal.Refusal.{Refusal}
+use Rattle.wiring.specs.Plan.{Plan, edge_of, edge_count, side_of}
 use Rattle.wiring.specs.Wiring.{plan_check}
 use Rattle.wiring.specs.Block.{block_check}
 use Rattle.wiring.specs.Access.{read_word}
-use Rattle.wiring.specs.Checking.{code_of}
 use Rattle.wiring.specs.declared.side.SideCode.{SideCode}
 use Rattle.wiring.specs.declared.side.SideName.{SideName}
 use Rattle.unsatisfied.specs.Count.{unsatisfied_count, count_change}
-use Rattle.unsatisfied.specs.declared.count.Counted.{Counted}
 
 unfoldable pub missed_of : SideCode → ℕ → ℕ
 unfolding flag at reduced_by
@@ -38,10 +38,7 @@ unfoldable pub missed_up_to : SideCode → SideName → List ℕ → ℕ → Lis
 unfolding sum missed_by
 missed_up_to code side wiring m block = sum m (λ v. missed_by code side wiring block v)
 
-pub record CheckedBit (plan : Plan) (left-code right-code : SideCode) (bit : ℕ) (block : List ℕ) : Type 0 where
-  pub plan-done : plan_check plan ≡ done []
-  pub left_is : left-code ≡ code_of plan left
-  pub right_is : right-code ≡ code_of plan right
+pub record CheckedBit (plan : Plan) (bit : ℕ) (block : List ℕ) : Type 0 where
   pub block-done : block_check (edge_count plan) block ≡ done []
   pub bit-lt : bit < edge_count plan
 
@@ -68,6 +65,6 @@ unfoldable pub bit_block : Plan → ℕ → ℕ → List ℕ → List ℕ
 unfolding if_done bit_check with_bit
 bit_block plan bit value block = if_done (bit_check plan bit block) (with_bit block bit (value % 2)) block
 
-abbrev pub counted_reply : Counted → Reply
-counted_reply (Counted.Told value) = done (value ∷ [])
-counted_reply (Counted.Refused r) = refused r.number r.place
+abbrev pub counted_reply : Result ℕ Refusal → Reply
+counted_reply (Ok value) = done (value ∷ [])
+counted_reply (Err r) = refused (number_of r) (place_of r)

@@ -1,53 +1,37 @@
 // The true count of a block: every vertex of both sides is tested.
-ghost use Rattle.std.specs.Prelude.{◌≡◌, ℕ, ◌≤◌, ◌<◌};
-ghost use Rattle.wiring.specs.Plan.{plan_at};
+ghost use Rattle.std.specs.Prelude.{◌≡◌, ◌≤◌, []};
+ghost use Rattle.inner_code.specs.Reply.{done};
+ghost use Rattle.wiring.specs.Plan.{edge_count, side_of};
+ghost use Rattle.wiring.specs.PlanParts.{plan_in};
+ghost use Rattle.wiring.specs.Block.{block_check};
 ghost use Rattle.wiring.specs.Access.{Readable};
-ghost use Rattle.unsatisfied.specs.Answer.{missed_of, missed_by, missed_up_to, count_answer, counted_reply};
+ghost use Rattle.unsatisfied.specs.Count.{unsatisfied_at};
+ghost use Rattle.unsatisfied.specs.Answer.{missed_of, missed_by, count_answer, counted_reply};
 
 use inner_code::Refusal;
-use wiring::{Checked, SideCode, SideName};
-
-// A count or its change, or the refusal.
-#[derive(Clone, Copy)]
-pub enum Counted {
-    Told(usize),
-    Refused(Refusal),
-}
+use wiring::{CheckedPlan, PlanParts, SideCode, SideName};
 
 // How many vertices of a block are unsatisfied, left and right. Refusals 1 to 12 and 23.
-pub fn count_unsatisfied(
-    left: &[u8],
-    right: &[u8],
-    nl: usize,
-    nr: usize,
-    wiring: &[u8],
-    block: &[u8],
-) -> Counted
-    ensures { counted_reply result ≡ count_answer (plan_at left right nl nr wiring) block.now }
+pub fn count_unsatisfied(plan: PlanParts<'_>, block: &[u8]) -> Result<usize, Refusal>
+    ensures { counted_reply result ≡ count_answer (plan_in plan.entry) block.now }
 {
-    let plan = wiring::check_plan(left, right, nl, nr, wiring);
-    let checked = plan.checked;
-    match checked {
-        Checked::Refused(r) => Counted::Refused(r),
-        Checked::Passed => match wiring::check_block(plan.left.n * plan.left.d, block) {
-            Checked::Refused(r) => Counted::Refused(r),
-            Checked::Passed => {
-                let here = missed_on(plan.left, SideName::Left, wiring, block);
-                let there = missed_on(plan.right, SideName::Right, wiring, block);
-                Counted::Told(here + there)
-            }
-        },
-    }
+    let checked = wiring::check_plan(plan)?;
+    wiring::check_block(checked.edges(), block)?;
+    let here = missed_on(checked, SideName::Left, block);
+    let there = missed_on(checked, SideName::Right, block);
+    Ok(here + there)
 }
 
-// How many vertices of a side fail the test.
-fn missed_on(code: SideCode, side: SideName, wiring: &[u8], block: &[u8]) -> usize
-    requires { (v : ℕ) → v < code.n → Readable side wiring.now code.d block.now v }
-    ensures { (result ≡ missed_up_to code side wiring.now code.n block.now) × (result ≤ code.n) }
+// How many vertices of a side are unsatisfied.
+fn missed_on(plan: CheckedPlan<'_>, side: SideName, block: &[u8]) -> usize
+    requires { block_check (edge_count (plan_in plan.parts)) block.now ≡ done [] }
+    ensures counted { result ≡ unsatisfied_at (side_of (plan_in plan.entry.parts) side) block.now }
+    ensures few { result ≤ 2048 }
 {
+    let code = plan.side(side);
     let mut count = 0;
     for v in 0..code.n {
-        count += missed_at(code, side, wiring, block, v);
+        count += missed_at(code, side, plan.parts.wiring, block, v);
     }
     count
 }

@@ -4,5 +4,5 @@
 mod count;
 mod set;
 
-pub use count::{Counted, count_unsatisfied, missed_word};
+pub use count::{count_unsatisfied, missed_word};
 pub use set::set_bit;

@@ -1,13 +1,9 @@
 -- `single_sweep::sweep_told` meets its contract: after v vertices the block is the one with the first v visited, and `change` is how the true count
 -- has changed. A codeword stays; any other word takes its nearest one, which is a codeword unless it is a tie.
-use mathlib.Core.Bool.{Bool, true, false, cond, not}
-use mathlib.Core.List.{List, []}
-use mathlib.Core.Path.{◌≡◌, refl, ap, ◌∙◌}
-use Prim.Native.Nat.{ℕ, ◌+◌, ◌-◌, ◌*◌, ◌≤◌, ◌<◌}
-use native.Mathlib.Omega.{arith}
+use Rattle.std.proofs.Common.{◌≡◌, ℕ, ◌+◌, ◌-◌, ◌*◌, ◌≤◌, ◌<◌, Bool, true, false, not, List, [], length, refl, ap, ◌∙◌, arith}
+use mathlib.Core.Bool.{cond}
 use lib.Bits.{bit_xor}
 use lib.Dec.{eqb}
-use lib.ListN.{length}
 use mir.Val.{bool_byte}
 use Rattle.inner_code.specs.Reply.{done}
 use Rattle.inner_code.specs.Sheet.{degree}
@@ -15,30 +11,28 @@ use Rattle.inner_code.specs.declared.nearest.Step.{Step}
 use Rattle.finder.specs.Finding.{Finds, Found}
 use Rattle.finder.proofs.Finding.{Member, member-means}
 use Rattle.words.specs.Words.{pattern_put}
-use Rattle.wiring.specs.Plan.{Plan, plan_of, sheet_of, count_of, side_of, side_bit, edge_count, other}
+use Rattle.wiring.specs.Plan.{Plan, sheet_of, count_of, side_of, side_bit, edge_count, other}
+use Rattle.wiring.specs.PlanParts.{plan_in}
 use Rattle.wiring.specs.Wiring.{plan_check}
-use Rattle.wiring.specs.Block.{vertex_word}
+use Rattle.wiring.specs.Block.{block_check, vertex_word}
 use Rattle.wiring.specs.Access.{read_word}
-use Rattle.wiring.specs.Checking.{code_of}
+use Rattle.wiring.specs.Code.{code_of}
 use Rattle.wiring.specs.declared.side.SideCode.{SideCode}
 use Rattle.wiring.specs.declared.side.SideName.{SideName}
-use Rattle.wiring.proofs.Sides.{sheet-for}
+use Rattle.wiring.proofs.Blocks.{block_room}
 use Rattle.wiring.proofs.VertexAccess.{read-vertex, plan-readable}
+use Rattle.wiring.proofs.VertexWords.{vertex-lt}
 use Rattle.unsatisfied.specs.Count.{unsatisfied_at}
 use Rattle.sweeps.proofs.Visiting.{word-stays, word-found, word-counted, word-put, found_lt, pattern_lt, ready-side}
-use Rattle.sweeps.proofs.Rounds.{nearest-asked}
-use Rattle.single_sweep.specs.Answer.{once_check}
 use Rattle.single_sweep.specs.Telling.{Visited}
-use Rattle.single_sweep.proofs.Answers.{check-accepted, check-room}
-use Rattle.single_sweep.proofs.TurnedBits.{code-named}
 use Rattle.single_sweep.proofs.Visits.{visited-none, visited-kept, visited-mended, visited-all, visited-length, change-few, word-missed, word-mended, side-few}
 use Rattle.single_sweep.proofs.sweep.sweep_told.Goals as goal
-use Rattle.single_sweep.proofs.sweep.sweep_told.Goals.{After-code_of-code, After-put_told-told}
+use Rattle.single_sweep.proofs.sweep.sweep_told.Goals.{After-put_told-told}
 
 -- the block has room for all bits
-room : (plan : Plan) {name : SideName} {before block : List ℕ} {v change : ℕ} → once_check plan before ≡ done [] → Visited plan name before v change block
-    → edge_count plan ≤ length block * 8
-room plan {name} pass so_far = omega (arith, visited-length plan (check-accepted plan _ pass) name so_far, check-room plan _ pass)
+room : (plan : Plan) → plan_check plan ≡ done [] → {name : SideName} {before block : List ℕ} {v change : ℕ}
+    → block_check (edge_count plan) before ≡ done [] → Visited plan name before v change block → edge_count plan ≤ length block * 8
+room plan accepted {name} {before} pass so_far = omega (arith, visited-length plan accepted name so_far, block_room (edge_count plan) before pass)
 
 -- ---- the vertex at the loop's head, and the word that is read there
 
@@ -50,61 +44,49 @@ module _ (plan : Plan) (name : SideName) {code : SideCode} (held : code ≡ code
   read_is : (block : List ℕ) (v : ℕ) {word : ℕ} → word ≡ read_word name plan.wiring code.d block v → word ≡ vertex_word (side_of plan name) block v
   read_is block v e = rw (ap (λ (x : SideCode). x.d) held) at e ∙ read-vertex (sheet_of plan name) _ _ name block v
 
-abbrev plan_in : After-code_of-code → Plan
-plan_in c = plan_of c.args.left.now c.args.right.now c.args.nl c.args.nr c.args.wiring.now
-
--- the side as its check has told it
-held : (c : After-code_of-code) → c.code_of-code.result ≡ code_of (plan_in c) c.args.side
-held c = c.code_of-code.ensures ∙ code-named (plan_in c) c.requires.left_code_value c.requires.right_code_value c.args.side
-
 pub loop-v-init : goal.loop-v-init
-loop-v-init c = record { visited = visited-none _ (check-accepted _ _ c.requires.block_value) c.args.side _; finds = c.requires.finds }
+loop-v-init c = record { visited = visited-none _ c.args.plan.passed c.args.side _; finds = c.requires.finds }
 
 pub read_word-word-requires : goal.read_word-word-requires
 read_word-word-requires c =
-    let at = (goal.at.read_word-word-requires c).After-code_of-code in
-    let is = held at in
-    rw (ap (λ (x : SideCode). x.d) is)
-    (plan-readable _ (check-accepted _ _ c.requires.block_value) c.loop-v.block (room _ c.requires.block_value c.loop-v.invariant.visited) c.args.side c.loop-v.v
-    (below (plan_in at) c.args.side is c.loop-v-test.true))
-
-pub is_codeword-requires : goal.is_codeword-requires
-is_codeword-requires c = c.loop-v.invariant.finds.sized
+    let plan = plan_in c.args.plan.parts in
+    let accepted = c.args.plan.passed in
+    rw (ap (λ (x : SideCode). x.d) c.side-code.ensures)
+    (plan-readable plan accepted c.loop-v.block (room plan accepted c.requires.block_done c.loop-v.invariant.visited) c.args.side c.loop-v.v
+    (below plan c.args.side c.side-code.ensures c.loop-v-test.true))
 
 pub loop-v-preserved-then-is_codeword : goal.loop-v-preserved-then-is_codeword
 loop-v-preserved-then-is_codeword c =
-    let accepted = check-accepted _ _ c.requires.block_value in
+    let plan = plan_in c.args.plan.parts in
+    let accepted = c.args.plan.passed in
     let side = c.args.side in
     let turn = c.loop-v in
-    let at = (goal.at.loop-v-preserved-then-is_codeword c).After-code_of-code in
-    let stays = word-stays (ready-side _ accepted side turn.invariant.finds) side turn.block (below (plan_in at) side (held at) c.loop-v-test.true)
-    (read_is (plan_in at) side (held at) turn.block turn.v c.read_word-word.ensures) (member-means _ _ c.is_codeword.ensures) c.if-is_codeword.true in
+    let stays = word-stays (ready-side plan accepted side turn.invariant.finds) side turn.block (below plan side c.side-code.ensures c.loop-v-test.true)
+    (read_is plan side c.side-code.ensures turn.block turn.v c.read_word-word.ensures) (member-means _ _ c.is_codeword.ensures) c.if-is_codeword.true in
     record { visited = visited-kept _ accepted side turn.invariant.visited stays; finds = turn.invariant.finds }
 
-pub nearest_on-step-requires : goal.nearest_on-step-requires
-nearest_on-step-requires c =
-    let at = (goal.at.nearest_on-step-requires c).After-code_of-code in
-    let read = read_is (plan_in at) c.args.side (held at) c.loop-v.block c.loop-v.v c.read_word-word.ensures in
-    let asked = nearest-asked (plan_in at) c.args.side c.loop-v.invariant.finds c.loop-v.block c.loop-v.v read in
-    record { finds = asked.0; word_bound = asked.1 }
+pub find_nearest-step-requires : goal.find_nearest-step-requires
+find_nearest-step-requires c =
+    let plan = plan_in c.args.plan.parts in
+    let side = c.args.side in
+    let read = read_is plan side c.side-code.ensures c.loop-v.block c.loop-v.v c.read_word-word.ensures in
+    rw c.sheet-sheet.ensures
+    (record { finds = c.loop-v.invariant.finds; word_bound = rw read (vertex-lt (side_of plan side) c.loop-v.block c.loop-v.v) })
 
 -- ---- a word that is no codeword
 
 pub put_told-told-requires : goal.put_told-told-requires
 put_told-told-requires c =
-    let accepted = check-accepted _ _ c.requires.block_value in
+    let plan = plan_in c.args.plan.parts in
+    let accepted = c.args.plan.passed in
     let side = c.args.side in
-    let at = (goal.at.put_told-told-requires c).After-code_of-code in
-    let under = below (plan_in at) side (held at) c.loop-v-test.true in
+    let under = below plan side c.side-code.ensures c.loop-v-test.true in
     record {
-      plan_value = accepted;
-      left_code_value = c.requires.left_code_value;
-      right_code_value = c.requires.right_code_value;
       v_bound = under;
-      pattern_bound = pattern_lt (ready-side _ accepted side c.loop-v.invariant.finds) side c.loop-v.block under
-          (read_is (plan_in at) side (held at) c.loop-v.block c.loop-v.v c.read_word-word.ensures) (rw (sheet-for (plan_in at) side) at c.nearest_on-step.ensures);
+      pattern_bound = pattern_lt (ready-side plan accepted side c.loop-v.invariant.finds) side c.loop-v.block under
+          (read_is plan side c.side-code.ensures c.loop-v.block c.loop-v.v c.read_word-word.ensures) (rw c.sheet-sheet.ensures at c.find_nearest-step.ensures);
       across = c.requires.across;
-      plan_in_bounds = room _ c.requires.block_value c.loop-v.invariant.visited;
+      room = room plan accepted c.requires.block_done c.loop-v.invariant.visited;
     }
 
 -- ---- the vertex mended
@@ -134,29 +116,31 @@ module _ (plan : Plan) (accepted : plan_check plan ≡ done []) (name : SideName
       visited-mended plan accepted name so_far told settled below mapped puts tells
       (rw e (word-mended plan accepted name block room below missed mapped counted puts low))
 
-mended : (c : After-put_told-told) → let settled : ℕ = bool_byte (not (eqb c.nearest_on-step.result.changed 0)) in
+mended : (c : After-put_told-told) → let settled : ℕ = bool_byte (not (eqb c.find_nearest-step.result.changed 0)) in
     (65536 + settled ≤ c.loop-v.change + c.put_told-told.result)
-    × Visited (plan_of c.args.left.now c.args.right.now c.args.nl c.args.nr c.args.wiring.now) c.args.side c.args.block.now (c.loop-v.v + 1)
+    × Visited (plan_in c.args.plan.parts) c.args.side c.args.block.now (c.loop-v.v + 1)
     (c.loop-v.change + c.put_told-told.result - 65536 - settled) c.put_told-told.new.block
 mended c =
-    let plan : Plan = plan_of c.args.left.now c.args.right.now c.args.nl c.args.nr c.args.wiring.now in
+    let plan : Plan = plan_in c.args.plan.parts in
+    let accepted = c.args.plan.passed in
     let side = c.args.side in
     let turn = c.loop-v.invariant in
-    let is = c.code_of-code.ensures ∙ code-named plan c.requires.left_code_value c.requires.right_code_value side in
+    let is = c.side-code.ensures in
     let told = c.put_told-told.ensures in
-    mends plan (check-accepted plan _ c.requires.block_value) side turn.visited turn.finds (below plan side is c.loop-v-test.true)
-    (room plan c.requires.block_value turn.visited) c.put_told-told.result
+    mends plan accepted side turn.visited turn.finds (below plan side is c.loop-v-test.true)
+    (room plan accepted c.requires.block_done turn.visited) c.put_told-told.result
     (read_is plan side is c.loop-v.block c.loop-v.v c.read_word-word.ensures) (member-means _ _ c.is_codeword.ensures)
-    c.if-is_codeword.false (rw (sheet-for plan side) at c.nearest_on-step.ensures) told.block_after told.block_value _ (as_cond _)
+    c.if-is_codeword.false (rw c.sheet-sheet.ensures at c.find_nearest-step.ensures) told.block_after told.told _ (as_cond _)
 
 pub overflow_add-change : goal.overflow_add-change
 overflow_add-change c =
-    let accepted = check-accepted _ _ c.requires.block_value in
+    let plan = plan_in c.args.plan.parts in
+    let accepted = c.args.plan.passed in
     omega (
       arith,
-      change-few _ accepted c.args.side c.loop-v.invariant.visited,
-      c.put_told-told.ensures.block_value,
-      side-few _ accepted (other c.args.side) c.put_told-told.new.block,
+      change-few plan accepted c.args.side c.loop-v.invariant.visited,
+      c.put_told-told.ensures.told,
+      side-few plan accepted (other c.args.side) c.put_told-told.new.block,
     )
 
 pub overflow_sub-change : goal.overflow_sub-change
@@ -167,13 +151,13 @@ overflow_sub-change-in-loop-v c = omega (arith, (mended (goal.at.overflow_sub-ch
 
 pub loop-v-preserved : goal.loop-v-preserved
 loop-v-preserved c =
-    let at = goal.at.loop-v-preserved c in
-    let found = rw (sheet-for (plan_in at.After-code_of-code) c.args.side) at c.nearest_on-step.ensures in
-    record { visited = (mended at.After-put_told-told).1; finds = found.finds }
+    record {
+      visited = (mended (goal.at.loop-v-preserved c).After-put_told-told).1;
+      finds = (rw c.sheet-sheet.ensures at c.find_nearest-step.ensures).finds;
+    }
 
 pub returns : goal.returns
 returns c =
-    let is = held (goal.at.returns c).After-code_of-code in
-    let swept = visited-all _ (check-accepted _ _ c.requires.block_value) c.args.side c.loop-v.invariant.visited
-    (omega (arith, ap (λ (x : SideCode). x.n) is)) in
+    let swept = visited-all (plan_in c.args.plan.parts) c.args.plan.passed c.args.side c.loop-v.invariant.visited
+    (omega (arith, ap (λ (x : SideCode). x.n) c.side-code.ensures)) in
     record { value = swept.0; block_after = swept.1 }
