@@ -4,18 +4,18 @@ use Rattle.c_api.specs.Answer.{told}
 use Rattle.c_api.proofs.Telling.{telling}
 use Rattle.c_api.proofs.lembikat_build_table.Goals as goal
 
-pub returns-in-Done : goal.returns-in-Done
+pub returns-in-Ok : goal.returns-in-Ok
 unfolding told
-returns-in-Done c = record {
-  value = telling built_reply c.in-Done.is
+returns-in-Ok c = record {
+  value = telling built_reply c.in-Ok.is
       c.build_table.ensures.result_value told c.done.ensures;
   output_after = c.build_table.ensures.output_after;
 }
 
-pub returns-in-Refused : goal.returns-in-Refused
+pub returns-in-Err : goal.returns-in-Err
 unfolding told
-returns-in-Refused c = record {
-  value = telling built_reply c.in-Refused.is
+returns-in-Err c = record {
+  value = telling built_reply c.in-Err.is
       c.build_table.ensures.result_value told c.refused.ensures;
   output_after = c.build_table.ensures.output_after;
 }

@@ -6,18 +6,18 @@ use Rattle.c_api.specs.Answer.{told_decode}
 use Rattle.c_api.proofs.Telling.{telling-sums}
 use Rattle.c_api.proofs.lembikat_decode.Goals as goal
 
-pub returns-in-Settled : goal.returns-in-Settled
+pub returns-in-Ok : goal.returns-in-Ok
 unfolding told_decode
-returns-in-Settled c =
-    let call = c.decode-decoding in record {
-      value = telling-sums decode_reply c.in-Settled.is call.ensures.answer call.ensures.sums call.ensures.visits refl;
-      output_after = call.ensures.leaves;
+returns-in-Ok c =
+    let call = rw c.parts-plan.ensures at c.decode-decoding.ensures in record {
+      value = telling-sums decode_reply c.in-Ok.is call.answer call.sums call.visits refl;
+      output_after = call.leaves;
     }
 
-pub returns-in-Refused : goal.returns-in-Refused
+pub returns-in-Err : goal.returns-in-Err
 unfolding told_decode
-returns-in-Refused c =
-    let call = c.decode-decoding in record {
-      value = telling-sums decode_reply c.in-Refused.is call.ensures.answer call.ensures.sums call.ensures.visits refl;
-      output_after = call.ensures.leaves;
+returns-in-Err c =
+    let call = rw c.parts-plan.ensures at c.decode-decoding.ensures in record {
+      value = telling-sums decode_reply c.in-Err.is call.answer call.sums call.visits cc;
+      output_after = call.leaves;
     }

@@ -4,10 +4,10 @@ use Rattle.c_api.specs.Answer.{told}
 use Rattle.c_api.proofs.Telling.{telling}
 use Rattle.c_api.proofs.lembikat_margin.Goals as goal
 
-pub returns-in-Sweeps : goal.returns-in-Sweeps
+pub returns-in-Ok : goal.returns-in-Ok
 unfolding told
-returns-in-Sweeps c = telling margin_reply c.in-Sweeps.is c.margin_sweeps.ensures told c.done.ensures
+returns-in-Ok c = telling margin_reply c.in-Ok.is (rw c.parts.ensures at c.margin_sweeps.ensures) told c.done.ensures
 
-pub returns-in-Refused : goal.returns-in-Refused
+pub returns-in-Err : goal.returns-in-Err
 unfolding told
-returns-in-Refused c = telling margin_reply c.in-Refused.is c.margin_sweeps.ensures told c.refused.ensures
+returns-in-Err c = telling margin_reply c.in-Err.is (rw c.parts.ensures at c.margin_sweeps.ensures) told c.refused.ensures

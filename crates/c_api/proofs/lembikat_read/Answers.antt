@@ -4,18 +4,18 @@ use Rattle.c_api.specs.Answer.{told}
 use Rattle.c_api.proofs.Telling.{telling}
 use Rattle.c_api.proofs.lembikat_read.Goals as goal
 
-pub returns-in-Done : goal.returns-in-Done
+pub returns-in-Ok : goal.returns-in-Ok
 unfolding told
-returns-in-Done c = record {
-  value = telling taken_reply c.in-Done.is
-      c.read_block.ensures.result_value told c.done.ensures;
-  output_after = c.read_block.ensures.output_after;
+returns-in-Ok c = record {
+  value = telling taken_reply c.in-Ok.is
+      (rw c.parts.ensures at c.read_block.ensures.result_value) told c.done.ensures;
+  output_after = rw c.parts.ensures at c.read_block.ensures.output_after;
 }
 
-pub returns-in-Refused : goal.returns-in-Refused
+pub returns-in-Err : goal.returns-in-Err
 unfolding told
-returns-in-Refused c = record {
-  value = telling taken_reply c.in-Refused.is
-      c.read_block.ensures.result_value told c.refused.ensures;
-  output_after = c.read_block.ensures.output_after;
+returns-in-Err c = record {
+  value = telling taken_reply c.in-Err.is
+      (rw c.parts.ensures at c.read_block.ensures.result_value) told c.refused.ensures;
+  output_after = rw c.parts.ensures at c.read_block.ensures.output_after;
 }

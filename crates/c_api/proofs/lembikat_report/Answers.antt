@@ -4,18 +4,18 @@ use Rattle.c_api.specs.Answer.{told}
 use Rattle.c_api.proofs.Telling.{telling}
 use Rattle.c_api.proofs.lembikat_report.Goals as goal
 
-pub returns-in-Pairs : goal.returns-in-Pairs
+pub returns-in-Ok : goal.returns-in-Ok
 unfolding told
-returns-in-Pairs c = record {
-  value = telling report_reply c.in-Pairs.is
-      c.report_runs.ensures.result_value told c.done.ensures;
-  list_after = c.report_runs.ensures.list_after;
+returns-in-Ok c = record {
+  value = telling report_reply c.in-Ok.is
+      (rw c.parts.ensures at c.report_runs.ensures.result_value) told c.done.ensures;
+  list_after = rw c.parts.ensures at c.report_runs.ensures.list_after;
 }
 
-pub returns-in-Refused : goal.returns-in-Refused
+pub returns-in-Err : goal.returns-in-Err
 unfolding told
-returns-in-Refused c = record {
-  value = telling report_reply c.in-Refused.is
-      c.report_runs.ensures.result_value told c.refused.ensures;
-  list_after = c.report_runs.ensures.list_after;
+returns-in-Err c = record {
+  value = telling report_reply c.in-Err.is
+      (rw c.parts.ensures at c.report_runs.ensures.result_value) told c.refused.ensures;
+  list_after = rw c.parts.ensures at c.report_runs.ensures.list_after;
 }

@@ -7,6 +7,6 @@ pub returns : goal.returns
 returns c =
     let called = c.set_bit.ensures in
     record {
-      value = c.shown.ensures ∙ ap told_state called.result_value;
-      state_after = called.state_after;
+      value = c.shown.ensures ∙ ap told_state (rw c.parts.ensures at called.result_value);
+      state_after = rw c.parts.ensures at called.state_after;
     }

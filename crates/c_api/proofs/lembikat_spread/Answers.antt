@@ -4,10 +4,10 @@ use Rattle.c_api.specs.Answer.{told}
 use Rattle.c_api.proofs.Telling.{telling}
 use Rattle.c_api.proofs.lembikat_spread.Goals as goal
 
-pub returns-in-Value : goal.returns-in-Value
+pub returns-in-Ok : goal.returns-in-Ok
 unfolding told
-returns-in-Value c = telling spread_reply c.in-Value.is c.plan_spread.ensures told c.done.ensures
+returns-in-Ok c = telling spread_reply c.in-Ok.is (rw c.parts.ensures at c.plan_spread.ensures) told c.done.ensures
 
-pub returns-in-Refused : goal.returns-in-Refused
+pub returns-in-Err : goal.returns-in-Err
 unfolding told
-returns-in-Refused c = telling spread_reply c.in-Refused.is c.plan_spread.ensures told c.refused.ensures
+returns-in-Err c = telling spread_reply c.in-Err.is (rw c.parts.ensures at c.plan_spread.ensures) told c.refused.ensures

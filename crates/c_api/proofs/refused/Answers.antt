@@ -5,4 +5,4 @@ use Rattle.c_api.proofs.refused.Goals as goal
 
 pub returns : goal.returns
 unfolding told
-returns c = refl
+returns c = cc
