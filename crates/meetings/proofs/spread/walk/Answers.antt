@@ -1,14 +1,8 @@
 -- `meetings::walk` meets its contract: after j turns each count has risen by the number of walks that go by one of the first j edges.
-use Rattle.std.proofs.Common.{◌≡◌, ◌*◌, ◌<◌, arith}
+use Rattle.std.proofs.Common.{◌*◌, ◌<◌, arith}
 use Rattle.meetings.proofs.Walks.{length-part, part-at, walk_none, walk-one-more, walk-countable, ends-room, ends-walkable}
 use Rattle.meetings.proofs.spread.walk.Goals as goal
 use Rattle.meetings.proofs.spread.walk.Goals.{In-loop-right}
-
-pub overflow_mul-base : goal.overflow_mul-base
-overflow_mul-base c = omega (arith, ends-room c.args.ends.listed c.args.u c.requires.is_vertex)
-
-pub slice_bounds-right-items-end : goal.slice_bounds-right-items-end
-slice_bounds-right-items-end c = ends-room c.args.ends.listed c.args.u c.requires.is_vertex
 
 pub loop-right-init : goal.loop-right-init
 loop-right-init c = let ends = c.args.ends in walk_none ends.lefts.now ends.rights.now (c.args.u * ends.dl) ends.dr c.args.counts.now
@@ -37,10 +31,3 @@ loop-right-preserved c =
     walk-one-more ends.lefts.now ends.rights.now _ ends.dr before.right-index c.args.counts.now before.counts
     c.count_edges.new.counts before.auto.counts before.invariant
     (rw (part-at ends.rights.now (c.args.u * ends.dl) ends.dl before.right-index l) at c.count_edges.ensures)
-
-pub returns : goal.returns
-returns c =
-    let ends = c.args.ends in
-    let room = ends-room ends.listed c.args.u c.requires.is_vertex in
-    let end : c.loop-right.right-index ≡ ends.dl = omega (arith, length-part ends.rights.now (c.args.u * ends.dl) ends.dl room) in
-    rw end at c.loop-right.invariant

@@ -21,9 +21,6 @@ returns-then-edges-flips c =
 within : (c : Else-edges-flips) → c.args.flips ≤ edge_count (plan_in c.in_ok-checked.checked.parts)
 within c = rw c.edges-edges.ensures at c.if-edges-flips.false
 
-pub measured_sweeps-sweeps-requires : goal.measured_sweeps-sweeps-requires
-measured_sweeps-sweeps-requires c = within c
-
 pub returns-then-sweeps-eq0 : goal.returns-then-sweeps-eq0
 returns-then-sweeps-eq0 c =
     let r = c.in_ok-checked.checked in

@@ -1,16 +1,14 @@
 -- `radius::measured_sweeps` meets its contract: where the first b is 0 one sweep is named, and else the sweeps named for an accepted plan's
 -- numbers are the margin's.
-use Rattle.std.proofs.Common.{◌≡◌, sym, ap, ◌∙◌, arith}
+use Rattle.std.proofs.Common.{◌≡◌, sym, ◌∙◌, arith}
 use Rattle.inner_code.proofs.InnerDistance.{distance-pos}
 use Rattle.wiring.specs.Plan.{side_of, left}
 use Rattle.wiring.specs.PlanParts.{plan_in}
 use Rattle.wiring.proofs.Plans.{plan-accepted, plan-few}
 use Rattle.radius.specs.Answer.{distance_of, measures_of}
-use Rattle.radius.specs.Margin.{Measures, sweeps_named}
-use Rattle.radius.specs.Ranges.{measures_by}
 use Rattle.radius.proofs.MarginChain.{named-one}
 use Rattle.radius.proofs.MeasuredNumbers.{distance_is}
-use Rattle.radius.proofs.PlanRanges.{measures-plan, plan-within}
+use Rattle.radius.proofs.PlanRanges.{plan-within}
 use Rattle.radius.proofs.margins.measured_sweeps.Goals as goal
 use Rattle.radius.proofs.margins.measured_sweeps.Goals.{After-measured_distance-distance}
 
@@ -29,8 +27,3 @@ returns-then-first_bound-eq0 c =
 
 pub sweeps_named-requires : goal.sweeps_named-requires
 sweeps_named-requires c = rw c.measured_numbers.ensures (plan-within _ c.args.plan.passed)
-
-pub returns : goal.returns
-returns c =
-    c.sweeps_named.ensures
-    ∙ ap (λ (m : Measures). sweeps_named m c.args.flips) (ap measures_by c.measured_numbers.ensures ∙ measures-plan (plan_in c.args.plan.parts))
