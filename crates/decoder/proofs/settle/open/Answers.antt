@@ -1,6 +1,6 @@
 -- `decoder::open` meets its contract: each sweep of the code is a sweep of the definition, its count of changed bits is noted as its sum, and with
 -- the ties of both tells whether the block was settled before the second. Where the second changes something, the left side is tested for it.
-use Rattle.std.proofs.Common.{◌≡◌, ℕ, ◌+◌, ◌≤◌, ◌<◌, List, min, refl, sym, arith, replicate, true≢false}
+use Rattle.std.proofs.Common.{◌≡◌, ℕ, ◌+◌, ◌≤◌, ◌<◌, List, min, refl, sym, arith, true≢false}
 use Rattle.wiring.specs.Plan.{Plan, count_of, side_of, left, right, other}
 use Rattle.wiring.specs.PlanParts.{plan_in}
 use Rattle.wiring.specs.declared.side.SideName.{SideName}

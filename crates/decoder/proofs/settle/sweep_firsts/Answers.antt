@@ -1,9 +1,6 @@
 -- `decoder::sweep_firsts` meets its contract: the left side is swept by itself, and the right side by the words that it then reads, with no vertex
 -- marked at first.
-use Rattle.std.proofs.Common.{◌≡◌, [], ap, ◌∙◌}
-use Rattle.inner_code.specs.Reply.{done}
-use Rattle.wiring.specs.Block.{block_check}
-use Rattle.wiring.specs.Plan.{edge_count, left, right}
+use Rattle.wiring.specs.Plan.{left, right}
 use Rattle.wiring.specs.PlanParts.{plan_in}
 use Rattle.words.proofs.Marks.{cleared-listening}
 use Rattle.wiring.proofs.Plans.{plan-whole}
