@@ -75,7 +75,7 @@ check-means plan received lost output H {values} e =
       plan-done = plan-back plan s w;
       block-done = block_back (edge_count plan) received sized (block-clear (edge_count plan) received pass);
       listed = spans-done (edge_count plan) lost listed.1;
-      fits = omega (arith, ltb-false (length output) (block_bytes (edge_count plan)) roomy);
+      fits = rw sized (ltb-false (length output) (block_bytes (edge_count plan)) roomy);
       limited = ltb-false 4096 H low;
     }
 
