@@ -9,14 +9,15 @@
 --   Opened ..                     its first two sweeps (specs Turns)
 --   Decodes ..                    what a function that decodes ensures (specs Answer)
 --   settled_from, changed_from ..   the block at which a trial settles, and the received bits that it changes outside the spans (Settling)
---   located_by codes wiring block  where the code finds a vertex that is not satisfied (wiring specs Access)
 --   Passed ..                     what a call knows that nothing stops before it decodes (specs Turns)
---   ByTrial received H count sums visits out reply told visited after  a call is answered by a trial whose block stands at the front of `out`: its
---                                 count, or 15 and the received block put back; `after` is what is left
+--   ByTrial received H trial out r after  a call is answered by a trial whose block stands at the front of `out`: its count, or 15 and the received
+--                                 block put back; `after` is what is left (specs Turns)
+--   Attempted plan received lost H b attempt block  what the trial with the lost bits b comes to, as the code makes it
 -- Laws are named by their subject, then by the fact: `passed-` is about a call that has passed its checks, `over-` about one whose output is written
 -- over at the front, `laid-` about a block laid at the front of a buffer and `part-` about any buffer, whose first `size` bytes are lent on and come
--- back as `swept`, `by-` about an answer by a trial, `twice-` about two trials, one outcome each. At the end of a name, `-none` is about the empty
--- list. copy-codeword is about a block that no sweep changes.
+-- back as `swept`, `by-` about an answer by a trial, `twice-` about two trials, one outcome each, `kept-` about the tests by which the code keeps one,
+-- `front-` about a call whose first two sweeps are made at the front of its output. At the end of a name, `-none` is about the empty list.
+-- codeword-answers and copy-codeword are about a block that no sweep changes.
 use Prim.Native.Nat.{ℕ, ◌/◌, ◌≤◌, ◌<◌, min}
 use native.Mathlib.Nat.{min-eq_left, min-eq_right, le_of_eq}
 use native.Mathlib.Decide.{dec_le, ℕ_discrete}
@@ -29,16 +30,12 @@ use lib.Seq.{length-take-le}
 use borrow.Author.Tests.{ltb-false, lt-ltb, le-ltb}
 use Rattle.bits.specs.Bit.{written}
 use Rattle.bits.proofs.Fronts.{written-part, written_over, written-again, length-written}
-use Rattle.inner_code.specs.Reply.{Reply, done}
+use Rattle.inner_code.specs.Reply.{done}
 use Rattle.inner_code.proofs.Replies.{and_then-done, refuse-done, refuse-taken, refuse-passed}
-use Rattle.wiring.specs.Access.{both_codes, located_by}
-use Rattle.wiring.specs.Plan.{Plan, edge_count, left, right, side_of}
+use Rattle.wiring.specs.Plan.{Plan, edge_count, side_of}
 use Rattle.wiring.specs.Block.{block_bytes, block_check, is_codeword_block, located}
-use Rattle.wiring.specs.Code.{code_of}
-use Rattle.wiring.specs.declared.side.SideCode.{SideCode}
 use Rattle.wiring.proofs.Blocks.{block-sized, block-clear, block_back}
 use Rattle.wiring.proofs.CodewordBlocks.{located-some}
-use Rattle.wiring.proofs.Locating.{located-by}
 use Rattle.wiring.proofs.Permutation.{fitted-edges}
 use Rattle.wiring.proofs.Plans.{plan-sound, plan-back, plan-entries}
 use Rattle.spans.specs.Spans.{flips_outside, filled}
@@ -78,7 +75,7 @@ check-means plan received lost output H {values} e =
       plan-done = plan-back plan s w;
       block-done = block_back (edge_count plan) received sized (block-clear (edge_count plan) received pass);
       listed = spans-done (edge_count plan) lost listed.1;
-      fits = omega (arith, ltb-false (length output) (block_bytes (edge_count plan)) roomy);
+      fits = rw sized (ltb-false (length output) (block_bytes (edge_count plan)) roomy);
       limited = ltb-false 4096 H low;
     }
 
@@ -94,16 +91,9 @@ module _ {plan : Plan} {received lost output : List ℕ} {H : ℕ} (p : Passed p
   passed-filled b l = filled-block (edge_count plan) b lost received p.listed l p.block-done
 
 -- a list of no bytes lists no span
-pub none-lost : (lost : List ℕ) → length lost ≡ 0 → lost ≡ []
+none-lost : (lost : List ℕ) → length lost ≡ 0 → lost ≡ []
 none-lost [] e = refl
 none-lost (byte ∷ lost) e = absurd (omega arith)
-
-module _ (plan : Plan) (received lost output : List ℕ) (H : ℕ) (none : lost ≡ []) where
-  pub check-none : {reply : Reply} → decode_check plan received lost output H ≡ reply → decode_check plan received [] output H ≡ reply
-  check-none e = sym (ap (λ (l : List ℕ). decode_check plan received l output H) none) ∙ e
-
-  pub answers-none : {r : Decoding} {after : List ℕ} → Decodes plan received [] output H r after → Decodes plan received lost output H r after
-  answers-none {r} {after} d = subst (λ (l : List ℕ). Decodes plan received l output H r after) (sym none) d
 
 -- ---- a call whose output was written over at the front, by as many bytes as the block has
 
@@ -129,11 +119,11 @@ module _ (plan : Plan) (received lost output : List ℕ) (H : ℕ) (checked : de
           length-after (side_of plan) (settles_at plan (filled b lost received) H) (filled b lost received) ∙ length-filled b lost received
 
   module _ (front : List ℕ) (sized : length front ≡ length received) where
-    pub over-check : decode_check plan received lost (written front output) H ≡ done []
+    over-check : decode_check plan received lost (written front output) H ≡ done []
     unfolding decode_check
     over-check = rw (length-written front output (omega (arith, (check-means plan received lost output H checked).fits))) checked
 
-    pub over-answers : {r : Decoding} {after : List ℕ} → Decodes plan received lost (written front output) H r after
+    over-answers : {r : Decoding} {after : List ℕ} → Decodes plan received lost (written front output) H r after
         → Decodes plan received lost output H r after
     over-answers d =
         let over = decode-passed plan received lost (written front output) H over-check in
@@ -167,7 +157,7 @@ module _ (block room : List ℕ) {laid : List ℕ} (size : ℕ) (put : laid ≡ 
   laid-part = ap (take size) put ∙ written-part block room size sized
 
   module _ (swept : List ℕ) (kept : length swept ≡ length (take size laid)) where
-    pub laid-sized : length swept ≡ length block
+    laid-sized : length swept ≡ length block
     laid-sized = kept ∙ ap length laid-part
 
     -- the buffer with the part back in its place
@@ -220,7 +210,6 @@ trials-same received lost e =
 
 -- ---- which trial is kept
 
--- what the trial with the lost bits b comes to, as the code makes it
 pub record Attempted (plan : Plan) (received lost : List ℕ) (H b : ℕ) (attempt : Attempt) (block : List ℕ) : Type 0 where
   pub tried : Tried plan (filled b lost received) H attempt.settling.count attempt.settling.sums attempt.settling.visits block
   pub changes : (length lost ≡ 0 → ⊥) → attempt.changed ≡ flips_around (length plan.wiring / 2) lost received block
@@ -287,7 +276,7 @@ module _ (plan : Plan) (received lost output : List ℕ) (H : ℕ) (checked : de
         ]
 
     -- where no bit is lost, both trials are the same
-    pub twice-none : length lost ≡ 0 → Decodes plan received lost output H r after
+    twice-none : length lost ≡ 0 → Decodes plan received lost output H r after
     twice-none none =
         let same = trials-same received lost none in
         let changed : changed_from plan received lost H 1 ≡ changed_from plan received lost H 0 =
@@ -357,7 +346,7 @@ module _ (plan : Plan) (received lost output : List ℕ) (H : ℕ) (checked : de
   front-sized : length swept ≡ length received
   front-sized = laid-sized (filled 0 lost received) output (length received) put lent swept kept ∙ sym lent
 
-  pub front-whole : swept ++ drop (length received) laid ≡ written swept output
+  front-whole : swept ++ drop (length received) laid ≡ written swept output
   front-whole = laid-whole (filled 0 lost received) output (length received) put lent swept kept
 
   pub front-check : decode_check plan received lost (swept ++ drop (length received) laid) H ≡ done []
@@ -375,31 +364,22 @@ module _ (plan : Plan) (received lost output : List ℕ) (H : ℕ) (checked : de
   front-settles {opening} opened (none, (ended, in-time)) =
       let settling : Settling = record { count = opening.count; sums = opening.sums; visits = opening.visits } in
       let tried = opened.closed ended in
-      twice-none plan received lost output H checked {trial = settling} (rw (laid-part (filled 0 lost received) output (length received) put lent) at tried) front-whole
-      (by-settled received H settling _ in-time) none
+      let here = laid-part (filled 0 lost received) output (length received) put lent in
+      twice-none plan received lost output H checked {trial = settling} (rw here at tried) front-whole (by-settled received H settling _ in-time) none
 
 -- ---- a codeword, which no sweep changes
 
-module _ (plan : Plan) (received output : List ℕ) (H : ℕ) (checked : decode_check plan received [] output H ≡ done []) (l r : SideCode)
-    (left_is : l ≡ code_of plan left) (right_is : r ≡ code_of plan right)
-    (nowhere : located_by (both_codes l r) plan.wiring received ≡ []) where
-  codeword-located : located (side_of plan) received ≡ []
-  unfolding located_by
-  codeword-located =
-      let (s, w) = plan-sound plan (check-means plan received [] output H checked).plan-done in
-      sym (ap₂ (λ (a b : SideCode). located_by (both_codes a b) plan.wiring received) left_is right_is
-      ∙ located-by plan received (λ name. (s name).count-high) w)
-      ∙ nowhere
-
+module _ (plan : Plan) (received output : List ℕ) (H : ℕ) (checked : decode_check plan received [] output H ≡ done [])
+    (nowhere : located (side_of plan) received ≡ []) where
   codeword-settled : settles_at plan received H ≡ 0
   codeword-settled =
       settles-at plan received H 0 (omega arith)
-      (ap (is_codeword_block (side_of plan)) (after-zero (side_of plan) received) ∙ located-some (side_of plan) received codeword-located)
+      (ap (is_codeword_block (side_of plan)) (after-zero (side_of plan) received) ∙ located-some (side_of plan) received nowhere)
       (λ j l. absurd (omega arith))
 
-  pub copy-codeword : {after : List ℕ} → after ≡ written received output
+  codeword-answers : {after : List ℕ} → after ≡ written received output
       → Decodes plan received [] output H (record { outcome = Ok 0; sums = replicate 64 0; visits = 0 }) after
-  copy-codeword e =
+  codeword-answers e =
       let d = decode-settled plan received output H checked 0 codeword-settled (omega arith) in
       record {
         answer = sym d.answer;
@@ -407,3 +387,10 @@ module _ (plan : Plan) (received output : List ℕ) (H : ℕ) (checked : decode_
         visits = sym (visits-zero plan received) ∙ sym d.visited;
         leaves = e ∙ ap (λ (block : List ℕ). written block output) (sym (after-zero (side_of plan) received)) ∙ sym d.leaves;
       }
+
+-- where no bit is lost it is answered as it was received
+pub copy-codeword : (plan : Plan) (received lost output : List ℕ) (H : ℕ) → decode_check plan received lost output H ≡ done [] → length lost ≡ 0
+    → located (side_of plan) received ≡ [] → {after : List ℕ} → after ≡ written received output
+    → Decodes plan received lost output H (record { outcome = Ok 0; sums = replicate 64 0; visits = 0 }) after
+copy-codeword plan received lost output H checked none nowhere e =
+    rw (none-lost lost none) (codeword-answers plan received output H (rw (none-lost lost none) at checked) nowhere e)

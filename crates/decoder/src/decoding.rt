@@ -2,9 +2,9 @@
 ghost use Rattle.std.specs.Prelude.{true, false, List, [], ◌≡◌, ℕ, ◌/◌, ◌%◌, ◌≤◌, ◌<◌, length, take, replicate, IfOk, Err};
 ghost use Rattle.bits.specs.Bit.{written};
 ghost use Rattle.inner_code.specs.Reply.{done};
-ghost use Rattle.wiring.specs.Plan.{edge_count};
+ghost use Rattle.wiring.specs.Plan.{edge_count, side_of};
 ghost use Rattle.wiring.specs.PlanParts.{plan_in};
-ghost use Rattle.wiring.specs.Access.{both_codes, AllReadable, located_by};
+ghost use Rattle.wiring.specs.Block.{block_check, located};
 ghost use Rattle.wiring.specs.Checking.{plan_reply, Permuted};
 ghost use Rattle.wiring.specs.Code.{code_of};
 ghost use Rattle.wiring.specs.declared.side.SideName.{SideName};
@@ -207,7 +207,8 @@ fn decode_on(
 ) -> Decoding
     requires ready { Ready (plan_in plan.now.parts) left_finder.old right_finder.old }
     requires limit_value { decode_check (plan_in plan.now.parts) received.block.now received.lost.now output.old opening.limit ≡ done [] }
-    requires opened { Opened (plan_in plan.now.parts) (filled 0 received.lost.now received.block.now) opening.limit opening kept.old (take (length received.block.now) output.old) }
+    requires opened { Opened (plan_in plan.now.parts) (filled 0 received.lost.now received.block.now) opening.limit opening kept.old
+        (take (length received.block.now) output.old) }
     ensures { Decodes (plan_in plan.now.parts) received.entry.block.now received.entry.lost.now output.old opening.limit result output.new }
 {
     if plan.parts.wiring.len() <= 2 * FEW_EDGES {
@@ -246,7 +247,8 @@ fn decode_with<const N: usize>(
     requires limit_value { decode_check (plan_in plan.now.parts) received.block.now received.lost.now output.old opening.limit ≡ done [] }
     requires n_bound { N ≤ 32768 }
     requires plan_in_bounds { edge_count (plan_in plan.now.parts) ≤ N }
-    requires opened { Opened (plan_in plan.now.parts) (filled 0 received.lost.now received.block.now) opening.limit opening kept.old (take (length received.block.now) output.old) }
+    requires opened { Opened (plan_in plan.now.parts) (filled 0 received.lost.now received.block.now) opening.limit opening kept.old
+        (take (length received.block.now) output.old) }
     ensures { Decodes (plan_in plan.now.parts) received.entry.block.now received.entry.lost.now output.old opening.limit result output.new }
 {
     let mut places = [0u16; N];
@@ -278,7 +280,8 @@ fn decode_placed(
     requires ready { Ready (plan_in plan.now.parts) left_finder.old right_finder.old }
     requires limit_value { decode_check (plan_in plan.now.parts) received.block.now received.lost.now output.old opening.limit ≡ done [] }
     requires plan_in_bounds { edge_count (plan_in plan.now.parts) ≤ length places.old }
-    requires opened { Opened (plan_in plan.now.parts) (filled 0 received.lost.now received.block.now) opening.limit opening kept.old (take (length received.block.now) output.old) }
+    requires opened { Opened (plan_in plan.now.parts) (filled 0 received.lost.now received.block.now) opening.limit opening kept.old
+        (take (length received.block.now) output.old) }
     ensures { Decodes (plan_in plan.now.parts) received.entry.block.now received.entry.lost.now output.old opening.limit result output.new }
 {
     let size = received.block.len();
@@ -364,9 +367,12 @@ fn finish_trial(
     ensures still_ready { Ready (plan_in plan.now.parts) left_finder.new right_finder.new }
     ensures places_noted_after { result.noted ≡ true → PlacesNoted plan.now.parts.wiring.now places.new }
     ensures room_after { room.new ≡ written (take (length received.entry.block.now) room.new) room.old }
-    ensures settles { (block : List ℕ) → Opened (plan_in plan.now.parts) block opening.limit opening kept.old (take (length received.entry.block.now) room.old)
-        → Tried (plan_in plan.now.parts) block opening.limit result.settling.count result.settling.sums result.settling.visits (take (length received.entry.block.now) room.new) }
-    ensures changed_value { (length received.entry.lost.now ≡ 0 → ⊥) → result.changed ≡ flips_around (length plan.now.parts.wiring.now / 2) received.entry.lost.now received.entry.block.now (take (length received.entry.block.now) room.new) }
+    ensures settles { (block : List ℕ)
+        → Opened (plan_in plan.now.parts) block opening.limit opening kept.old (take (length received.entry.block.now) room.old)
+        → Tried (plan_in plan.now.parts) block opening.limit result.settling.count result.settling.sums result.settling.visits
+        (take (length received.entry.block.now) room.new) }
+    ensures changed_value { (length received.entry.lost.now ≡ 0 → ⊥)
+        → result.changed ≡ flips_around (length plan.now.parts.wiring.now / 2) received.entry.lost.now received.entry.block.now (take (length received.entry.block.now) room.new) }
 {
     let size = received.block.len();
     let noted = places_for(plan.parts.wiring, opening.ended, noted, places);
@@ -487,8 +493,8 @@ fn refuse(refusal: Refusal) -> Decoding
 // Whether a block is found to be a codeword with no finder set up: one of zeros, which is a codeword of every plan, or one of few bits, by the
 // rows of each side. Of any other block nothing is said. Setting up a finder costs more than testing so few vertices by the rows.
 fn is_codeword_at_sight(plan: &CheckedPlan<'_>, block: &[u8]) -> bool
-    requires { AllReadable (both_codes plan.now.left plan.now.right) plan.now.parts.wiring.now block.now }
-    ensures { result ≡ true → located_by (both_codes plan.now.left plan.now.right) plan.now.parts.wiring.now block.now ≡ [] }
+    requires { block_check (edge_count (plan_in plan.now.parts)) block.now ≡ done [] }
+    ensures { result ≡ true → located (side_of (plan_in plan.now.parts)) block.now ≡ [] }
 {
     if bits::is_zero(block) {
         return true;

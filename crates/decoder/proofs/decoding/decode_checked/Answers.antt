@@ -3,31 +3,19 @@
 use Rattle.std.proofs.Common.{refl, arith, rules}
 use Rattle.wiring.specs.Plan.{left, right}
 use Rattle.wiring.specs.PlanParts.{plan_in}
-use Rattle.wiring.proofs.VertexAccess.{codes-readable}
-use Rattle.wiring.proofs.Blocks.{block_room}
 use Rattle.sweeps.proofs.Visiting.{side-preparable}
-use Rattle.decoder.proofs.Trials.{check-means, none-lost, check-none, answers-none, copy-codeword}
+use Rattle.decoder.proofs.Trials.{check-means, copy-codeword}
 use Rattle.decoder.proofs.decoding.decode_checked.Goals as goal
 
 pub is_codeword_at_sight-requires : goal.is_codeword_at_sight-requires
-is_codeword_at_sight-requires c =
-    let plan = c.args.plan in
-    codes-readable (plan_in plan.parts) plan.passed _ (block_room _ _ (check-means _ _ _ _ _ c.requires).block-done) plan.left_is plan.right_is
-
--- ---- a block that is a codeword at sight
+is_codeword_at_sight-requires c = (check-means _ _ _ _ _ c.requires).block-done
 
 pub copy_front-requires : goal.copy_front-requires
 copy_front-requires c = (check-means _ _ _ _ _ c.requires).fits
 
 pub returns-then-is_codeword_at_sight : goal.returns-then-is_codeword_at_sight
 returns-then-is_codeword_at_sight c =
-    let plan = c.args.plan in
-    let none = none-lost _ (search rules) in
-    answers-none (plan_in plan.parts) _ _ _ _ none
-    (copy-codeword (plan_in plan.parts) _ _ _ (check-none (plan_in plan.parts) _ _ _ _ none c.requires) plan.left plan.right plan.left_is plan.right_is
-    (c.is_codeword_at_sight.ensures c.if-is_codeword_at_sight.true) c.copy_front.ensures)
-
--- ---- any other
+    copy-codeword _ _ _ _ _ c.requires (search rules) (c.is_codeword_at_sight.ensures c.if-is_codeword_at_sight.true) c.copy_front.ensures
 
 pub prepare_finder-requires : goal.prepare_finder-requires
 prepare_finder-requires c = side-preparable (plan_in c.args.plan.parts) c.args.plan.passed left c.args.plan.left_is refl

@@ -1,30 +1,22 @@
 -- `decoder::open` meets its contract: each sweep of the code is a sweep of the definition, its count of changed bits is noted as its sum, and with
 -- the ties of both tells whether the block was settled before the second. Where the second changes something, the left side is tested for it.
-use mathlib.Core.Bool.{true≢false}
-use mathlib.Core.List.{List, []}
-use mathlib.Core.Path.{◌≡◌, refl, sym}
-use Prim.Native.Nat.{ℕ, ◌+◌, ◌≤◌, ◌<◌, min}
-use native.Mathlib.Omega.{arith}
-use lib.ListN.{replicate}
-use Rattle.inner_code.specs.Reply.{done}
-use Rattle.wiring.specs.Block.{block_check}
-use Rattle.wiring.specs.Plan.{Plan, count_of, side_of, edge_count, left, right, other}
+use Rattle.std.proofs.Common.{◌≡◌, ℕ, ◌+◌, ◌≤◌, ◌<◌, List, min, refl, sym, arith, true≢false}
+use Rattle.wiring.specs.Plan.{Plan, count_of, side_of, left, right, other}
+use Rattle.wiring.specs.PlanParts.{plan_in}
 use Rattle.wiring.specs.declared.side.SideName.{SideName}
 use Rattle.wiring.proofs.Plans.{plan-fits}
 use Rattle.sweeps.specs.Sweep.{turn}
-use Rattle.sweeps.specs.Sweeping.{Ready, BothSwept}
+use Rattle.sweeps.specs.Sweeping.{BothSwept}
 use Rattle.sweeps.specs.declared.sweep.Tally.{Tally}
 use Rattle.sweeps.proofs.Sweeping.{after-zero}
 use Rattle.sweeps.proofs.Visiting.{ties-le}
 use Rattle.decoder.specs.Decode.{visits_in, visits_made}
-use Rattle.decoder.specs.Turns.{Midway, noted, added_visits}
+use Rattle.decoder.specs.Turns.{added_visits}
 use Rattle.decoder.proofs.VisitCounts.{visits-full, visits-added, visits-few}
 use Rattle.decoder.proofs.Passes.{Begun, Pass, Told, Swept, turn-zero, turn_one, pass, pass-few, told-start, told_more, told-sized, swept-two}
 use Rattle.decoder.proofs.Passes.{open-first, open-second, open-limit, open-settled, open-going}
 use Rattle.decoder.proofs.settle.open.Goals as goal
-
-begun : {plan : Plan} {l r block : List ℕ} → Ready plan l r → block_check (edge_count plan) block ≡ done [] → Begun plan block
-begun ready checked = record { plan-done = ready.plan-done; block-done = checked }
+use Rattle.decoder.proofs.settle.open.Goals.{Start, After-sweep_firsts-firsts, After-note, After-note-2}
 
 module _ {plan : Plan} {block : List ℕ} (b : Begun plan block) where
   few : (name : SideName) → count_of plan name ≤ 2048
@@ -48,8 +40,6 @@ module _ {plan : Plan} {block : List ℕ} (b : Begun plan block) where
         few right,
       )
 
-  -- ---- the two sweeps
-
   module _ {here there : Tally} {after kept : List ℕ} (both : BothSwept plan block here there after kept) where
     first-pass : Pass plan block 0 here both.between
     first-pass = pass b both.left-swept turn-zero (sym (after-zero (side_of plan) block))
@@ -70,123 +60,106 @@ module _ {plan : Plan} {block : List ℕ} (b : Begun plan block) where
           few right,
         )
 
-    -- ---- what they tell
+-- ---- the places of the code
 
-    module _ (limit : ℕ) {first-sums : List ℕ} {one two : ℕ} (first-noted : first-sums ≡ noted (replicate 64 0) 0 limit here.changed)
-        (one-added : one ≡ added_visits 0 0 limit (count_of plan left)) (two-added : two ≡ added_visits one 1 limit (count_of plan right)) where
-      told-one : Told plan block limit 1 first-sums one
-      told-one = told_more b (told-start b limit refl) first-pass first-noted left-visits one-added
+begun : (c : Start) → Begun (plan_in c.args.plan.now.parts) c.args.block.now
+begun c = record { plan-done = c.args.plan.now.passed; block-done = c.requires.block_value }
 
-      both-visits : two ≡ visits_made plan block (min 2 limit)
-      both-visits = visits-added plan block limit 1 told-one.visits-are right-visits two-added
+module _ (c : After-sweep_firsts-firsts) where
+  first : Pass (plan_in c.args.plan.now.parts) c.args.block.now 0 c.sweep_firsts-firsts.result.left c.sweep_firsts-firsts.ensures.both_swept.between
+  first = first-pass (begun (goal.at.After-sweep_firsts-firsts c).Start) c.sweep_firsts-firsts.ensures.both_swept
 
-      -- ---- the second changed something
+  second : Pass (plan_in c.args.plan.now.parts) c.args.block.now 1 c.sweep_firsts-firsts.result.right c.sweep_firsts-firsts.new.block
+  second = second-pass (begun (goal.at.After-sweep_firsts-firsts c).Start) c.sweep_firsts-firsts.ensures.both_swept
 
-      module _ {sums : List ℕ} (some : there.changed ≡ 0 → ⊥) (second-noted : sums ≡ noted first-sums 1 limit there.changed) where
-        swept : Swept plan block limit 2 after sums two
-        swept = swept-two b second-pass some (told_more b told-one second-pass second-noted right-visits two-added)
+  waiting : c.sweep_firsts-firsts.result.left.ties + c.sweep_firsts-firsts.result.right.ties ≤ 4096
+  waiting = ties-few (begun (goal.at.After-sweep_firsts-firsts c).Start) c.sweep_firsts-firsts.ensures.both_swept
 
-        -- a third sweep is made
-        going : Midway plan block limit 2 sums two kept after
-        going = open-going b swept first-pass.leaves both.listening
+-- the first sweep is told
+module _ (c : After-note) where
+  one : Told (plan_in c.args.plan.now.parts) c.args.block.now c.args.limit 1 c.note.new.sums c.add_visits-one.result
+  one =
+      let b = begun (goal.at.After-note c).Start in
+      told_more b (told-start b c.args.limit refl) (first (goal.at.After-note c).After-sweep_firsts-firsts) c.note.ensures (left-visits b)
+      c.add_visits-one.ensures
+
+  both-visits : c.add_visits-two.result ≡ visits_made (plan_in c.args.plan.now.parts) c.args.block.now (min 2 c.args.limit)
+  both-visits =
+      visits-added (plan_in c.args.plan.now.parts) c.args.block.now c.args.limit 1 one.visits-are (right-visits (begun (goal.at.After-note c).Start))
+      c.add_visits-two.ensures
+
+-- and so is the second, which changed something
+swept : (c : After-note-2) → Swept (plan_in c.args.plan.now.parts) c.args.block.now c.args.limit 2 c.sweep_firsts-firsts.new.block c.note-2.new.sums c.add_visits-two.result
+swept c =
+    let b = begun (goal.at.After-note-2 c).Start in
+    let two = second (goal.at.After-note-2 c).After-sweep_firsts-firsts in
+    swept-two b two c.if-second-eq0.false
+    (told_more b (one (goal.at.After-note-2 c).After-note) two c.note-2.ensures (right-visits b) c.add_visits-two.ensures)
+
+-- ---- the goals
 
 pub add_visits-two-requires : goal.add_visits-two-requires
-add_visits-two-requires c = visits-fit (begun c.requires.ready c.requires.block_value) c.args.limit c.add_visits-one.ensures
+add_visits-two-requires c = visits-fit (begun (goal.at.add_visits-two-requires c).Start) c.args.limit c.add_visits-one.ensures
 
 pub note-requires : goal.note-requires
-note-requires c =
-    let b = begun c.requires.ready c.requires.block_value in
-    record { sums_len = refl; changed_bound = pass-few b (first-pass b c.sweep_firsts-firsts.ensures.both_swept) }
+note-requires c = record {
+  sums_len = refl;
+  changed_bound = pass-few (begun (goal.at.note-requires c).Start) (first (goal.at.note-requires c).After-sweep_firsts-firsts);
+}
 
 pub overflow_add-first : goal.overflow_add-first
-overflow_add-first c = omega (arith, ties-few (begun c.requires.ready c.requires.block_value) c.sweep_firsts-firsts.ensures.both_swept)
+overflow_add-first c = omega (arith, waiting (goal.at.overflow_add-first c).After-sweep_firsts-firsts)
 
-pub ended-requires : goal.ended-requires
-ended-requires c = c.requires.limit_bound
-
-pub returns-then-first-eq0 : goal.returns-then-first-eq0
-returns-then-first-eq0 c =
-    let b = begun c.requires.ready c.requires.block_value in
-    let both = c.sweep_firsts-firsts.ensures.both_swept in
-    record {
-      still_ready = c.sweep_firsts-firsts.ensures.still_ready;
-      opened = open-first b (first-pass b both) (second-pass b both) c.if-first-eq0.true c.if-second-eq0.true
-          (told-one b both c.args.limit c.note.ensures c.add_visits-one.ensures c.add_visits-two.ensures).sums-are
-          (both-visits b both c.args.limit c.note.ensures c.add_visits-one.ensures c.add_visits-two.ensures) c.ended.ensures;
-    }
+pub returns-then-first-eq0-clause-opened : goal.returns-then-first-eq0-clause-opened
+returns-then-first-eq0-clause-opened c =
+    let at = goal.at.returns-then-first-eq0-clause-opened c in
+    open-first (begun at.Start) (first at.After-sweep_firsts-firsts) (second at.After-sweep_firsts-firsts) c.if-first-eq0.true c.if-second-eq0.true
+    (one at.After-note).sums-are (both-visits at.After-note) c.ended.ensures
 
 pub overflow_add-first-then-second-eq0 : goal.overflow_add-first-then-second-eq0
-overflow_add-first-then-second-eq0 c = omega (arith, ties-few (begun c.requires.ready c.requires.block_value) c.sweep_firsts-firsts.ensures.both_swept)
+overflow_add-first-then-second-eq0 c = omega (arith, waiting (goal.at.overflow_add-first-then-second-eq0 c).After-sweep_firsts-firsts)
 
-pub ended-requires-then-second-eq0 : goal.ended-requires-then-second-eq0
-ended-requires-then-second-eq0 c = c.requires.limit_bound
-
-pub returns-then-second-eq0 : goal.returns-then-second-eq0
-returns-then-second-eq0 c =
-    let b = begun c.requires.ready c.requires.block_value in
-    let both = c.sweep_firsts-firsts.ensures.both_swept in
-    record {
-      still_ready = c.sweep_firsts-firsts.ensures.still_ready;
-      opened = open-second b (first-pass b both) (second-pass b both) c.if-first-eq0.false c.if-second-eq0.true
-          (told-one b both c.args.limit c.note.ensures c.add_visits-one.ensures c.add_visits-two.ensures)
-          (both-visits b both c.args.limit c.note.ensures c.add_visits-one.ensures c.add_visits-two.ensures) c.ended-then-second-eq0.ensures;
-    }
+pub returns-then-second-eq0-clause-opened : goal.returns-then-second-eq0-clause-opened
+returns-then-second-eq0-clause-opened c =
+    let at = goal.at.returns-then-second-eq0-clause-opened c in
+    open-second (begun at.Start) (first at.After-sweep_firsts-firsts) (second at.After-sweep_firsts-firsts) c.if-first-eq0.false c.if-second-eq0.true
+    (one at.After-note) (both-visits at.After-note) c.ended-then-second-eq0.ensures
 
 pub note-requires-2 : goal.note-requires-2
 note-requires-2 c =
-    let b = begun c.requires.ready c.requires.block_value in
-    let both = c.sweep_firsts-firsts.ensures.both_swept in
-    record {
-      sums_len = told-sized b (told-one b both c.args.limit c.note.ensures c.add_visits-one.ensures c.add_visits-two.ensures);
-      changed_bound = pass-few b (second-pass b both);
+    let at = goal.at.note-requires-2 c in record {
+      sums_len = told-sized (begun at.Start) (one at.After-note);
+      changed_bound = pass-few (begun at.Start) (second at.After-sweep_firsts-firsts);
     }
 
-pub returns-then-limit-lt2 : goal.returns-then-limit-lt2
-returns-then-limit-lt2 c =
-    let b = begun c.requires.ready c.requires.block_value in
-    let both = c.sweep_firsts-firsts.ensures.both_swept in
-    record {
-      still_ready = c.sweep_firsts-firsts.ensures.still_ready;
-      opened = record {
-        limit_is = refl;
-        closed = λ _. open-limit b
-            (swept b both c.args.limit c.note.ensures c.add_visits-one.ensures c.add_visits-two.ensures c.if-second-eq0.false c.note-2.ensures)
-            c.if-limit-lt2.true;
-        going = λ no. absurd (true≢false no);
-      };
+pub returns-then-limit-lt2-clause-opened : goal.returns-then-limit-lt2-clause-opened
+returns-then-limit-lt2-clause-opened c =
+    let at = goal.at.returns-then-limit-lt2-clause-opened c in record {
+      limit_is = refl;
+      closed = λ _. open-limit (begun at.Start) (swept at.After-note-2) c.if-limit-lt2.true;
+      going = λ no. absurd (true≢false no);
     }
 
 pub all_codewords-requires : goal.all_codewords-requires
-all_codewords-requires c =
-    record {
-      n_bound = few (begun c.requires.ready c.requires.block_value) left;
-      finds = c.sweep_firsts-firsts.ensures.still_ready.left-finds;
+all_codewords-requires c = record {
+  n_bound = few (begun (goal.at.all_codewords-requires c).Start) left;
+  finds = c.sweep_firsts-firsts.ensures.still_ready.left-finds;
+}
+
+pub returns-then-all_codewords-clause-opened : goal.returns-then-all_codewords-clause-opened
+returns-then-all_codewords-clause-opened c =
+    let at = goal.at.returns-then-all_codewords-clause-opened c in record {
+      limit_is = refl;
+      closed = λ _. open-settled (begun at.Start) (swept at.After-note-2) (second at.After-sweep_firsts-firsts) c.if-second-eq0-2.true
+          c.if-limit-lt2.false (c.all_codewords.ensures.when_true c.if-all_codewords.true _);
+      going = λ no. absurd (true≢false no);
     }
 
-pub returns-then-all_codewords : goal.returns-then-all_codewords
-returns-then-all_codewords c =
-    let b = begun c.requires.ready c.requires.block_value in
-    let both = c.sweep_firsts-firsts.ensures.both_swept in
-    record {
-      still_ready = c.sweep_firsts-firsts.ensures.still_ready;
-      opened = record {
-        limit_is = refl;
-        closed = λ _. open-settled b
-            (swept b both c.args.limit c.note.ensures c.add_visits-one.ensures c.add_visits-two.ensures c.if-second-eq0.false c.note-2.ensures)
-            (second-pass b both) c.if-second-eq0-2.true c.if-limit-lt2.false (c.all_codewords.ensures.when_true c.if-all_codewords.true _);
-        going = λ no. absurd (true≢false no);
-      };
-    }
-
-pub returns : goal.returns
-returns c =
-    let b = begun c.requires.ready c.requires.block_value in
-    record {
-      still_ready = c.sweep_firsts-firsts.ensures.still_ready;
-      opened = record {
-        limit_is = refl;
-        closed = λ no. absurd (true≢false (sym no));
-        going = λ _. going b c.sweep_firsts-firsts.ensures.both_swept c.args.limit c.note.ensures c.add_visits-one.ensures c.add_visits-two.ensures
-            c.if-second-eq0.false c.note-2.ensures;
-      };
+pub returns-clause-opened : goal.returns-clause-opened
+returns-clause-opened c =
+    let at = goal.at.returns-clause-opened c in record {
+      limit_is = refl;
+      closed = λ no. absurd (true≢false (sym no));
+      going = λ _. open-going (begun at.Start) (swept at.After-note-2) (first at.After-sweep_firsts-firsts).leaves
+          c.sweep_firsts-firsts.ensures.both_swept.listening;
     }

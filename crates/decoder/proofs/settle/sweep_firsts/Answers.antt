@@ -1,32 +1,22 @@
 -- `decoder::sweep_firsts` meets its contract: the left side is swept by itself, and the right side by the words that it then reads, with no vertex
 -- marked at first.
-use mathlib.Core.List.{[]}
-use mathlib.Core.Path.{◌≡◌, ap, ◌∙◌}
-use Rattle.inner_code.specs.Reply.{done}
-use Rattle.wiring.specs.Block.{block_check}
-use Rattle.wiring.specs.Plan.{edge_count, left, right}
+use Rattle.wiring.specs.Plan.{left, right}
 use Rattle.wiring.specs.PlanParts.{plan_in}
 use Rattle.words.proofs.Marks.{cleared-listening}
 use Rattle.wiring.proofs.Plans.{plan-whole}
 use Rattle.sweeps.proofs.Sweeping.{sweep-block}
 use Rattle.sweeps.proofs.Visiting.{ready-side, ready-left-swept}
 use Rattle.decoder.proofs.settle.sweep_firsts.Goals as goal
-use Rattle.decoder.proofs.settle.sweep_firsts.Goals.{After-sweep_first-first}
-
--- the block that the first sweep leaves is one of the plan's
-block-done : (c : After-sweep_first-first) → block_check (edge_count (plan_in c.args.plan.now.parts)) c.sweep_first-first.new.block ≡ done []
-block-done c =
-    ap (block_check (edge_count (plan_in c.args.plan.now.parts))) c.sweep_first-first.ensures.side_swept.leaves
-    ∙ sweep-block (plan-whole (plan_in c.args.plan.now.parts) c.requires.ready.plan-done left) c.args.block.now c.requires.block_value
 
 pub sweep_first-first-requires : goal.sweep_first-first-requires
-sweep_first-first-requires c =
-    ready-side (plan_in c.args.plan.now.parts) c.requires.ready.plan-done left c.requires.ready.left-finds
+sweep_first-first-requires c = ready-side (plan_in c.args.plan.now.parts) c.args.plan.now.passed left c.requires.ready.left-finds
 
+-- the block that the first sweep leaves is one of the plan's
 pub read_words-requires : goal.read_words-requires
 read_words-requires c =
+    let whole = plan-whole (plan_in c.args.plan.now.parts) c.args.plan.now.passed left in
     record {
-      block_value = block-done (goal.at.read_words-requires c).After-sweep_first-first;
+      block_value = rw c.sweep_first-first.ensures.side_swept.leaves (sweep-block whole c.args.block.now c.requires.block_value);
       cleared = c.clear_marks.ensures;
     }
 
@@ -35,5 +25,5 @@ sweep_right-second-requires c =
     let read = c.read_words.ensures in
     record {
       ready = ready-left-swept c.requires.ready c.sweep_first-first.ensures.finds;
-      listening = cleared-listening (plan_in c.args.plan.now.parts) c.requires.ready.plan-done right read.words_read read.still_cleared;
+      listening = cleared-listening (plan_in c.args.plan.now.parts) c.args.plan.now.passed right read.words_read read.still_cleared;
     }
