@@ -33,15 +33,15 @@ impl<'a> CheckedPlan<'a> {
     ghost use Rattle.wiring.specs.Plan.{edge_count, sheet_of};
 
     // The number of edges, and of a block's bits.
-    pub fn edges(self) -> usize
-        ensures { result ≡ edge_count (plan_in self.entry.parts) }
+    pub fn edges(&self) -> usize
+        ensures { result ≡ edge_count (plan_in self.now.parts) }
     {
         self.left.n * self.left.d
     }
 
     // The side of a name.
-    pub fn side(self, name: SideName) -> SideCode
-        ensures { result ≡ code_of (plan_in self.entry.parts) name }
+    pub fn side(&self, name: SideName) -> SideCode
+        ensures { result ≡ code_of (plan_in self.now.parts) name }
     {
         match name {
             SideName::Left => self.left,
@@ -50,8 +50,8 @@ impl<'a> CheckedPlan<'a> {
     }
 
     // The sheet of a side.
-    pub fn sheet(self, name: SideName) -> &'a [u8]
-        ensures { result.now ≡ sheet_of (plan_in self.entry.parts) name }
+    pub fn sheet(&self, name: SideName) -> &'a [u8]
+        ensures { result.now ≡ sheet_of (plan_in self.now.parts) name }
     {
         match name {
             SideName::Left => self.parts.left_sheet,

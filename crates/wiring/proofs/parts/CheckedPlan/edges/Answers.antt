@@ -11,7 +11,7 @@ product : (p : CheckedPlan) → p.left.n * p.left.d ≡ edge_count (plan_in p.pa
 product p = ap (λ (x : SideCode). x.n * x.d) p.left_is
 
 pub overflow_mul-result : goal.overflow_mul-result
-overflow_mul-result c = let p = c.args.self in omega (arith, product p, plan-few (plan_in p.parts) p.passed)
+overflow_mul-result c = let p = c.args.self.now in omega (arith, product p, plan-few (plan_in p.parts) p.passed)
 
 pub returns : goal.returns
-returns c = product c.args.self
+returns c = product c.args.self.now
