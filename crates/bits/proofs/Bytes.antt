@@ -11,17 +11,14 @@
 -- that is written and any other, `-keeps` a write of what stands there, `-past` what lies past the end, `-zero` a byte string of zeros, `-ext`
 -- equality from the bits, `-front` and `-behind` what stands in one string with another behind it, and in that one.
 -- That every byte is below 256 is said as `(k : ℕ) → get_or bytes k 0 < 256`.
-use mathlib.Core.Path.{◌≡◌, refl, sym, ap, ap₂, ◌∙◌}
+use Rattle.std.proofs.Common.{◌≡◌, refl, sym, ap, ap₂, ◌∙◌, List, [], ◌∷◌, ◌++◌, ℕ, zero, suc, ◌+◌, ◌-◌, ◌*◌, ◌/◌, ◌%◌, ◌^◌, ◌≤◌, ◌<◌}
+use Rattle.std.proofs.Common.{lt_of_lt_of_le, zero-mul, arith, bit_xor, length, get_or, set, length-set, pow_mono, shl_lt, ext_get_or}
+use Rattle.std.proofs.Common.{get_or-append-add, get_or-set_same, get_or-set_other}
 use mathlib.Core.Logic.{◌≢◌}
-use mathlib.Core.List.{List, [], ◌∷◌, ◌++◌}
-use Prim.Native.Nat.{ℕ, zero, suc, ◌+◌, ◌-◌, ◌*◌, ◌/◌, ◌%◌, ◌^◌, ◌≤◌, ◌<◌}
-use native.Mathlib.Nat.{lt_of_lt_of_le, zero-mul}
 use native.Mathlib.Decide.{ℕ_discrete}
-use native.Mathlib.Omega.{arith}
-use lib.Bits.{bit_xor, xor_lt, xor_self, xor_zero_r}
-use lib.ListN.{length, get_or, set, length-set, get_or-append, get_or-eq_default}
-use lib.Pow.{pow_mono, shl_lt}
-use lib.Seq.{ext_get_or, get_or-append-add, set-get_or, set_out, get_or-set_same, get_or-set_other}
+use lib.Bits.{xor_lt, xor_self, xor_zero_r}
+use lib.ListN.{get_or-append, get_or-eq_default}
+use lib.Seq.{set-get_or, set_out}
 use Rattle.bits.specs.Window.{at}
 use Rattle.bits.specs.Bit.{digit, bit_at, put_digit, with_bit, pair_at}
 use Rattle.bits.proofs.Xor.{digit_lt, digit-zero, digit-ext, digit-pow-same, digit-pow-other, xor-digit, xor-cancel, xor-bits-lt}

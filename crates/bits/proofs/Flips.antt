@@ -1,14 +1,9 @@
 -- The bits in which two byte strings differ, counted.
 --   flips N a b   the number of bits 0 .. N - 1 in which two byte strings differ (specs Bit)
 -- Laws are named `flips-` and the fact.
-use mathlib.Core.Path.{◌≡◌, refl, sym, ap, ◌∙◌}
-use mathlib.Core.List.{List}
-use Prim.Native.Nat.{ℕ, ◌+◌, ◌≤◌, ◌<◌}
-use native.Mathlib.Nat.{le_trans, le_of_eq, mul-one}
+use Rattle.std.proofs.Common.{◌≡◌, refl, sym, ap, ◌∙◌, List, ℕ, ◌+◌, ◌≤◌, ◌<◌, le_trans, le_of_eq, mul-one, arith, eqb, bit_xor}
 use native.Mathlib.Decide.{ℕ_discrete}
-use native.Mathlib.Omega.{arith}
-use lib.Dec.{eqb}
-use lib.Bits.{bit_xor, xor_self, xor_comm}
+use lib.Bits.{xor_self, xor_comm}
 use Rattle.bits.specs.Bit.{bit_at, with_bit, flips}
 use Rattle.bits.specs.Sum.{sum, flag}
 use Rattle.bits.proofs.Sums.{sum-one-more, sum-ext, sum_mono, sum-add, sum-const, sum-none, count-at, flag-equal}

@@ -4,14 +4,11 @@
 -- Laws are named `written-` and the fact: -none is the list before a write, -start, -one-more and -all are the turns of a copy, -part is what
 -- is lent on, -over the whole when the part comes back, -again a second write, -more what is stored behind the front, -clear one more zero
 -- element of a front of zeros, -with_bit one bit of the front that is written.
-use Prim.Native.Nat.{ℕ, suc, ◌+◌, ◌-◌, ◌*◌, ◌/◌, ◌%◌, ◌≤◌, ◌<◌}
-use mathlib.Core.List.{List, [], ◌++◌}
-use mathlib.Core.Path.{◌≡◌, refl, sym, ap, ap₂, ◌∙◌}
-use native.Mathlib.Numerals.{add-one}
-use native.Mathlib.Omega.{arith}
-use lib.ListN.{length, get_or, set, take, drop, replicate, length-append, length-drop, length-replicate, replicate-append-replicate, get_or-append}
-use lib.Seq.{drop-cons, set_at, append_snoc, take-append_seam}
-use lib.Seq.{drop-append_seam, sets, sets-eq, drop-append-add, drop-drop, set-append_left}
+use Rattle.std.proofs.Common.{ℕ, suc, ◌+◌, ◌-◌, ◌*◌, ◌/◌, ◌%◌, ◌≤◌, ◌<◌, List, [], ◌++◌, ◌≡◌, refl, sym, ap, ap₂, ◌∙◌, add-one, arith}
+use Rattle.std.proofs.Common.{length, get_or, set, take, drop, replicate, length-append, length-drop, drop-cons, drop-drop}
+use lib.ListN.{length-replicate, replicate-append-replicate, get_or-append}
+use lib.Seq.{set_at, append_snoc, take-append_seam}
+use lib.Seq.{drop-append_seam, sets, sets-eq, drop-append-add, set-append_left}
 use Rattle.bits.specs.Bit.{put_digit, with_bit, written}
 use Rattle.bits.proofs.Bytes.{length-with_bit}
 

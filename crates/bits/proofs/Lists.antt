@@ -3,13 +3,9 @@
 --   KeptFrom n before after   from index n on the list is as it was (specs Window)
 -- Laws are named by their subject, then by the fact: `at-set-` is about a list after a store, `-same` where it was made and `-other` elsewhere;
 -- `kept-` is about what no store reaches, `zeros-` about a list of zeros.
-use Prim.Native.Nat.{ℕ, ◌<◌}
-use mathlib.Core.List.{List}
-use mathlib.Core.Path.{◌≡◌, refl, ◌∙◌}
+use Rattle.std.proofs.Common.{ℕ, ◌<◌, List, ◌≡◌, refl, ◌∙◌, arith, length, get_or, set, replicate, get_or-set_same, get_or-set_other}
 use native.Mathlib.Decide.{dec_le}
-use native.Mathlib.Omega.{arith}
-use lib.ListN.{length, get_or, set, replicate, length-replicate, get_or-replicate, get_or-eq_default}
-use lib.Seq.{get_or-set_same, get_or-set_other}
+use lib.ListN.{length-replicate, get_or-replicate, get_or-eq_default}
 use Rattle.bits.specs.Window.{at, KeptFrom}
 
 pub at_set_same : (l : List ℕ) (i a : ℕ) → i < length l → at (set l i a) i ≡ a

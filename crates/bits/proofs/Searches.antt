@@ -9,17 +9,13 @@
 -- Laws are named by the search (some-, none-, first-, least-, largest-) and what they say of it: -le, -bounds and -ge are bounds,
 -- -found and -attained say where it is reached, -each leads from the search to every number, -ext is about tests or numbers that agree,
 -- -one-more and -zero are the steps of a loop.
-use Prim.Native.Nat.{ℕ, zero, suc, ◌+◌, ◌≤◌, ◌<◌, zero-le, min}
-use mathlib.Core.Bool.{Bool, true, false, cond, ◌||◌, true≢false, false≢true}
-use mathlib.Core.Logic.{◌⊎◌, inl, inr, ⊎_elim}
-use mathlib.Core.Path.{◌≡◌, refl, sym, ap₂, ◌∙◌, subst}
-use native.Mathlib.Nat.{le_refl, le_trans, le_step, le_of_lt, le_antisymm, le-max_right, not-suc-le-zero, eq-or-lt_of_le, le_of_suc-le-suc}
-use native.Mathlib.Nat.{le-suc_iff, suc_inj, lt-suc_self, min-le_left, min-le_right, min-eq_left, min-eq_right}
+use Rattle.std.proofs.Common.{ℕ, zero, suc, ◌+◌, ◌≤◌, ◌<◌, zero-le, min, Bool, true, false, cond, ◌||◌, true≢false, ◌⊎◌, inl, inr, ⊎_elim}
+use Rattle.std.proofs.Common.{◌≡◌, refl, sym, ap₂, ◌∙◌, subst, le_refl, le_trans, le_of_lt, le_antisymm, not-suc-le-zero, eq-or-lt_of_le}
+use Rattle.std.proofs.Common.{le_of_suc-le-suc, lt-suc_self, add-one, arith, ltb, ltb-true, ltb-false}
+use mathlib.Core.Bool.{false≢true}
+use native.Mathlib.Nat.{le_step, le-max_right}
+use native.Mathlib.Nat.{le-suc_iff, suc_inj, min-le_left, min-le_right, min-eq_left, min-eq_right}
 use native.Mathlib.Decide.{dec_le}
-use native.Mathlib.Numerals.{add-one}
-use native.Mathlib.Omega.{arith}
-use lib.Dec.{ltb}
-use borrow.Author.Tests.{ltb-true, ltb-false}
 use Rattle.bits.specs.Search.{some_below, first_failing, least, largest}
 use Rattle.bits.proofs.Tests.{or_left, or_right, or-neither}
 

@@ -15,17 +15,12 @@
 --   count-le, count-at, count-unique                    how large a count can be, and when it is
 -- Two theorems have names of their own: injective-onto (the pigeonhole principle) and cauchy-schwarz.
 -- `simp sums` opens a sum of additions, of multiples and of a constant.
-use Prim.Native.Nat.{ℕ, zero, suc, ◌+◌, ◌-◌, ◌*◌, ◌≤◌, ◌<◌, zero-le}
-use mathlib.Core.Bool.{Bool, true, false}
-use mathlib.Core.Logic.{◌⊎◌, inl, inr}
-use mathlib.Core.Path.{◌≡◌, refl, sym, ap, ap₂, ◌∙◌}
-use native.Mathlib.Nat.{add-le-add, add-sub_of_le, add-suc, add-zero, eq-or-lt_of_le, eq-zero-or-pos, le_of_eq, le_of_suc-le-suc}
-use native.Mathlib.Nat.{le_refl, le_step, mul-le-mul_left, mul-one, mul-zero, not-suc-le-zero, suc-mul, zero-mul}
+use Rattle.std.proofs.Common.{ℕ, zero, suc, ◌+◌, ◌-◌, ◌*◌, ◌≤◌, ◌<◌, zero-le, Bool, true, false, ◌⊎◌, inl, inr, ◌≡◌, refl, sym, ap, ap₂}
+use Rattle.std.proofs.Common.{◌∙◌, add-le-add, add-sub_of_le, add-suc, add-zero, eq-or-lt_of_le, eq-zero-or-pos, le_of_eq, le_of_suc-le-suc}
+use Rattle.std.proofs.Common.{le_refl, mul-le-mul_left, mul-one, mul-zero, not-suc-le-zero, suc-mul, zero-mul, add-one, arith, eqb}
+use Rattle.std.proofs.Common.{eqb-true, eq-eqb, ne_eqb}
+use native.Mathlib.Nat.{le_step}
 use native.Mathlib.Decide.{dec_le, ℕ_discrete}
-use native.Mathlib.Numerals.{add-one}
-use native.Mathlib.Omega.{arith}
-use lib.Dec.{eqb}
-use borrow.Author.Tests.{eqb-true, eq-eqb, ne_eqb}
 use Rattle.bits.specs.Sum.{sum, gap, flag}
 
 -- ---- how many terms

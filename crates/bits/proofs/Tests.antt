@@ -1,9 +1,8 @@
 -- Laws of tests: what two tests joined by && and || say of each, and a flag that is 0.
 --   flag t     1 where the test t holds, 0 where it does not (specs Sum)
 -- Laws are named by the joint (and-, or-, flag-) and what they say of it. What the kit has of tests is in borrow.Author.Tests.
-use mathlib.Core.Bool.{Bool, true, false, ◌&&◌, ◌||◌, false≢true}
-use mathlib.Core.Path.{◌≡◌, refl, sym}
-use native.Mathlib.Omega.{arith}
+use Rattle.std.proofs.Common.{Bool, true, false, ◌&&◌, ◌||◌, ◌≡◌, refl, sym, arith}
+use mathlib.Core.Bool.{false≢true}
 use Rattle.bits.specs.Sum.{flag}
 
 pub and_both : (s t : Bool) → (s && t) ≡ true → (s ≡ true) × (t ≡ true)

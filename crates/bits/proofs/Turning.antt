@@ -3,13 +3,9 @@
 --   with_bit bytes i b   the byte string with its bit i made b; past the end nothing changes (specs Bit)
 -- Laws are named by their subject, then by the fact: `turned-` is about the byte string, `bit_at-turned-` about a bit of it. At the end of a
 -- name, `-same` and `-other` are the bit that is turned and any other, `-none` a bit that is not, `-past` one past the end.
-use mathlib.Core.Path.{◌≡◌, ap, ◌∙◌}
+use Rattle.std.proofs.Common.{◌≡◌, ap, ◌∙◌, List, ℕ, ◌-◌, ◌*◌, ◌/◌, ◌%◌, ◌^◌, ◌≤◌, ◌<◌, one-mul, bit_xor, length, get_or, set}
 use mathlib.Core.Logic.{◌≢◌}
-use mathlib.Core.List.{List}
-use Prim.Native.Nat.{ℕ, ◌-◌, ◌*◌, ◌/◌, ◌%◌, ◌^◌, ◌≤◌, ◌<◌}
-use native.Mathlib.Nat.{one-mul}
-use lib.Bits.{bit_xor, xor_zero_r}
-use lib.ListN.{length, get_or, set}
+use lib.Bits.{xor_zero_r}
 use Rattle.bits.specs.Bit.{digit, bit_at, put_digit, with_bit}
 use Rattle.bits.specs.Window.{turned}
 use Rattle.bits.proofs.Xor.{xor-cancel, xor-bits-lt}

@@ -1,13 +1,8 @@
 -- Lists of values.
 --   values n f   the list of f 0 .. f (n - 1) (specs Bit)
-use Prim.Native.Nat.{ℕ, zero, suc, ◌+◌, ◌<◌}
-use mathlib.Core.List.{List, [], ◌∷◌, ◌++◌}
-use mathlib.Core.Logic.{⊎_elim}
-use mathlib.Core.Path.{◌≡◌, refl, sym, ap, ◌∙◌}
-use native.Mathlib.Nat.{not-suc-le-zero, eq-or-lt_of_le, le_of_suc-le-suc}
-use native.Mathlib.Omega.{arith}
-use lib.ListN.{length, get_or, length-append, get_or-append}
-use lib.Seq.{ext_get_or, get_or-append-add}
+use Rattle.std.proofs.Common.{ℕ, zero, suc, ◌+◌, ◌<◌, List, [], ◌∷◌, ◌++◌, ⊎_elim, ◌≡◌, refl, sym, ap, ◌∙◌, not-suc-le-zero, eq-or-lt_of_le}
+use Rattle.std.proofs.Common.{le_of_suc-le-suc, arith, length, get_or, length-append, ext_get_or, get_or-append-add}
+use lib.ListN.{get_or-append}
 use Rattle.bits.specs.Bit.{values}
 
 pub length-values : (n : ℕ) (f : ℕ → ℕ) → length (values n f) ≡ n

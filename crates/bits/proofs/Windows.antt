@@ -2,14 +2,10 @@
 --   word_at bytes i d   the number that the d bits from bit i on make, bit i of the highest weight (specs Window)
 -- Laws are named by their subject, then by the fact: `digit-` is about one binary digit of a number that is cut or put together,
 -- `shifted-` about a 1 that the code shifts.
-use mathlib.Core.Path.{◌≡◌, sym, ap, ap₂, ◌∙◌}
-use Prim.Native.Nat.{ℕ, ◌+◌, ◌-◌, ◌*◌, ◌/◌, ◌%◌, ◌^◌, ◌≤◌, ◌<◌}
-use mathlib.Core.List.{List}
-use native.Mathlib.Nat.{mod-lt}
+use Rattle.std.proofs.Common.{◌≡◌, sym, ap, ap₂, ◌∙◌, ℕ, ◌+◌, ◌-◌, ◌*◌, ◌/◌, ◌%◌, ◌^◌, ◌≤◌, ◌<◌, List, mod-lt, arith, get_or, pow_pos}
+use Rattle.std.proofs.Common.{shl_exact, shr-shr}
 use native.Mathlib.Decide.{dec_le}
-use native.Mathlib.Omega.{arith}
-use lib.ListN.{get_or}
-use lib.Pow.{pow_pos, shl_exact, shl-shr, field, mod-mod-pow, shr-shr, high, low}
+use lib.Pow.{shl-shr, field, mod-mod-pow, high, low}
 use Rattle.bits.specs.Window.{word_at}
 use Rattle.bits.specs.Bit.{digit, bit_at, pair_at}
 use Rattle.bits.proofs.Words.{word-ext, word-digits}

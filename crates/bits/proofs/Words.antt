@@ -8,14 +8,10 @@
 -- set digits, `more-` about a number x with one more digit b below it, x * 2 + b. At the end of a name, `-lt` is a bound,
 -- `-ext` equality from the digits.
 -- Where f must give digits, 0 or 1, a law asks for `(j : ℕ) → j < d → f j < 2`.
-use mathlib.Core.Path.{◌≡◌, refl, sym, ap, ap₂, ◌∙◌}
-use mathlib.Core.Logic.{⊎_elim}
-use Prim.Native.Nat.{ℕ, zero, suc, ◌+◌, ◌-◌, ◌*◌, ◌/◌, ◌^◌, ◌<◌}
-use native.Mathlib.Nat.{pow-suc, eq-or-lt_of_le}
-use native.Mathlib.Numerals.{add-one}
-use native.Mathlib.Omega.{arith}
+use Rattle.std.proofs.Common.{◌≡◌, refl, sym, ap, ap₂, ◌∙◌, ⊎_elim, ℕ, zero, suc, ◌+◌, ◌-◌, ◌*◌, ◌/◌, ◌^◌, ◌<◌, pow-suc, eq-or-lt_of_le}
+use Rattle.std.proofs.Common.{add-one, arith, bit_xor}
 use lib.Arith.{lt-one}
-use lib.Bits.{bit_xor, xor_block}
+use lib.Bits.{xor_block}
 use lib.Count.{ones, ones_step}
 use Rattle.bits.specs.Bit.{digit, word}
 use Rattle.bits.specs.Sum.{sum}

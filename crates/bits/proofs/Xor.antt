@@ -7,19 +7,17 @@
 -- `digit-` about one digit, `ones-` about the count of set digits. At the end of a name, `-zero` is the law at 0,
 -- `-lt` and `-le` a bound, `-ext` equality from the parts, `-same` and `-other` the place in question and any other.
 -- The proofs go by halving: `xor-half` and `digit-suc` take the lowest digit off, `xor-parity` says what it is.
-use mathlib.Core.Path.{◌≡◌, refl, sym, ap, ap₂, ◌∙◌}
-use mathlib.Core.Logic.{◌≢◌, ◌⊎◌, inl, inr}
-use Prim.Native.Nat.{ℕ, zero, suc, ◌+◌, ◌*◌, ◌/◌, ◌%◌, ◌^◌, ◌≤◌, ◌<◌}
-use native.Mathlib.Nat.{add_comm, add-zero, eq-zero-or-pos, pow-suc, div-one, div-eq_of_lt, mod-eq_of_lt, zero-mul, one-mul, lt_of_lt_of_le}
+use Rattle.std.proofs.Common.{◌≡◌, refl, sym, ap, ap₂, ◌∙◌, ◌⊎◌, inl, inr, ℕ, zero, suc, ◌+◌, ◌*◌, ◌/◌, ◌%◌, ◌^◌, ◌≤◌, ◌<◌, add_comm}
+use Rattle.std.proofs.Common.{add-zero, eq-zero-or-pos, pow-suc, div-one, mod-eq_of_lt, zero-mul, one-mul, lt_of_lt_of_le, one-add, arith}
+use Rattle.std.proofs.Common.{bit_xor, eqb, pow_pos, pow_mono, shr-shr}
+use mathlib.Core.Logic.{◌≢◌}
+use native.Mathlib.Nat.{div-eq_of_lt}
 use native.Mathlib.Decide.{ℕ_discrete}
-use native.Mathlib.Numerals.{one-add}
-use native.Mathlib.Omega.{arith}
 use lib.Arith.{bin_ind}
-use lib.Bits.{bit_xor, differ, xor_add_and, xor_comm, xor_self, xor_zero_l, xor_zero_r}
+use lib.Bits.{differ, xor_add_and, xor_comm, xor_self, xor_zero_l, xor_zero_r}
 use lib.Bits.{xor_lt, xor_block, xor_shr, xor_mod, xor_shifted, shifted_half, shifted_even}
 use lib.Count.{ones, ones_step}
-use lib.Dec.{eqb}
-use lib.Pow.{pow_pos, pow_mono, shl-shr, shr-shr}
+use lib.Pow.{shl-shr}
 use Rattle.bits.specs.Bit.{digit}
 use Rattle.bits.specs.Sum.{flag}
 use Rattle.bits.proofs.Sums.{flag-equal, flag-apart}

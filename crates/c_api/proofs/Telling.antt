@@ -2,9 +2,7 @@
 --   telling        what is told of a case is what is told of the defined reply, where the service's answer is that case; `tell` is told, told_word
 --                  or told_place
 --   telling-sums   the same of the decoder, whose sums and visits are told beside
-use Prim.Native.Nat.{ℕ}
-use mathlib.Core.List.{List}
-use mathlib.Core.Path.{◌≡◌, sym, ap, ap₂, ◌∙◌}
+use Rattle.std.proofs.Common.{ℕ, List, ◌≡◌, sym, ap, ap₂, ◌∙◌}
 use Rattle.inner_code.specs.Reply.{Reply}
 use Rattle.c_api.specs.Answer.{told_decode}
 use Rattle.c_api.specs.declared.DecodeAnswer.{DecodeAnswer}

@@ -4,10 +4,7 @@
 --   decode_answer, decode_sums, decode_visits   what the decoder answers and tells beside (decoder specs Answer)
 --   filled b lost block            the block with every lost bit made b (spans specs Spans)
 --   settles_at plan block H         the first count from 0 to H after which the block is a codeword; H + 1 where none is (decoder specs Decode)
-use Prim.Native.Nat.{ℕ, ◌<◌}
-use mathlib.Core.List.{List, []}
-use mathlib.Core.Path.{◌≡◌, ap, ◌∙◌}
-use lib.ListN.{replicate}
+use Rattle.std.proofs.Common.{ℕ, ◌<◌, List, [], ◌≡◌, ap, ◌∙◌, replicate}
 use Rattle.inner_code.specs.Reply.{Reply, done, refused}
 use Rattle.wiring.specs.Plan.{Plan}
 use Rattle.spans.specs.Spans.{filled}

@@ -12,19 +12,12 @@
 -- sweep of the code, `told-` about sums and visits, `swept-` about all sweeps so far, `ended-` about a sweep that changes nothing; `open-` gives what
 -- the first two sweeps come to at one way out each: where neither changes anything (-first), where the second does not (-second), at a limit
 -- below 2 (-limit), settled (-settled), and where a third is made (-going); `midway-` is about the sweeps from the third on.
-use Prim.Native.Nat.{ℕ, ◌+◌, ◌-◌, ◌≤◌, ◌<◌, zero-le, min}
-use mathlib.Core.Bool.{true, false, true≢false}
-use mathlib.Core.List.{List, []}
+use Rattle.std.proofs.Common.{ℕ, ◌+◌, ◌-◌, ◌≤◌, ◌<◌, zero-le, min, true, false, true≢false, List, [], ◌≡◌, refl, sym, ap, ap₂, ◌∙◌, le_refl}
+use Rattle.std.proofs.Common.{add-one, arith, below_more, eq-eqb, ne_eqb, length, replicate}
 use mathlib.Mathlib.Data.Bool.Basic.{eq-false_of_not-eq-true}
-use mathlib.Core.Path.{◌≡◌, refl, sym, ap, ap₂, ◌∙◌}
-use native.Mathlib.Nat.{le_refl, le_dest, min-eq_left, min-eq_right}
+use native.Mathlib.Nat.{le_dest, min-eq_left, min-eq_right}
 use native.Mathlib.Decide.{ℕ_discrete, dec_le}
-use native.Mathlib.Numerals.{add-one}
-use native.Mathlib.Omega.{arith}
-use borrow.Author.Count.{below_more}
-use borrow.Author.Tests.{eq-eqb, ne_eqb}
 use Rattle.bits.proofs.Flips.{flips-none}
-use lib.ListN.{length, replicate}
 use Rattle.bits.specs.Bit.{flips}
 use Rattle.bits.specs.Sum.{flag}
 use Rattle.bits.proofs.Searches.{first-all}

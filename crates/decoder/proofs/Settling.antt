@@ -16,16 +16,11 @@
 -- check that refuses (-stopped), none that does (-passed), the trial with zeros or with ones kept (-zeros, -ones), 15 (-neither), and where no bit
 -- is lost -settled and -unsettled; decode-means leads from a count that is answered there back to what it says. `number-` is about a number that
 -- is told.
-use Prim.Native.Nat.{ℕ, ◌+◌, ◌-◌, ◌≤◌, ◌<◌, min}
-use native.Mathlib.Nat.{le_refl, min-eq_left, min-eq_right}
+use Rattle.std.proofs.Common.{ℕ, ◌+◌, ◌-◌, ◌≤◌, ◌<◌, min, le_refl, Bool, true, false, not, cond, List, [], ◌∷◌, ◌≡◌, refl, sym, ap, ◌∙◌}
+use Rattle.std.proofs.Common.{arith, leb, ltb, length, replicate, lt-ltb, le-ltb, le-leb}
+use native.Mathlib.Nat.{min-eq_left, min-eq_right}
 use native.Mathlib.Decide.{dec_le}
-use mathlib.Core.Bool.{Bool, true, false, not, cond}
-use mathlib.Core.List.{List, [], ◌∷◌}
-use mathlib.Core.Path.{◌≡◌, refl, sym, ap, ◌∙◌}
-use native.Mathlib.Omega.{arith}
-use lib.Dec.{leb, ltb}
-use lib.ListN.{length, replicate}
-use borrow.Author.Tests.{lt-ltb, le-ltb, le-leb, lt-leb, not-true, not-false}
+use borrow.Author.Tests.{lt-leb, not-true, not-false}
 use Rattle.bits.specs.Bit.{written}
 use Rattle.bits.specs.Search.{first_failing}
 use Rattle.bits.proofs.Searches.{first-at, first-all, first-failed, first-passed}

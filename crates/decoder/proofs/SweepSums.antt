@@ -6,17 +6,11 @@
 --   told plan block made i       the sum of sweep i + 1, where so many sweeps are made
 -- Laws are named by their subject, then by the fact: `told-` and `sum-` are about one sum, `sums-` about the sums where so many sweeps are
 -- made, `noted-` about one more of them that is noted.
-use Prim.Native.Nat.{ℕ, ◌+◌, ◌≤◌, ◌<◌, min}
-use mathlib.Core.Bool.{cond}
-use mathlib.Core.List.{List}
-use mathlib.Core.Path.{◌≡◌, sym, ap, ◌∙◌}
+use Rattle.std.proofs.Common.{ℕ, ◌+◌, ◌≤◌, ◌<◌, min, cond, List, ◌≡◌, sym, ap, ◌∙◌, arith, ltb, length, get_or, set, replicate, length-set}
+use Rattle.std.proofs.Common.{get_or-set_same, get_or-set_other, lt-ltb, le-ltb}
 use native.Mathlib.Nat.{min-eq_left, min-eq_right}
 use native.Mathlib.Decide.{ℕ_discrete, dec_le}
-use native.Mathlib.Omega.{arith}
-use lib.Dec.{ltb}
-use lib.ListN.{length, get_or, set, replicate, length-set, length-replicate, get_or-replicate}
-use lib.Seq.{get_or-set_same, get_or-set_other}
-use borrow.Author.Tests.{lt-ltb, le-ltb}
+use lib.ListN.{length-replicate, get_or-replicate}
 use Rattle.bits.proofs.Flips.{flips-le}
 use Rattle.bits.proofs.Values.{length-values, values-at, values-ext}
 use Rattle.wiring.specs.Plan.{Plan, edge_count}

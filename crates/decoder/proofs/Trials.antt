@@ -18,16 +18,10 @@
 -- back as `swept`, `by-` about an answer by a trial, `twice-` about two trials, one outcome each, `kept-` about the tests by which the code keeps one,
 -- `front-` about a call whose first two sweeps are made at the front of its output. At the end of a name, `-none` is about the empty list.
 -- codeword-answers and copy-codeword are about a block that no sweep changes.
-use Prim.Native.Nat.{ℕ, ◌/◌, ◌≤◌, ◌<◌, min}
-use native.Mathlib.Nat.{min-eq_left, min-eq_right, le_of_eq}
+use Rattle.std.proofs.Common.{Ok, Err, ℕ, ◌/◌, ◌≤◌, ◌<◌, min, le_of_eq, Bool, true, false, cond, List, [], ◌∷◌, ◌++◌, ◌≡◌, refl, sym, ap}
+use Rattle.std.proofs.Common.{ap₂, ◌∙◌, subst, arith, length, take, drop, replicate, length-take-le, ltb-false, lt-ltb, le-ltb}
+use native.Mathlib.Nat.{min-eq_left, min-eq_right}
 use native.Mathlib.Decide.{dec_le, ℕ_discrete}
-use mathlib.Core.Bool.{Bool, true, false, cond}
-use mathlib.Core.List.{List, [], ◌∷◌, ◌++◌}
-use mathlib.Core.Path.{◌≡◌, refl, sym, ap, ap₂, ◌∙◌, subst}
-use native.Mathlib.Omega.{arith}
-use lib.ListN.{length, take, drop, replicate}
-use lib.Seq.{length-take-le}
-use borrow.Author.Tests.{ltb-false, lt-ltb, le-ltb}
 use Rattle.bits.specs.Bit.{written}
 use Rattle.bits.proofs.Fronts.{written-part, written_over, written-again, length-written}
 use Rattle.inner_code.specs.Reply.{done}
@@ -45,7 +39,6 @@ use Rattle.spans.proofs.Checking.{spans-done, filled-block}
 use Rattle.spans.proofs.Gaps.{flips-around}
 use Rattle.decoder.specs.Decode.{swept_block, settles_at, sweep_sums, visits_made, Trial, trial, keeps_ones, decoding}
 use Rattle.decoder.specs.Turns.{Passed, Tried, Opened, ByTrial}
-use Rattle.std.proofs.Common.{Ok, Err}
 use Rattle.inner_code.specs.declared.refusal.Refusal.{Refusal}
 use Rattle.decoder.specs.declared.decoding.Attempt.{Attempt}
 use Rattle.decoder.specs.declared.decoding.Decoding.{Decoding}

@@ -3,13 +3,9 @@
 --   visits_made plan block made   how many are visited where so many sweeps are made (specs Decode)
 --   added_visits visits i H more  the visits with those of sweep i + 1, where it is one of the H sweeps (specs Turns)
 -- Laws are named `visits-` and then by the fact.
-use Prim.Native.Nat.{ℕ, ◌+◌, ◌-◌, ◌*◌, ◌≤◌, ◌<◌, min}
-use mathlib.Core.List.{List}
-use mathlib.Core.Path.{◌≡◌, sym, ap, ◌∙◌}
-use native.Mathlib.Nat.{le_dest, le_trans, le_of_eq, min-eq_left, min-eq_right}
+use Rattle.std.proofs.Common.{ℕ, ◌+◌, ◌-◌, ◌*◌, ◌≤◌, ◌<◌, min, List, ◌≡◌, sym, ap, ◌∙◌, le_trans, le_of_eq, arith, lt-ltb, le-ltb}
+use native.Mathlib.Nat.{le_dest, min-eq_left, min-eq_right}
 use native.Mathlib.Decide.{dec_le}
-use native.Mathlib.Omega.{arith}
-use borrow.Author.Tests.{lt-ltb, le-ltb}
 use Rattle.bits.specs.Sum.{sum, flag}
 use Rattle.bits.proofs.Sums.{sum-zero, sum-one-more, sum-append, sum-none, sum_mono, sum-const, count-le, flag-false}
 use Rattle.wiring.specs.Plan.{Plan, count_of, side_of}

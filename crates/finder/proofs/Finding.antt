@@ -14,24 +14,20 @@
 -- leave of a word, `kept-` about the patterns kept, `number-` and `renumbered-` about classes that are numbered, `member-` about the test,
 -- `pays-` about the time to number classes, `found-` leads to a Found, by the case that the code takes, and `listed-`, `filled-`,
 -- `fresh-` and `prepared-` lead to a Finds.
-use Prim.Native.Nat.{ℕ, zero, suc, ◌+◌, ◌-◌, ◌*◌, ◌/◌, ◌%◌, ◌^◌, ◌≤◌, ◌<◌, min}
-use mathlib.Core.Bool.{Bool, true, false, ◌&&◌}
-use mathlib.Core.Logic.{◌⊎◌, inl, inr, ⊎_elim}
+use Rattle.std.proofs.Common.{Result, Ok, Err, ℕ, zero, suc, ◌+◌, ◌-◌, ◌*◌, ◌/◌, ◌%◌, ◌^◌, ◌≤◌, ◌<◌, min, Bool, true, false, ◌&&◌, ◌⊎◌, inl}
+use Rattle.std.proofs.Common.{inr, ⊎_elim, List, [], ◌++◌, ◌≡◌, refl, sym, ap, ap₂, ◌∙◌, subst, zero-mul, one-mul, add-one, arith}
+use Rattle.std.proofs.Common.{below_more, eq-eqb, ne_eqb, le-leb, leb-true, bit_xor, eqb, leb, length, get_or, set, take, drop, replicate}
+use Rattle.std.proofs.Common.{length-set, length-append, length-drop, pow_mono, pow_pos, pow-add, shr_lt, get_or-append-add, length-take-le}
+use Rattle.std.proofs.Common.{get_or-take, get_or-drop, get_or-set_same, get_or-set_other}
 use mathlib.Mathlib.Data.Bool.Basic.{eq-false_of_not-eq-true}
-use mathlib.Core.List.{List, [], ◌++◌}
-use mathlib.Core.Path.{◌≡◌, refl, sym, ap, ap₂, ◌∙◌, subst, subst⁻¹}
-use native.Mathlib.Nat.{le_dest, min-eq_left, zero-mul, one-mul}
+use mathlib.Core.Path.{subst⁻¹}
+use native.Mathlib.Nat.{le_dest, min-eq_left}
 use native.Mathlib.Decide.{ℕ_discrete, dec_lt}
-use native.Mathlib.Numerals.{add-one}
-use native.Mathlib.Omega.{arith}
-use borrow.Author.Count.{below_more}
-use borrow.Author.Tests.{eq-eqb, ne_eqb, le-leb, lt-leb, leb-true}
-use lib.Bits.{bit_xor, xor_comm, xor_shifted, xor_zero_r}
+use borrow.Author.Tests.{lt-leb}
+use lib.Bits.{xor_comm, xor_shifted, xor_zero_r}
 use lib.Count.{ones}
-use lib.Dec.{eqb, leb}
-use lib.ListN.{length, get_or, set, take, drop, replicate, length-set, length-append, length-drop, length-replicate, get_or-replicate, get_or-append}
-use lib.Pow.{pow_mono, pow_pos, pow-lt, pow-add, shr_lt}
-use lib.Seq.{get_or-append-add, length-take-le, get_or-take, get_or-drop, get_or-set_same, get_or-set_other}
+use lib.ListN.{length-replicate, get_or-replicate, get_or-append}
+use lib.Pow.{pow-lt}
 use Rattle.bits.specs.Bit.{digit, pair_at}
 use Rattle.bits.specs.Window.{at}
 use Rattle.bits.proofs.Tests.{and_both}
@@ -41,7 +37,6 @@ use Rattle.inner_code.specs.Code.{combination, is_codeword, nearest_pattern, nea
 use Rattle.inner_code.specs.Reduction.{reduced, reduced_by, with_echelon, searched, step_to, listed}
 use Rattle.inner_code.specs.Checking.{SheetInto}
 use Rattle.inner_code.specs.declared.nearest.Step.{Step}
-use Rattle.std.proofs.Common.{Result, Ok, Err}
 use Rattle.inner_code.specs.declared.refusal.Refusal.{Refusal}
 use Rattle.inner_code.specs.declared.sheet.Sheet.{Sheet}
 use Rattle.inner_code.specs.Sheet.{degree, row_count, row_of, sheet_check}

@@ -2,14 +2,10 @@
 --   combination row k m   the exclusive-or of the rows i below k whose digit i in m is 1
 --   is_codeword row k w    some combination of the k rows is w
 -- `combination-` laws speak of one combination, `codeword-` laws of the test. All hold for any rows and any k.
-use mathlib.Core.Path.{◌≡◌, refl, sym, ap, ap₂, ◌∙◌, subst}
-use mathlib.Core.Bool.{true}
-use Prim.Native.Nat.{ℕ, zero, suc, ◌+◌, ◌*◌, ◌^◌, ◌<◌}
-use native.Mathlib.Nat.{le_step, lt-suc_self, zero-mul, one-mul, pow-suc, ne_of_lt}
-use native.Mathlib.Omega.{arith}
-use borrow.Author.Tests.{eq-eqb, eqb-true}
-use lib.Bits.{bit_xor, xor_zero_r, xor_lt, xor_self}
-use lib.Pow.{pow_pos}
+use Rattle.std.proofs.Common.{◌≡◌, refl, sym, ap, ap₂, ◌∙◌, subst, true, ℕ, zero, suc, ◌+◌, ◌*◌, ◌^◌, ◌<◌, lt-suc_self, zero-mul, one-mul}
+use Rattle.std.proofs.Common.{pow-suc, ne_of_lt, arith, eq-eqb, eqb-true, bit_xor, pow_pos}
+use native.Mathlib.Nat.{le_step}
+use lib.Bits.{xor_zero_r, xor_lt, xor_self}
 use Rattle.bits.specs.Bit.{digit}
 use Rattle.bits.proofs.Xor.{xor-swap, xor-digit, digit_lt, digit-zero, digit-high, digit-upper, digit-pow-same, digit-pow-other}
 use Rattle.inner_code.specs.Code.{combination, is_codeword}

@@ -4,17 +4,13 @@
 --   nearest_pattern row k d w   the pattern below 2^d that leads w to its nearest word, 0 in a tie (specs Code)
 -- Laws are named `coset-` and then by the fact, `single-` where they are about cosets that have patterns of a single one, and `ones-` and
 -- `power-` about the numbers that have a single one.
-use mathlib.Core.Path.{◌≡◌, refl, sym, ap, ap₂, ◌∙◌}
-use mathlib.Core.Bool.{true}
-use mathlib.Core.Logic.{⊎_elim}
-use Prim.Native.Nat.{ℕ, suc, ◌+◌, ◌-◌, ◌*◌, ◌%◌, ◌/◌, ◌^◌, ◌≤◌, ◌<◌}
+use Rattle.std.proofs.Common.{◌≡◌, refl, sym, ap, ap₂, ◌∙◌, true, ⊎_elim, ℕ, suc, ◌+◌, ◌-◌, ◌*◌, ◌%◌, ◌/◌, ◌^◌, ◌≤◌, ◌<◌, le_antisymm}
+use Rattle.std.proofs.Common.{pow-suc, eq-zero-or-pos, arith, bit_xor, pow_mono, pow_pos}
 use native.Mathlib.Decide.{ℕ_discrete, dec_lt}
-use native.Mathlib.Nat.{le_antisymm, pow-suc, eq-zero-or-pos}
-use native.Mathlib.Omega.{arith}
 use lib.Arith.{bin_ind}
-use lib.Bits.{bit_xor, xor_self, xor_comm}
+use lib.Bits.{xor_self, xor_comm}
 use lib.Count.{ones, ones_in, ones_step, ones_cat}
-use lib.Pow.{pow_mono, pow-lt, pow_pos}
+use lib.Pow.{pow-lt}
 use Rattle.bits.proofs.Xor.{xor_assoc, xor-cancel, xor-cancel-right, xor-zero-eq, ones-zero, ones_none, ones_pos}
 use Rattle.inner_code.specs.Code.{combination, is_codeword, key, no_key, least_pattern, tied, nearest_pattern, nearest_word}
 use Rattle.inner_code.specs.Reduction.{reduced, least_key, back_key, least_back, sole, searched}

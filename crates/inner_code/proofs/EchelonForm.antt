@@ -3,24 +3,17 @@
 --   reduced row i w     w reduced by the echelon form of the first i rows; `echelon row i` is row i so reduced
 --   reduced_by basis n w w reduced by a given list of rows
 -- Each is additive: it takes an exclusive-or to the exclusive-or of its values (`-xor`).
-use mathlib.Core.Path.{◌≡◌, refl, sym, ap, ap₂, ◌∙◌, subst}
-use mathlib.Core.Logic.{◌⊎◌, ⊎_elim}
-use mathlib.Core.Bool.{Bool, true, false, true≢false}
-use mathlib.Core.List.{List}
-use Prim.Native.Nat.{ℕ, zero, suc, ◌+◌, ◌*◌, ◌/◌, ◌%◌, ◌^◌, ◌≤◌, ◌<◌, min}
-use native.Mathlib.Nat.{min-eq_left, min-eq_right, min-le_left, min-le_right, min-zero, zero-min, zero-mul, one-mul, div-eq_of_lt-le, pow-suc}
-use native.Mathlib.Nat.{eq-zero-or-pos, le-suc_iff, suc_inj, not-suc-le-zero, le_step, le_of_lt, le_trans, lt-suc_self, le_refl, ne_of_lt}
-use native.Mathlib.Nat.{le_dest, mul_comm}
+use Rattle.std.proofs.Common.{◌≡◌, refl, sym, ap, ap₂, ◌∙◌, subst, ◌⊎◌, ⊎_elim, Bool, true, false, true≢false, List, ℕ, zero, suc, ◌+◌, ◌*◌}
+use Rattle.std.proofs.Common.{◌/◌, ◌%◌, ◌^◌, ◌≤◌, ◌<◌, min, zero-mul, one-mul, pow-suc, eq-zero-or-pos, not-suc-le-zero, le_of_lt, le_trans}
+use Rattle.std.proofs.Common.{lt-suc_self, le_refl, ne_of_lt, mul_comm, add-one, arith, eq-eqb, ne_eqb, eqb, length, get_or, set}
+use Rattle.std.proofs.Common.{length-set, get_or-set_same, get_or-set_other, bit_xor, pow_pos, pow-add}
+use native.Mathlib.Nat.{min-eq_left, min-eq_right, min-le_left, min-le_right, min-zero, zero-min, div-eq_of_lt-le}
+use native.Mathlib.Nat.{le-suc_iff, suc_inj, le_step}
+use native.Mathlib.Nat.{le_dest}
 use native.Mathlib.Decide.{dec_lt}
-use native.Mathlib.Numerals.{add-one}
-use native.Mathlib.Omega.{arith}
-use borrow.Author.Tests.{eq-eqb, ne_eqb}
-use lib.Dec.{eqb}
-use lib.ListN.{length, get_or, set, length-set}
-use lib.Seq.{get_or-set_same, get_or-set_other}
-use lib.Bits.{bit_xor, xor_self, xor_comm, xor_zero_r, xor_shr, xor_shifted}
+use lib.Bits.{xor_self, xor_comm, xor_zero_r, xor_shr, xor_shifted}
 use lib.Count.{leading_top}
-use lib.Pow.{pow_pos, pow-add, shr_mono}
+use lib.Pow.{shr_mono}
 use Rattle.bits.specs.Window.{at}
 use Rattle.bits.specs.Bit.{digit}
 use Rattle.bits.proofs.Xor.{xor_assoc, xor-cancel, xor-swap, xor-half, xor-parity, xor-pow, xor-digit, digit_lt}

@@ -2,14 +2,8 @@
 -- carries it to each entry.
 --   house_words       the table, as it stands in the source
 --   house_words-rule  each entry is the nearest word of its place
-use mathlib.Core.Path.{◌≡◌, refl, ◌∙◌}
-use mathlib.Core.Bool.{Bool, false, not}
-use mathlib.Core.List.{List, [], ◌∷◌}
-use Prim.Native.Nat.{ℕ, zero, suc, ◌^◌, ◌<◌}
-use native.Mathlib.Omega.{arith}
-use borrow.Author.Tests.{not-false, eqb-true}
-use lib.Dec.{eqb, lit<}
-use lib.ListN.{get_or}
+use Rattle.std.proofs.Common.{◌≡◌, refl, ◌∙◌, Bool, false, not, List, [], ◌∷◌, ℕ, zero, suc, ◌^◌, ◌<◌, arith, eqb-true, eqb, lit<, get_or}
+use borrow.Author.Tests.{not-false}
 use lib.Count.{ones, ones_in}
 use Rattle.bits.specs.Bit.{digit, pair_at}
 use Rattle.bits.specs.Search.{least, some_below}

@@ -1,13 +1,9 @@
 -- The inner distance D: the fewest ones in a nonzero codeword.
 --   distance row k   D of the code that the first k rows make
 -- It is at least 1, no nonzero codeword has fewer ones, and some nonzero codeword has that many.
-use mathlib.Core.Path.{◌≡◌, refl, sym, ap, ◌∙◌, subst}
-use mathlib.Core.Logic.{⊎_elim}
-use mathlib.Core.Bool.{Bool, true, cond}
-use Prim.Native.Nat.{ℕ, zero, suc, ◌+◌, ◌^◌, ◌≤◌, ◌<◌, min}
-use native.Mathlib.Nat.{le_of_lt, min-eq_left, min-eq_right, pos_of_ne-zero}
-use native.Mathlib.Omega.{arith}
-use borrow.Author.Tests.{ne_eqb}
+use Rattle.std.proofs.Common.{◌≡◌, refl, sym, ap, ◌∙◌, subst, ⊎_elim, Bool, true, cond, ℕ, zero, suc, ◌+◌, ◌^◌, ◌≤◌, ◌<◌, min, le_of_lt}
+use Rattle.std.proofs.Common.{pos_of_ne-zero, arith, ne_eqb}
+use native.Mathlib.Nat.{min-eq_left, min-eq_right}
 use lib.Count.{ones, ones-le}
 use Rattle.bits.proofs.Xor.{ones_pos}
 use Rattle.inner_code.specs.Reduction.{ones_unless_zero, fewest_ones}

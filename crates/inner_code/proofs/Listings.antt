@@ -4,18 +4,11 @@
 --   Lists row k l r m the list m is l with the codewords of k rows listed, of 11 at most, and r is how many they are, where l has room
 -- Laws are named by their subject, then by the fact; `lists-` is about what the code has listed, `front-` about the part of it that holds
 -- the codewords.
-use mathlib.Core.Path.{◌≡◌, refl, sym, ap, ◌∙◌}
-use mathlib.Core.Logic.{◌⊎◌, inl, inr, ⊎_elim}
-use mathlib.Core.List.{List}
-use Prim.Native.Nat.{ℕ, zero, suc, ◌+◌, ◌^◌, ◌≤◌, ◌<◌, min}
-use native.Mathlib.Nat.{le_dest, pow-suc, le_of_lt, min-le_right}
+use Rattle.std.proofs.Common.{◌≡◌, refl, sym, ap, ◌∙◌, ◌⊎◌, inl, inr, ⊎_elim, List, ℕ, zero, suc, ◌+◌, ◌^◌, ◌≤◌, ◌<◌, min, pow-suc}
+use Rattle.std.proofs.Common.{le_of_lt, add-one, arith, length, get_or, set, take, length-set, get_or-set_same, get_or-set_other, set-set}
+use Rattle.std.proofs.Common.{get_or-take, length-take-le, bit_xor, pow_mono}
+use native.Mathlib.Nat.{le_dest, min-le_right}
 use native.Mathlib.Decide.{dec_lt}
-use native.Mathlib.Numerals.{add-one}
-use native.Mathlib.Omega.{arith}
-use lib.ListN.{length, get_or, set, take, length-set}
-use lib.Seq.{get_or-set_same, get_or-set_other, set-set, get_or-take, length-take-le}
-use lib.Bits.{bit_xor}
-use lib.Pow.{pow_mono}
 use Rattle.inner_code.specs.Code.{combination}
 use Rattle.bits.specs.Window.{at}
 use Rattle.inner_code.specs.Reduction.{doubled, listed, searched, Lists}

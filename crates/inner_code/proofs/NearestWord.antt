@@ -11,21 +11,15 @@
 -- `key-` and `back-` laws compare patterns, `least-` laws say what the pattern of the least key is, `tied-` and `untied-` laws when there is
 -- a tie and what that means, `nearest-` laws what the found word is, `changed-` laws how many bits it changes, `step-` laws what a step
 -- tells. They hold for any rows below 2^d and any d up to 16.
-use mathlib.Core.Path.{◌≡◌, refl, sym, ap, ap₂, ◌∙◌, subst}
-use mathlib.Core.Logic.{⊎_elim}
-use mathlib.Core.Bool.{Bool, true, false, cond, true≢false}
+use Rattle.std.proofs.Common.{◌≡◌, refl, sym, ap, ap₂, ◌∙◌, subst, ⊎_elim, Bool, true, false, cond, true≢false, ℕ, ◌+◌, ◌-◌, ◌*◌, ◌%◌, ◌^◌}
+use Rattle.std.proofs.Common.{◌≤◌, ◌<◌, eq-zero-or-pos, le_antisymm, lt_of_lt_of_le, arith, bit_xor, eqb, pow_mono, pow_pos, List, [], ◌∷◌}
+use Rattle.std.proofs.Common.{le-leb, eqb-true, eq-eqb, ne_eqb}
 use mathlib.Mathlib.Data.Bool.Basic.{eq-false_of_not-eq-true}
-use Prim.Native.Nat.{ℕ, ◌+◌, ◌-◌, ◌*◌, ◌%◌, ◌^◌, ◌≤◌, ◌<◌}
 use native.Mathlib.Decide.{ℕ_discrete}
-use native.Mathlib.Nat.{eq-zero-or-pos, le_antisymm, lt_of_lt_of_le}
-use native.Mathlib.Omega.{arith}
-use lib.Bits.{bit_xor, xor_lt, xor_self, xor_comm, xor_zero_r}
-use lib.Dec.{eqb}
+use lib.Bits.{xor_lt, xor_self, xor_comm, xor_zero_r}
 use lib.Count.{ones, ones-le}
-use lib.Pow.{pow_mono, pow_pos}
 use Rattle.bits.proofs.Xor.{xor-cancel, xor-zero-eq, ones-zero, ones_none, ones-triangle}
-use mathlib.Core.List.{List, [], ◌∷◌}
-use borrow.Author.Tests.{le-leb, lt-leb, eqb-true, eqb-false, eq-eqb, ne_eqb, not-true}
+use borrow.Author.Tests.{lt-leb, eqb-false, not-true}
 use Rattle.inner_code.specs.Reply.{done, refused}
 use Rattle.inner_code.specs.Answer.{nearest_answer}
 use Rattle.inner_code.specs.Sheet.{degree, row_count, row_of, sheet_check}

@@ -4,12 +4,7 @@
 --   if_done reply one other   one list where the reply is done, the other where it refuses
 -- `refuse-` laws speak of one test, `and_then-` laws of two places, `if_done-` laws of what a reply leaves, each at the outcome that they
 -- end in.
-use mathlib.Core.Path.{◌≡◌, refl, ap, ◌∙◌}
-use mathlib.Core.Bool.{Bool, true, false}
-use mathlib.Core.List.{List}
-use Prim.Native.Nat.{ℕ}
-use native.Mathlib.Omega.{arith}
-use Rattle.std.proofs.Common.{Result, Err, IsErrAnd}
+use Rattle.std.proofs.Common.{Result, Err, IsErrAnd, ◌≡◌, refl, ap, ◌∙◌, Bool, true, false, List, ℕ, arith}
 use Rattle.std.proofs.lemmas.Result.{err_from_is_err_and}
 use Rattle.inner_code.specs.declared.refusal.Refusal.{Refusal}
 use Rattle.inner_code.specs.Reply.{Reply, done, refused, refuse_if, and_then, if_done}

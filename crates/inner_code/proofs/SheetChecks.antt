@@ -3,19 +3,14 @@
 --   Sound sheet               what holds of an accepted sheet
 --   Accepted sheet basis s  what a caller learns from a check over zeros that accepts
 -- `row-` laws give one row's outcome, `rows-` laws that of the rows so far, `sound-` laws the two directions of acceptance.
-use mathlib.Core.Path.{◌≡◌, refl, sym, ap, ◌∙◌, subst, subst⁻¹}
-use mathlib.Core.Logic.{◌⊎◌, ⊎_elim}
-use mathlib.Core.Bool.{Bool, false, not, ◌||◌, false≢true}
-use mathlib.Core.List.{List, [], ◌∷◌}
-use Prim.Native.Nat.{ℕ, zero, suc, ◌+◌, ◌*◌, ◌^◌, ◌≤◌, ◌<◌}
-use native.Mathlib.Nat.{le-suc_iff, suc_inj, not-suc-le-zero, lt-suc_self, le_step}
-use native.Mathlib.Numerals.{add-one}
-use native.Mathlib.Omega.{arith}
-use borrow.Author.Tests.{le-leb, lt-leb, leb-false, ltb-false, lt-ltb, le-ltb, eq-eqb, ne_eqb, eqb-true, not-false}
-use lib.Dec.{ltb, leb, eqb}
-use lib.ListN.{length, get_or, replicate}
+use Rattle.std.proofs.Common.{Result, Ok, Err, ◌≡◌, refl, sym, ap, ◌∙◌, subst, ◌⊎◌, ⊎_elim, Bool, false, not, ◌||◌, List, [], ◌∷◌, ℕ, zero}
+use Rattle.std.proofs.Common.{suc, ◌+◌, ◌*◌, ◌^◌, ◌≤◌, ◌<◌, not-suc-le-zero, lt-suc_self, add-one, arith, le-leb, leb-false, ltb-false}
+use Rattle.std.proofs.Common.{lt-ltb, le-ltb, eq-eqb, ne_eqb, eqb-true, ltb, leb, eqb, length, get_or, replicate}
+use mathlib.Core.Path.{subst⁻¹}
+use mathlib.Core.Bool.{false≢true}
+use native.Mathlib.Nat.{le-suc_iff, suc_inj, le_step}
+use borrow.Author.Tests.{lt-leb, not-false}
 use Rattle.inner_code.specs.Reply.{Reply, done, refused, refuse_if, and_then}
-use Rattle.std.proofs.Common.{Result, Ok, Err}
 use Rattle.inner_code.specs.Refusal.{number_of, place_of}
 use Rattle.inner_code.specs.Code.{is_codeword}
 use Rattle.inner_code.specs.Reduction.{reduced, with_echelon}

@@ -1,13 +1,8 @@
 -- The lone statement over the table of known answers: every row is right. The checker computes it from the definitions, but for one step in
 -- the first row: which words are the smallest of their classes is found by what the rows leave of them, as a law of crate tables allows, and
 -- not by a search below each of 256 words, which takes the checker seconds.
-use mathlib.Core.Path.{◌≡◌, refl, ap, ap₂}
-use mathlib.Core.Bool.{Bool, true, cond, ◌&&◌}
-use mathlib.Core.List.{List, [], ◌∷◌, ◌++◌}
-use Prim.Native.Nat.{ℕ, zero, suc, ◌/◌, ◌%◌}
+use Rattle.std.proofs.Common.{◌≡◌, refl, ap, ap₂, Bool, true, cond, ◌&&◌, List, [], ◌∷◌, ◌++◌, ℕ, zero, suc, ◌/◌, ◌%◌, eqb, replicate}
 use lib.Count.{ones, ones_in}
-use lib.Dec.{eqb}
-use lib.ListN.{replicate}
 use Rattle.bits.specs.Bit.{digit, word, bit_at, put_digit, with_bit, pair_at, written, values, flips}
 use Rattle.bits.specs.Sum.{sum, gap, flag}
 use Rattle.inner_code.specs.Reply.{done, refuse_if, and_then, if_done}

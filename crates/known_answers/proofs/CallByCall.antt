@@ -9,12 +9,7 @@
 --   Settles plan start settled q  from a state on, calls one by one settle after q sweeps at a block, and then change nothing
 --   Unsettled plan start         from a state on, no call settles it: 4,096 of them make a sweep, and each after these is 28
 --   settled plan block output    the block that the full decoding with H 4,096 leaves in its output
-use Prim.Native.Nat.{ℕ, suc, ◌+◌, ◌≤◌, ◌<◌}
-use mathlib.Core.Bool.{true}
-use mathlib.Core.List.{List, [], ◌∷◌}
-use mathlib.Core.Path.{◌≡◌, refl, sym, ap, ◌∙◌}
-use native.Mathlib.Omega.{arith}
-use lib.ListN.{length, take}
+use Rattle.std.proofs.Common.{ℕ, suc, ◌+◌, ◌≤◌, ◌<◌, true, List, [], ◌∷◌, ◌≡◌, refl, sym, ap, ◌∙◌, arith, length, take}
 use Rattle.bits.specs.Bit.{with_bit, flips}
 use Rattle.inner_code.specs.Reply.{done, refused}
 use Rattle.wiring.specs.Plan.{Plan, edge_count, side_of}

@@ -4,11 +4,7 @@
 --   report_answer, report_list                 what the report answers, and its list at exit (report specs Answer)
 --   flips N a b                              the number of bits 0 .. N - 1 in which two byte strings differ (bits specs Bit)
 -- Of blocks that settle later nothing is claimed beyond the definition of the sums: a bit that one sweep changes another may change back.
-use Prim.Native.Nat.{ℕ, ◌+◌, ◌*◌}
-use mathlib.Core.List.{List, [], ◌∷◌}
-use mathlib.Core.Path.{◌≡◌, sym, ap, ◌∙◌}
-use native.Mathlib.Omega.{arith}
-use lib.ListN.{length, get_or, take}
+use Rattle.std.proofs.Common.{ℕ, ◌+◌, ◌*◌, List, [], ◌∷◌, ◌≡◌, sym, ap, ◌∙◌, arith, length, get_or, take}
 use Rattle.bits.specs.Bit.{pair_at, written, flips}
 use Rattle.bits.specs.Sum.{sum}
 use Rattle.bits.proofs.Fronts.{written-part}

@@ -1,15 +1,10 @@
 -- Byte 80 of the pair plan, at every limit: its one vertex a side reads a tie, so no sweep changes it, and it never settles.
 --   received     the byte, as the block received
 --   pair-waits   the decoder's answer, its sums and its output, at every limit up to 4,096; pair-waits-longest: its answer at that one
-use Prim.Native.Nat.{ℕ, ◌+◌, ◌≤◌, zero-le, min}
-use mathlib.Core.Bool.{false}
-use mathlib.Core.List.{List, [], ◌∷◌}
-use mathlib.Core.Path.{◌≡◌, refl, sym, ap, ap₂, ◌∙◌}
-use native.Mathlib.Nat.{zero-add, min-eq_left}
-use native.Mathlib.Omega.{arith}
+use Rattle.std.proofs.Common.{ℕ, ◌+◌, ◌≤◌, zero-le, min, false, List, [], ◌∷◌, ◌≡◌, refl, sym, ap, ap₂, ◌∙◌, zero-add, arith, lit≤}
+use Rattle.std.proofs.Common.{replicate}
+use native.Mathlib.Nat.{min-eq_left}
 use lib.Count.{ones, ones_in}
-use lib.Dec.{lit≤}
-use lib.ListN.{replicate}
 use Rattle.bits.specs.Bit.{digit, word, bit_at, put_digit, with_bit, pair_at, written, flips}
 use Rattle.bits.specs.Search.{least, some_below, first_failing}
 use Rattle.bits.proofs.Flips.{flips-none}

@@ -12,14 +12,10 @@
 --   zeros plan                           an output of a block's length: where the decoder call writes that the sweep calls are compared with
 -- Laws are named by their subject, then by the fact: `first-` about the first b, `named-` about the sweeps that are named.
 -- The theorem is panel-restored. It sets no limit on q: by named-few no plan names more sweeps than the 4,096 that a state counts.
-use Prim.Native.Nat.{ℕ, ◌*◌, ◌≤◌, ◌<◌}
-use mathlib.Core.List.{List, [], ◌∷◌}
-use mathlib.Core.Logic.{inl, inr}
-use mathlib.Core.Path.{◌≡◌, sym, ap, ◌∙◌}
+use Rattle.std.proofs.Common.{ℕ, ◌*◌, ◌≤◌, ◌<◌, List, [], ◌∷◌, inl, inr, ◌≡◌, sym, ap, ◌∙◌, eq-zero-or-pos, le_refl, mul-le-mul_left}
+use Rattle.std.proofs.Common.{mul-le-mul_right, arith, length, take, replicate}
 use native.Mathlib.Decide.{dec_le}
-use native.Mathlib.Nat.{eq-zero-or-pos, le_refl, mul-le-mul_left, mul-le-mul_right}
-use native.Mathlib.Omega.{arith}
-use lib.ListN.{length, take, replicate, length-replicate}
+use lib.ListN.{length-replicate}
 use Rattle.bits.specs.Bit.{flips}
 use Rattle.bits.proofs.Fronts.{written-part}
 use Rattle.inner_code.specs.Reply.{done}

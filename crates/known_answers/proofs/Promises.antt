@@ -10,14 +10,9 @@
 -- and here
 --   Returned plan sent received lost output H  a decoder call settles, and its output has the sent block at the front and is else untouched
 --   b₁, b₂, b₃                  the margin's b: after sweep 1, 2 and 3 at most so many vertices are left with a wrong bit
-use Prim.Native.Nat.{ℕ, ◌+◌, ◌-◌, ◌*◌, ◌/◌, ◌≤◌, ◌<◌}
-use mathlib.Core.Bool.{true, false}
-use mathlib.Core.List.{List, [], ◌∷◌, ◌++◌}
-use mathlib.Core.Path.{◌≡◌, refl, ap, ◌∙◌}
-use native.Mathlib.Omega.{arith}
+use Rattle.std.proofs.Common.{ℕ, ◌+◌, ◌-◌, ◌*◌, ◌/◌, ◌≤◌, ◌<◌, true, false, List, [], ◌∷◌, ◌++◌, ◌≡◌, refl, ap, ◌∙◌, arith, lit≤, length}
+use Rattle.std.proofs.Common.{drop}
 use lib.Count.{ones, ones_in}
-use lib.Dec.{lit≤}
-use lib.ListN.{length, drop}
 use Rattle.bits.specs.Bit.{digit, pair_at, written, flips}
 use Rattle.bits.specs.Sum.{sum, gap, flag}
 use Rattle.bits.specs.Search.{some_below, first_failing, least, largest}

@@ -8,11 +8,7 @@
 --   decode_sums, decode_output     the sums that the decoder tells, and its output (decoder specs Answer)
 --   report_answer, report_list     what the report answers, and its list (report specs Answer)
 --   edges_between sides u v       how many edges are between a left and a right vertex (wiring specs Wiring)
-use Prim.Native.Nat.{ℕ, ◌+◌, ◌*◌, ◌^◌, ◌≤◌, ◌<◌}
-use mathlib.Core.Bool.{Bool}
-use mathlib.Core.List.{List, [], ◌∷◌, ◌++◌}
-use mathlib.Core.Path.{◌≡◌, sym, ap, ◌∙◌}
-use lib.ListN.{length, get_or, take}
+use Rattle.std.proofs.Common.{ℕ, ◌+◌, ◌*◌, ◌^◌, ◌≤◌, ◌<◌, Bool, List, [], ◌∷◌, ◌++◌, ◌≡◌, sym, ap, ◌∙◌, length, get_or, take}
 use Rattle.bits.specs.Bit.{pair_at, written, flips}
 use Rattle.bits.specs.Sum.{sum, gap, flag}
 use Rattle.bits.proofs.Fronts.{written-part}

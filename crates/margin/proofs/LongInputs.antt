@@ -12,17 +12,14 @@
 --   cut-accepted     where their plan is accepted, they are the whole input: every line is its own
 --   read_answer, read-accepted  both of the 65,589 bytes that the program reads
 -- Laws are named by their subject, then by the fact: `-same` is what an input shares with any that continues it.
-use Prim.Native.Nat.{ℕ, ◌+◌, ◌-◌, ◌*◌, ◌≤◌, ◌<◌, min}
-use mathlib.Core.Bool.{Bool, true, false, not, ◌||◌, or-true}
-use mathlib.Core.List.{List, ◌++◌}
-use mathlib.Core.Path.{◌≡◌, refl, sym, ap, ap₂, ◌∙◌}
+use Rattle.std.proofs.Common.{ℕ, ◌+◌, ◌-◌, ◌*◌, ◌≤◌, ◌<◌, min, Bool, true, false, not, ◌||◌, List, ◌++◌, ◌≡◌, refl, sym, ap, ap₂, ◌∙◌}
+use Rattle.std.proofs.Common.{le_refl, arith, ltb, eqb, length, get_or, take, drop, length-append, length-take, length-drop}
+use Rattle.std.proofs.Common.{take-append-drop, length-take-le, take_all, get_or-take, get_or-drop, lt-ltb, le-ltb, ne_eqb}
+use mathlib.Core.Bool.{or-true}
 use native.Mathlib.Decide.{dec_le}
-use native.Mathlib.Nat.{sub-zero, le_refl}
-use native.Mathlib.Omega.{arith}
-use lib.Dec.{ltb, eqb}
-use lib.ListN.{length, get_or, take, drop, length-append, length-take, length-drop, take-append-drop, get_or-append}
-use lib.Seq.{length-take-le, take_all, take-append-le, drop-append-le, get_or-take, get_or-drop}
-use borrow.Author.Tests.{lt-ltb, le-ltb, ne_eqb}
+use native.Mathlib.Nat.{sub-zero}
+use lib.ListN.{get_or-append}
+use lib.Seq.{take-append-le, drop-append-le}
 use Rattle.bits.proofs.Bytes.{pair_at-front}
 use Rattle.bits.proofs.Tests.{or-neither}
 use Rattle.inner_code.specs.Reply.{Reply, done, refused, refuse_if, and_then}

@@ -5,14 +5,11 @@
 -- `sheet-` laws say where a sheet ends, `count-` laws what a count is, `parts-` laws what the parts are and that they lie in order within the
 -- input; `-cut` is for what is missing or cut, `-long` for a sheet whose k is there, `-whole` for what is
 -- there.
-use Prim.Native.Nat.{ℕ, ◌+◌, ◌*◌, ◌≤◌, ◌<◌, min}
-use mathlib.Core.List.{List}
-use mathlib.Core.Path.{◌≡◌, ◌∙◌}
+use Rattle.std.proofs.Common.{ℕ, ◌+◌, ◌*◌, ◌≤◌, ◌<◌, min, List, ◌≡◌, ◌∙◌, add-zero, le_of_lt, le_refl, arith, length, get_or, lt-ltb}
+use Rattle.std.proofs.Common.{le-ltb, le-leb}
 use native.Mathlib.Decide.{dec_le}
-use native.Mathlib.Nat.{add-zero, le_of_lt, le_refl, min-eq_left, min-eq_right}
-use native.Mathlib.Omega.{arith}
-use lib.ListN.{length, get_or}
-use borrow.Author.Tests.{lt-ltb, le-ltb, le-leb, lt-leb}
+use native.Mathlib.Nat.{min-eq_left, min-eq_right}
+use borrow.Author.Tests.{lt-leb}
 use Rattle.bits.specs.Bit.{pair_at}
 use Rattle.margin.specs.Input.{sheet_end, count_at, input_parts}
 use Rattle.margin.specs.declared.margin_input.MarginInput.{MarginInput}

@@ -5,19 +5,14 @@
 --   InRange p, measures_by p                of radius: nine numbers in the range that has every plan's, and the measures that they give
 -- `first-` laws speak of the first line, `numbers-` laws of its numbers, `line-` laws of the lines of covered F (-covered, -sweeps), `last-`
 -- laws of the last line.
-use Prim.Native.Nat.{ℕ, ◌-◌, ◌<◌}
-use mathlib.Core.List.{List, []}
-use mathlib.Core.Path.{◌≡◌, refl, ap, ◌∙◌}
-use native.Mathlib.Nat.{le_refl}
-use lib.ListN.{length, take, drop, length-drop}
-use lib.Seq.{take_all}
+use Rattle.std.proofs.Common.{Result, Ok, Err, ℕ, ◌-◌, ◌<◌, List, [], ◌≡◌, refl, ap, ◌∙◌, le_refl, length, take, drop, length-drop}
+use Rattle.std.proofs.Common.{take_all}
 use Rattle.inner_code.specs.Reply.{done}
 use Rattle.wiring.specs.Plan.{plan_of}
 use Rattle.wiring.specs.Wiring.{plan_check}
 use Rattle.radius.specs.Margin.{Measures, sweeps_named, beyond}
 use Rattle.radius.specs.Answer.{measures_of, margin_of, numbers_of, in_order, numbers_answer}
 use Rattle.radius.specs.Ranges.{measures_by, InRange}
-use Rattle.std.proofs.Common.{Result, Ok, Err}
 use Rattle.inner_code.specs.declared.refusal.Refusal.{Refusal}
 use Rattle.radius.specs.declared.numbers.PlanNumbers.{PlanNumbers}
 use Rattle.radius.proofs.MeasuredNumbers.{numbers-known}

@@ -1,9 +1,7 @@
 -- The spread's answers, outcome by outcome.
 --   spread_answer plan              1 to 10 and 23, or the spread R (specs Answer)
 -- Laws are named `spread-`, then by the outcome.
-use Prim.Native.Nat.{ℕ}
-use mathlib.Core.List.{[], ◌∷◌}
-use mathlib.Core.Path.{◌≡◌, sym}
+use Rattle.std.proofs.Common.{ℕ, [], ◌∷◌, ◌≡◌, sym}
 use Rattle.inner_code.specs.Reply.{done, refused}
 use Rattle.inner_code.proofs.Replies.{and_then-passed, and_then-refused}
 use Rattle.wiring.specs.Plan.{Plan, side_of}

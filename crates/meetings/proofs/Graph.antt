@@ -11,11 +11,7 @@
 --   inside-right, inside-left                       the edges between two sets, counted at their right or left ends
 -- The theorems are pair-bound-joined, the pair bound of documents 01 and 02, its step from a set of one side to a set of the other,
 -- step-joined, and the pair bound of every accepted plan, pair-bound-plan.
-use Prim.Native.Nat.{ℕ, ◌+◌, ◌*◌, ◌≤◌, ◌<◌}
-use mathlib.Core.Bool.{Bool, true}
-use mathlib.Core.List.{[]}
-use mathlib.Core.Path.{◌≡◌, sym, ap, ◌∙◌}
-use native.Mathlib.Nat.{mul_assoc, mul_comm}
+use Rattle.std.proofs.Common.{ℕ, ◌+◌, ◌*◌, ◌≤◌, ◌<◌, Bool, true, [], ◌≡◌, sym, ap, ◌∙◌, mul_assoc, mul_comm}
 use Rattle.bits.specs.Sum.{sum, gap, flag}
 use Rattle.bits.proofs.Sums.{sum-ext, sum-scale}
 use Rattle.bits.proofs.Searches.{largest-bounds, largest-attained}

@@ -15,12 +15,9 @@
 --   inside-into                                         the edges inside, counted so
 --   step-square, step_right, step_left                  how large one set can be beside the other, with edges enough between them
 -- The theorem is pair-bound: with s, t, e the sizes of S and T and the edges inside, (nr·e - dl·s·t)² ≤ nr·R·s·t.
-use Prim.Native.Nat.{ℕ, zero, suc, ◌+◌, ◌-◌, ◌*◌, ◌≤◌, ◌<◌, zero-le}
-use mathlib.Core.Bool.{Bool, true, false}
-use mathlib.Core.Logic.{inl, inr}
-use mathlib.Core.Path.{◌≡◌, refl, sym, ap, ◌∙◌}
-use native.Mathlib.Nat.{eq-zero-or-pos, le_of_mul-le-mul_left, le_trans, mul_assoc, mul_comm, mul-le-mul, mul-le-mul_left, mul_left_comm, one-mul}
-use native.Mathlib.Omega.{arith}
+use Rattle.std.proofs.Common.{ℕ, zero, suc, ◌+◌, ◌-◌, ◌*◌, ◌≤◌, ◌<◌, zero-le, Bool, true, false, inl, inr, ◌≡◌, refl, sym, ap, ◌∙◌}
+use Rattle.std.proofs.Common.{eq-zero-or-pos, le_trans, mul_assoc, mul_comm, mul-le-mul, mul-le-mul_left, mul_left_comm, one-mul, arith}
+use native.Mathlib.Nat.{le_of_mul-le-mul_left}
 use Rattle.bits.specs.Sum.{sum, gap, flag}
 use Rattle.bits.proofs.Sums.{cauchy-schwarz, gap-le, gap-square, sum-ext, sum_mono, sum-scale, sum-scale-right, sum-swap, sums}
 use Rattle.meetings.specs.Spread.{size, edges_inside}

@@ -3,10 +3,7 @@
 --   meeting, unevenness, spread      the paper's meeting number G, a row sum of |nr·G - dl·dl|, and the largest of these, R
 --   Joined N sides                   both sides have all N bits, the left one in their order
 -- Names: the subject first (gap, meeting, unevenness, spread), then the fact. meeting-row is the sum of all meeting numbers of a left vertex.
-use Prim.Native.Nat.{ℕ, ◌+◌, ◌*◌, ◌≤◌, ◌<◌}
-use mathlib.Core.Path.{◌≡◌, ap, ◌∙◌}
-use native.Mathlib.Nat.{le_trans}
-use native.Mathlib.Omega.{arith}
+use Rattle.std.proofs.Common.{ℕ, ◌+◌, ◌*◌, ◌≤◌, ◌<◌, ◌≡◌, ap, ◌∙◌, le_trans, arith}
 use Rattle.bits.specs.Sum.{sum, gap}
 use Rattle.bits.proofs.Sums.{sum-ext, sum_mono, sum-scale, sum-scale-right, sum-swap, sums}
 use Rattle.wiring.specs.Plan.{Side, left, right}

@@ -9,15 +9,12 @@
 -- Laws are named by their subject, then by the fact: `-none` and `-one-more` are the start of a loop and one turn of it, `-le` and
 -- `-low` are bounds, `-walkable`, `-countable` and `-summable` lead to what the next step needs to know. The theorem is walked-spread: what
 -- the walks give is the spread of specs/Spread.antt.
-use Prim.Native.Nat.{ℕ, zero, suc, ◌+◌, ◌*◌, ◌-◌, ◌≤◌, ◌<◌, max}
-use mathlib.Core.List.{List, ◌++◌}
-use mathlib.Core.Path.{◌≡◌, refl, sym, ap, ap₂, ◌∙◌}
-use native.Mathlib.Nat.{mul-le-mul, mul-le-mul_left, mul-le-mul_right, le_refl, le_step}
+use Rattle.std.proofs.Common.{ℕ, zero, suc, ◌+◌, ◌*◌, ◌-◌, ◌≤◌, ◌<◌, max, List, ◌++◌, ◌≡◌, refl, sym, ap, ap₂, ◌∙◌, mul-le-mul}
+use Rattle.std.proofs.Common.{mul-le-mul_left, mul-le-mul_right, le_refl, add-one, arith, eqb, length, set, get_or, length-append}
+use Rattle.std.proofs.Common.{replicate, take, drop}
+use native.Mathlib.Nat.{le_step}
 use native.Mathlib.Decide.{ℕ_discrete}
-use native.Mathlib.Numerals.{add-one}
-use native.Mathlib.Omega.{arith}
-use lib.Dec.{eqb}
-use lib.ListN.{length, set, get_or, get_or-append, length-append, replicate, length-replicate, get_or-replicate, take, drop}
+use lib.ListN.{get_or-append, length-replicate, get_or-replicate}
 use Rattle.std.proofs.lemmas.List.{length-take, length-drop, get_or-take, get_or-drop}
 use Rattle.bits.specs.Window.{at}
 use Rattle.bits.specs.Sum.{gap, flag}

@@ -6,13 +6,7 @@
 --   Read plan block output reply left       the reader answers `reply` and leaves `left`
 -- Laws are named by the service, then by the outcome: -plan (1 to 10, 23), -long (19), -message (20, 21) or -block (11, 12), -stranger (22),
 -- -output (13), -done. Each takes the places before its own as passed.
-use Prim.Native.Nat.{ℕ, ◌≤◌, ◌<◌}
-use mathlib.Core.Bool.{true, false, not}
-use mathlib.Core.List.{List, []}
-use mathlib.Core.Path.{◌≡◌, refl, ap, ◌∙◌}
-use lib.Dec.{ltb}
-use lib.ListN.{length}
-use borrow.Author.Tests.{lt-ltb, le-ltb}
+use Rattle.std.proofs.Common.{ℕ, ◌≤◌, ◌<◌, true, false, not, List, [], ◌≡◌, refl, ap, ◌∙◌, ltb, length, lt-ltb, le-ltb}
 use Rattle.bits.specs.Bit.{written}
 use Rattle.inner_code.specs.Reply.{Reply, done, refused, refuse_if, and_then, if_done}
 use Rattle.inner_code.proofs.Replies.{refuse-taken, refuse-passed, and_then-passed, and_then-refused, if_done-done, if_done-refused}

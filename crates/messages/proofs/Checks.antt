@@ -11,20 +11,14 @@
 --   parity, Solution            a check's value, and vectors that pass (Elimination)
 -- Laws are named by their subject, then by the fact: `vertex-` and `side-` are about the checks of one vertex and one side, `check-` about
 -- the numbering, `codeword-` and `solves-` lead from codewords to checks and back. `-residue` leads to what the reduction leaves.
-use Prim.Native.Nat.{ℕ, zero, suc, ◌+◌, ◌-◌, ◌*◌, ◌/◌, ◌%◌, ◌^◌, ◌≤◌, ◌<◌}
-use mathlib.Core.Bool.{true}
-use mathlib.Core.List.{List}
+use Rattle.std.proofs.Common.{ℕ, zero, suc, ◌+◌, ◌-◌, ◌*◌, ◌/◌, ◌%◌, ◌^◌, ◌≤◌, ◌<◌, true, List, ◌≡◌, refl, sym, ap, ap₂, ◌∙◌, mul_assoc}
+use Rattle.std.proofs.Common.{mul-one, mul-zero, pow-suc, div-lt_iff_lt-mul, lt_of_le_of_lt, not-suc-le-zero, lt-suc_self, arith, bit_xor}
+use Rattle.std.proofs.Common.{pow_pos, eqb, lt-ltb, le-ltb}
 use mathlib.Core.Logic.{◌↔◌}
-use mathlib.Core.Path.{◌≡◌, refl, sym, ap, ap₂, ◌∙◌}
-use native.Mathlib.Nat.{mul_assoc, mul-one, mul-zero, pow-suc, div-lt_iff_lt-mul}
-use native.Mathlib.Nat.{lt_of_le_of_lt, not-suc-le-zero, lt-suc_self, le_step}
+use native.Mathlib.Nat.{le_step}
 use native.Mathlib.Decide.{dec_le}
-use native.Mathlib.Omega.{arith}
 use lib.Arith.{digits_lt, digits_div, digits_mod}
-use lib.Bits.{bit_xor, xor_shifted}
-use lib.Pow.{pow_pos}
-use lib.Dec.{eqb}
-use borrow.Author.Tests.{lt-ltb, le-ltb}
+use lib.Bits.{xor_shifted}
 use Rattle.bits.specs.Bit.{digit, word, bit_at}
 use Rattle.bits.specs.Sum.{sum, flag}
 use Rattle.bits.proofs.Sums.{sum-ext, sum-swap, sum-scale-right, sum-at, flag_same}

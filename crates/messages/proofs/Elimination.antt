@@ -18,19 +18,18 @@
 -- `stepped-` and `after-` about the states, `combination-` about combinations of live rows, `solution-` about all solutions, `live-`
 -- and `last-` about where solutions have their last 1. At the end of a name, `-lt` and `-le` are bounds, `-ext` is equality term by
 -- term, `-none` a parity that is 0, a step that hits no row, `-zero`, `-suc` and `-one-more` the number of terms or of checks.
-use Prim.Native.Nat.{ℕ, zero, suc, ◌+◌, ◌*◌, ◌/◌, ◌%◌, ◌≤◌, ◌<◌}
-use mathlib.Core.Bool.{Bool, true, false, not, ◌&&◌, and-eq-true_iff, and-true, true≢false}
-use mathlib.Core.Logic.{◌⊎◌, inl, inr, ◌≢◌}
-use mathlib.Core.Path.{◌≡◌, refl, sym, ap, ◌∙◌}
-use native.Mathlib.Nat.{add-zero, mul-zero, mul-one, zero-mul, one-mul, lt-suc_self, le_step, not-suc-le-zero}
-use native.Mathlib.Nat.{eq-or-lt_of_le, le_of_suc-le-suc, mod-eq_of_lt, mod-add-mod}
+use Rattle.std.proofs.Common.{ℕ, zero, suc, ◌+◌, ◌*◌, ◌/◌, ◌%◌, ◌≤◌, ◌<◌, Bool, true, false, not, ◌&&◌, true≢false, ◌⊎◌, inl, inr, ◌≡◌}
+use Rattle.std.proofs.Common.{refl, sym, ap, ◌∙◌, add-zero, mul-zero, mul-one, zero-mul, one-mul, lt-suc_self, not-suc-le-zero}
+use Rattle.std.proofs.Common.{eq-or-lt_of_le, le_of_suc-le-suc, mod-eq_of_lt, add-one, arith, bit_xor, bit_and, eqb, ltb-true, lt-ltb}
+use Rattle.std.proofs.Common.{eqb-true}
+use mathlib.Core.Bool.{and-eq-true_iff, and-true}
+use mathlib.Core.Logic.{◌≢◌}
+use native.Mathlib.Nat.{le_step}
+use native.Mathlib.Nat.{mod-add-mod}
 use native.Mathlib.Decide.{dec_le, ℕ_discrete}
-use native.Mathlib.Numerals.{add-one}
-use native.Mathlib.Omega.{arith}
 use lib.Arith.{lt_of_le-ne}
-use lib.Bits.{bit_xor, bit_and, xor_add_and, xor_self, xor_zero_r}
-use lib.Dec.{eqb}
-use borrow.Author.Tests.{ltb-true, lt-ltb, eqb-true, eqb-false, not-false, not-true}
+use lib.Bits.{xor_add_and, xor_self, xor_zero_r}
+use borrow.Author.Tests.{eqb-false, not-false, not-true}
 use Rattle.bits.specs.Sum.{sum, flag}
 use Rattle.bits.proofs.Sums.{sum-zero, sum-suc, sum-ext, sum-none, sum-swap, sum-scale, sum-scale-right}
 use Rattle.bits.proofs.Sums.{sum-at, flag_true, flag-false, flag-le-one, flag-equal, flag-apart}

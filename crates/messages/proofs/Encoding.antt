@@ -7,15 +7,11 @@
 -- Laws are named by their subject, then by the fact: `carries-` is about the test, `carrier-` about all numbers that carry a message,
 -- `encoded-` about the one that is found. At the end of a name, `-each` leads from a test to every place and `-back` to the test, `-is`
 -- writes a definition out.
-use Prim.Native.Nat.{ℕ, suc, ◌*◌, ◌^◌, ◌<◌}
-use mathlib.Core.Bool.{Bool, true, false, not, ◌&&◌, and-eq-true_iff, ◌||◌, true≢false, false≢true}
-use mathlib.Core.List.{List, []}
-use mathlib.Core.Path.{◌≡◌, refl, sym, ap, ◌∙◌}
-use native.Mathlib.Nat.{le_antisymm}
+use Rattle.std.proofs.Common.{ℕ, suc, ◌*◌, ◌^◌, ◌<◌, Bool, true, false, not, ◌&&◌, ◌||◌, true≢false, List, [], ◌≡◌, refl, sym, ap, ◌∙◌}
+use Rattle.std.proofs.Common.{le_antisymm, arith, eqb, eqb-true, eq-eqb}
+use mathlib.Core.Bool.{and-eq-true_iff, false≢true}
 use native.Mathlib.Decide.{dec_le}
-use native.Mathlib.Omega.{arith}
-use lib.Dec.{eqb}
-use borrow.Author.Tests.{eqb-true, eq-eqb, not-true, not-false}
+use borrow.Author.Tests.{not-true, not-false}
 use Rattle.bits.specs.Bit.{digit, bit_at}
 use Rattle.bits.proofs.Xor.{digit_lt, digit-ext}
 use Rattle.bits.proofs.Bytes.{bit_at_lt}

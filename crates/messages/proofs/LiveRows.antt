@@ -9,22 +9,15 @@
 -- Laws are named by their subject, then by the fact: `live-` is about the count, `chosen-` about the chosen rows, `ones-` about their
 -- common ones, `stored-` about the rows of a plan. At the end of a name, `-none` is the beginning of a loop, `-one-more` a turn, `-le` a
 -- bound.
-use Prim.Native.Nat.{ℕ, zero, suc, ◌+◌, ◌-◌, ◌*◌, ◌/◌, ◌%◌, ◌^◌, ◌≤◌, ◌<◌, min}
-use mathlib.Core.Bool.{Bool, true, false}
-use mathlib.Core.List.{List}
-use mathlib.Core.Logic.{⊎_elim, ◌≢◌}
-use mathlib.Core.Path.{◌≡◌, refl, sym, ap, ap₂, ◌∙◌}
-use native.Mathlib.Nat.{zero-mul, not-suc-le-zero, eq-or-lt_of_le, le_of_suc-le-suc, lt_of_lt_of_le}
-use native.Mathlib.Nat.{lt_of_le_of_lt, mod-eq_of_lt, add-sub_of_le, add-zero}
+use Rattle.std.proofs.Common.{ℕ, zero, suc, ◌+◌, ◌-◌, ◌*◌, ◌/◌, ◌%◌, ◌^◌, ◌≤◌, ◌<◌, min, Bool, true, false, List, ⊎_elim, ◌≡◌, refl, sym}
+use Rattle.std.proofs.Common.{ap, ap₂, ◌∙◌, zero-mul, not-suc-le-zero, eq-or-lt_of_le, le_of_suc-le-suc, lt_of_lt_of_le, lt_of_le_of_lt}
+use Rattle.std.proofs.Common.{mod-eq_of_lt, add-sub_of_le, add-zero, add-one, arith, bit_xor, bit_and, length, get_or, set, pow_mono}
+use Rattle.std.proofs.Common.{shl_lt, get_or-set_same, get_or-set_other}
+use mathlib.Core.Logic.{◌≢◌}
 use native.Mathlib.Decide.{ℕ_discrete}
-use native.Mathlib.Numerals.{add-one}
-use native.Mathlib.Omega.{arith}
-use lib.Bits.{bit_xor, bit_and, and_le_l, xor_zero_l, xor_zero_r}
+use lib.Bits.{and_le_l, xor_zero_l, xor_zero_r}
 use lib.Count.{ones}
 use Rattle.std.proofs.lemmas.Nat.Bits.{bit_at_and}
-use lib.ListN.{length, get_or, set}
-use lib.Pow.{pow_mono, shl_lt}
-use lib.Seq.{get_or-set_same, get_or-set_other}
 use Rattle.bits.specs.Bit.{digit, bit_at}
 use Rattle.bits.specs.Sum.{sum, flag}
 use Rattle.bits.proofs.Sums.{sum-zero, sum-one-more, sum-ext, sum-none, sum-append, sum-blocks, sum_mono, sum-const, flag_true, flag-false}

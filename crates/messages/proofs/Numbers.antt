@@ -7,16 +7,12 @@
 -- Laws are named by their subject, then by the fact: `number-` is about a number made from digits, `block_of-` about a block made
 -- from a number, `block-number` leads from a block back to its number. At the end of a name, `-lt` is a bound, `-byte` says that every
 -- byte is below 256, `-bit` and `-past` what a bit is, `-last` where the last 1 stands.
-use Prim.Native.Nat.{ℕ, zero, suc, ◌+◌, ◌-◌, ◌*◌, ◌/◌, ◌%◌, ◌^◌, ◌≤◌, ◌<◌}
-use mathlib.Core.List.{List}
-use mathlib.Core.Logic.{⊎_elim}
-use mathlib.Core.Path.{◌≡◌, refl, sym, ap, ◌∙◌}
-use native.Mathlib.Nat.{le_of_lt, lt_of_lt_of_le, le_refl, not-suc-le-zero, eq-or-lt_of_le, le_of_suc-le-suc, pow-suc, ne_of_lt, div-eq_of_lt-le}
+use Rattle.std.proofs.Common.{ℕ, zero, suc, ◌+◌, ◌-◌, ◌*◌, ◌/◌, ◌%◌, ◌^◌, ◌≤◌, ◌<◌, List, ⊎_elim, ◌≡◌, refl, sym, ap, ◌∙◌, le_of_lt}
+use Rattle.std.proofs.Common.{lt_of_lt_of_le, le_refl, not-suc-le-zero, eq-or-lt_of_le, le_of_suc-le-suc, pow-suc, ne_of_lt, add-one, arith}
+use Rattle.std.proofs.Common.{pow_mono, length, get_or, replicate}
+use native.Mathlib.Nat.{div-eq_of_lt-le}
 use native.Mathlib.Decide.{dec_le}
-use native.Mathlib.Numerals.{add-one}
-use native.Mathlib.Omega.{arith}
-use lib.Pow.{pow_mono}
-use lib.ListN.{length, get_or, replicate, length-replicate}
+use lib.ListN.{length-replicate}
 use Rattle.wiring.proofs.Blocks.{bytes-hold, block_back, block-ext}
 use Rattle.bits.specs.Bit.{digit, word, bit_at, with_bit}
 use Rattle.bits.proofs.Lists.{zeros-at}

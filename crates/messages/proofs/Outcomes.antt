@@ -2,11 +2,7 @@
 --   located_by ..        what the search finds (wiring specs Access)
 --   place_found found   the vertex found, as values (wiring specs Answer)
 -- Laws are named `located-`, then by the fact.
-use mathlib.Core.Bool.{Bool, true, false, not}
-use mathlib.Core.List.{List}
-use mathlib.Core.Path.{◌≡◌, refl, sym, ◌∙◌}
-use Prim.Native.Nat.{ℕ}
-use Rattle.std.proofs.Common.{Option, Some, None, is_some}
+use Rattle.std.proofs.Common.{Option, Some, None, is_some, Bool, true, false, not, List, ◌≡◌, refl, sym, ◌∙◌, ℕ}
 use Rattle.wiring.specs.Plan.{Plan, side_of}
 use Rattle.wiring.specs.Block.{is_codeword_block}
 use Rattle.wiring.specs.Access.{both_codes, located_by}

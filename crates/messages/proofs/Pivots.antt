@@ -15,22 +15,16 @@
 -- the check that the code holds, `spread-` about the row that is put on the set, `dropped-` about rows that are no longer live, `step-`
 -- and `made-` about the state after a check. At the end of a name, `-none` is the beginning of a loop or a check that no row fails,
 -- `-put` and `-kept` a turn that adds a column and one that does not, `-whole` the end of a loop.
-use Prim.Native.Nat.{ℕ, zero, suc, ◌+◌, ◌-◌, ◌*◌, ◌/◌, ◌%◌, ◌^◌, ◌≤◌, ◌<◌, min}
-use mathlib.Core.Bool.{Bool, true, false, not, ◌&&◌, true≢false}
-use mathlib.Core.List.{List}
-use mathlib.Core.Logic.{⊎_elim, ◌≢◌}
-use mathlib.Core.Path.{◌≡◌, refl, sym, ap, ap₂, ◌∙◌}
-use native.Mathlib.Nat.{le_refl, min-eq_left, min-eq_right, mul-zero, mul-one, zero-mul, one-mul, eq-or-lt_of_le, le_of_suc-le-suc}
-use native.Mathlib.Nat.{lt_of_lt_of_le, le_antisymm, mod-lt, div-lt_iff_lt-mul}
+use Rattle.std.proofs.Common.{w64, ℕ, zero, suc, ◌+◌, ◌-◌, ◌*◌, ◌/◌, ◌%◌, ◌^◌, ◌≤◌, ◌<◌, min, Bool, true, false, not, ◌&&◌, true≢false}
+use Rattle.std.proofs.Common.{List, ⊎_elim, ◌≡◌, refl, sym, ap, ap₂, ◌∙◌, le_refl, mul-zero, mul-one, zero-mul, one-mul, eq-or-lt_of_le}
+use Rattle.std.proofs.Common.{le_of_suc-le-suc, lt_of_lt_of_le, le_antisymm, mod-lt, div-lt_iff_lt-mul, add-one, arith, bit_xor, eqb}
+use Rattle.std.proofs.Common.{get_or, ltb-false, eqb-true, eq-eqb}
+use mathlib.Core.Logic.{◌≢◌}
+use native.Mathlib.Nat.{min-eq_left, min-eq_right}
 use native.Mathlib.Decide.{dec_le}
-use native.Mathlib.Numerals.{add-one}
-use native.Mathlib.Omega.{arith}
 use lib.Arith.{digits_lt}
-use lib.Bits.{bit_xor, xor_self, xor_zero_r}
-use lib.Dec.{eqb}
-use lib.ListN.{get_or}
-use borrow.Author.Tests.{ltb-false, eqb-true, eq-eqb, not-true}
-use Rattle.std.proofs.Common.{w64}
+use lib.Bits.{xor_self, xor_zero_r}
+use borrow.Author.Tests.{not-true}
 use Rattle.std.specs.Borrow.{Bor}
 use Rattle.std.specs.Int.{trailing_zeros}
 use Rattle.std.proofs.lemmas.Nat.Bits.{bit_at-trailing_zeros}

@@ -8,16 +8,11 @@
 -- Laws are named by their subject, then by the fact: `final-` is about the last state, `codeword-number` about the digits of a codeword,
 -- `position-` about one message position, `positions-` and `message-bits-` about their number. `-live` leads to the final state, `-rank`
 -- to a count.
-use Prim.Native.Nat.{ℕ, suc, ◌*◌, ◌^◌, ◌≤◌, ◌<◌}
-use mathlib.Core.Bool.{Bool, true, false, ◌&&◌, and-eq-true_iff}
-use mathlib.Core.List.{[]}
+use Rattle.std.proofs.Common.{ℕ, suc, ◌*◌, ◌^◌, ◌≤◌, ◌<◌, Bool, true, false, ◌&&◌, [], ◌≡◌, refl, sym, ap, ◌∙◌, arith, pow_mono, leb, ltb}
+use Rattle.std.proofs.Common.{ltb-true, leb-true, lt-ltb, le-leb}
+use mathlib.Core.Bool.{and-eq-true_iff}
 use mathlib.Core.Logic.{◌↔◌}
-use mathlib.Core.Path.{◌≡◌, refl, sym, ap, ◌∙◌}
 use native.Mathlib.Decide.{dec_le}
-use native.Mathlib.Omega.{arith}
-use lib.Pow.{pow_mono}
-use lib.Dec.{leb, ltb}
-use borrow.Author.Tests.{ltb-true, leb-true, lt-ltb, le-leb}
 use Rattle.bits.specs.Bit.{digit}
 use Rattle.bits.specs.Sum.{flag}
 use Rattle.bits.proofs.Sums.{sum-ext}

@@ -2,12 +2,9 @@
 --   rank t j   how many numbers below j pass the test t
 -- The rank of a number that passes is its place among those that pass: later numbers have larger ranks (rank_lt), and the ranks
 -- fill the numbers below their count (rank-onto).
-use Prim.Native.Nat.{ℕ, zero, suc, ◌+◌, ◌-◌, ◌≤◌, ◌<◌}
-use mathlib.Core.Bool.{Bool, true, false}
-use mathlib.Core.Path.{◌≡◌, refl, ◌∙◌}
-use native.Mathlib.Nat.{lt-suc_self, le_step, add-sub_of_le}
+use Rattle.std.proofs.Common.{ℕ, zero, suc, ◌+◌, ◌-◌, ◌≤◌, ◌<◌, Bool, true, false, ◌≡◌, refl, ◌∙◌, lt-suc_self, add-sub_of_le, arith}
+use native.Mathlib.Nat.{le_step}
 use native.Mathlib.Decide.{dec_le}
-use native.Mathlib.Omega.{arith}
 use Rattle.bits.specs.Sum.{sum, flag}
 use Rattle.bits.proofs.Sums.{sum-zero, sum-suc, sum-append, flag_true, flag-false}
 

@@ -9,14 +9,11 @@
 -- read, `encoded-` about the codeword of a message. At the end of a name, `-lt`, `-mono` and `-inside` are orders, `-onto` says that every
 -- place has a position, `-byte` that every byte is below 256, `-bit` and `-past` what a bit is. The two directions are `encode-read` and
 -- `read-encode`.
-use Prim.Native.Nat.{ℕ, zero, suc, ◌*◌, ◌≤◌, ◌<◌}
-use mathlib.Core.Bool.{Bool, true, false, cond}
-use mathlib.Core.List.{List, []}
-use mathlib.Core.Logic.{⊎_elim}
-use mathlib.Core.Path.{◌≡◌, refl, sym, ap, ◌∙◌, subst⁻¹}
-use native.Mathlib.Nat.{lt-suc_self, le_trans, le_refl, le_of_lt, lt_of_lt_of_le, le_of_suc-le-suc, eq-or-lt_of_le, not-suc-le-zero, ne_of_lt}
-use native.Mathlib.Omega.{arith}
-use lib.ListN.{length, get_or, replicate, length-replicate}
+use Rattle.std.proofs.Common.{ℕ, zero, suc, ◌*◌, ◌≤◌, ◌<◌, Bool, true, false, cond, List, [], ⊎_elim, ◌≡◌, refl, sym, ap, ◌∙◌, lt-suc_self}
+use Rattle.std.proofs.Common.{le_trans, le_refl, le_of_lt, lt_of_lt_of_le, le_of_suc-le-suc, eq-or-lt_of_le, not-suc-le-zero, ne_of_lt}
+use Rattle.std.proofs.Common.{arith, length, get_or, replicate}
+use mathlib.Core.Path.{subst⁻¹}
+use lib.ListN.{length-replicate}
 use Rattle.bits.specs.Bit.{bit_at, with_bit}
 use Rattle.bits.proofs.Bytes.{bit_at_lt, bit_at-same, bit_at-other, length-with_bit, with_bit-byte}
 use Rattle.inner_code.specs.Reply.{done}

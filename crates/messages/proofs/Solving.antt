@@ -7,17 +7,13 @@
 --   StoredPlan plan N columns        the columns hold the final rows of an accepted plan of N edges (specs Columns)
 -- Laws are named by their subject, then by the fact: `residues-` is about the masks, `uses-` about the digits in use, `eliminated-` about
 -- the checks of a side in turn, `side-` about a side as the code holds it, `solved-` about the checks of a plan, `plan-` about a checked plan.
-use Prim.Native.Nat.{ℕ, ◌+◌, ◌-◌, ◌*◌, ◌^◌, ◌%◌, ◌≤◌, ◌<◌}
-use mathlib.Core.List.{List}
+use Rattle.std.proofs.Common.{ℕ, ◌+◌, ◌-◌, ◌*◌, ◌^◌, ◌%◌, ◌≤◌, ◌<◌, List, ◌≡◌, refl, sym, ap, ap₂, ◌∙◌, add-zero, zero-add, add_assoc}
+use Rattle.std.proofs.Common.{arith, bit_or, get_or, replicate}
 use mathlib.Core.Logic.{◌≢◌}
-use mathlib.Core.Path.{◌≡◌, refl, sym, ap, ap₂, ◌∙◌}
-use native.Mathlib.Nat.{add-zero, zero-add, add_assoc, min-eq_left}
+use native.Mathlib.Nat.{min-eq_left}
 use native.Mathlib.Decide.{ℕ_discrete}
-use native.Mathlib.Omega.{arith}
-use lib.Bits.{bit_or}
 use Rattle.std.specs.Borrow.{Bor}
 use Rattle.std.proofs.lemmas.Nat.Bits.{bit_at_or}
-use lib.ListN.{get_or, replicate}
 use Rattle.bits.specs.Window.{at}
 use Rattle.bits.specs.Bit.{digit}
 use Rattle.inner_code.specs.Reduction.{reduced, reduced_by, with_echelon}

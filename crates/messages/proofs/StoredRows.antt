@@ -8,18 +8,13 @@
 -- Laws are named by their subject, then by the fact: `words_put-` is about the words, `column-` about whole columns, `units-` about the
 -- unit rows. At the end of a name, `-one-more` is one more turn of a loop, `-inside` and `-outside` the words that are written and all
 -- others, `-empty` a list of zeros.
-use Prim.Native.Nat.{ℕ, zero, suc, ◌+◌, ◌*◌, ◌/◌, ◌%◌, ◌^◌, ◌≤◌, ◌<◌}
-use mathlib.Core.List.{List}
-use mathlib.Core.Logic.{⊎_elim, ◌≢◌}
-use mathlib.Core.Path.{◌≡◌, refl, sym, ap, ◌∙◌}
-use native.Mathlib.Nat.{eq-or-lt_of_le, le_of_suc-le-suc, not-suc-le-zero, lt-suc_self, le_step}
+use Rattle.std.proofs.Common.{ℕ, zero, suc, ◌+◌, ◌*◌, ◌/◌, ◌%◌, ◌^◌, ◌≤◌, ◌<◌, List, ⊎_elim, ◌≡◌, refl, sym, ap, ◌∙◌, eq-or-lt_of_le}
+use Rattle.std.proofs.Common.{le_of_suc-le-suc, not-suc-le-zero, lt-suc_self, add-one, arith, bit_xor, eqb, length, get_or, set, length-set}
+use Rattle.std.proofs.Common.{get_or-set_same, get_or-set_other}
+use mathlib.Core.Logic.{◌≢◌}
+use native.Mathlib.Nat.{le_step}
 use native.Mathlib.Decide.{ℕ_discrete}
-use native.Mathlib.Numerals.{add-one}
-use native.Mathlib.Omega.{arith}
-use lib.Bits.{bit_xor}
-use lib.Dec.{eqb}
-use lib.ListN.{length, get_or, set, length-set, length-replicate}
-use lib.Seq.{get_or-set_same, get_or-set_other}
+use lib.ListN.{length-replicate}
 use Rattle.bits.proofs.Xor.{digit-power, digit_lt, digit-zero, xor-digit}
 use Rattle.bits.specs.Bit.{digit}
 use Rattle.bits.specs.Sum.{flag}

@@ -8,18 +8,11 @@
 -- Laws are named by their subject, then by the fact: `put-` is about the encoded bits, `taken-` about the bits that are read. At the end
 -- of a name, `-none` is the beginning of a loop, `-one-more` and `-kept` a turn that writes and one that does not, `-written` says that
 -- only the front is written, `-encoded` and `-read` what stands there at the end.
-use Prim.Native.Nat.{ℕ, zero, suc, ◌+◌, ◌*◌, ◌%◌, ◌≤◌, ◌<◌}
-use mathlib.Core.Bool.{Bool, cond}
-use mathlib.Core.List.{List}
+use Rattle.std.proofs.Common.{ℕ, zero, suc, ◌+◌, ◌*◌, ◌%◌, ◌≤◌, ◌<◌, Bool, cond, List, ◌≡◌, refl, sym, ap, ap₂, ◌∙◌, le_of_lt, mod-eq_of_lt}
+use Rattle.std.proofs.Common.{add-zero, add-one, arith, eqb, length, replicate, eq-eqb, ne_eqb}
 use mathlib.Core.Logic.{◌≢◌}
-use mathlib.Core.Path.{◌≡◌, refl, sym, ap, ap₂, ◌∙◌}
-use native.Mathlib.Nat.{le_of_lt, mod-eq_of_lt, add-zero}
 use native.Mathlib.Decide.{ℕ_discrete}
-use native.Mathlib.Numerals.{add-one}
-use native.Mathlib.Omega.{arith}
-use lib.Dec.{eqb}
-use lib.ListN.{length, replicate, length-replicate}
-use borrow.Author.Tests.{eq-eqb, ne_eqb}
+use lib.ListN.{length-replicate}
 use Rattle.bits.specs.Bit.{digit, bit_at, with_bit, written}
 use Rattle.bits.proofs.Bytes.{bit_at_lt, length-with_bit}
 use Rattle.bits.proofs.Fronts.{written-with_bit}

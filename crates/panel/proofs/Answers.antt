@@ -15,15 +15,10 @@
 -- load-uncounted and set-checked tell the first of them by what a function on a block tells. After them `-stopped` is answer and output where
 -- the check refuses, and `-made` where it passes, by the count and the block that the call comes to. settled-stays is a sweep call on a settled
 -- state. state-plan, state-means and load-means lead from a check that passes to the facts.
-use Prim.Native.Nat.{ℕ, ◌+◌, ◌≤◌, ◌<◌}
-use mathlib.Core.Bool.{not, ◌&&◌}
-use mathlib.Core.List.{List, [], ◌∷◌}
-use mathlib.Core.Path.{◌≡◌, sym, ap, ◌∙◌}
+use Rattle.std.proofs.Common.{ℕ, ◌+◌, ◌≤◌, ◌<◌, not, ◌&&◌, List, [], ◌∷◌, ◌≡◌, sym, ap, ◌∙◌, arith, eqb, leb, length, length-drop, lt-ltb}
+use Rattle.std.proofs.Common.{le-ltb, le-leb, eq-eqb, ne_eqb, eqb-true}
 use native.Mathlib.Decide.{ℕ_discrete}
-use native.Mathlib.Omega.{arith}
-use lib.Dec.{eqb, leb}
-use lib.ListN.{length, length-drop}
-use borrow.Author.Tests.{lt-ltb, le-ltb, le-leb, lt-leb, eq-eqb, ne_eqb, eqb-true, not-false}
+use borrow.Author.Tests.{lt-leb, not-false}
 use Rattle.bits.specs.Bit.{with_bit, written}
 use Rattle.inner_code.specs.Reply.{Reply, done, refused, refuse_if, and_then, if_done}
 use Rattle.inner_code.proofs.Replies.{refuse-taken, refuse-passed, refuse-done, and_then-passed, and_then-refused, and_then-done}

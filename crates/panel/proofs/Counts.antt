@@ -10,15 +10,9 @@
 -- Laws are named by their subject, then by the fact: `count-`, `change-` and `moved-` are about numbers, `counted-` about counted_state,
 -- `load-`, `sweep-` and `set-` about the three services, `settled-` about a state whose count is 0. At the end of a name, `-true` says that a
 -- count is true, `-counted` that a service leaves a counted state, `-codeword` and `-back` lead from count 0 to a codeword block and back.
-use Prim.Native.Nat.{ℕ, ◌+◌, ◌≤◌, ◌<◌}
-use mathlib.Core.Bool.{Bool, true, false, cond}
-use mathlib.Core.List.{List, [], ◌∷◌}
-use mathlib.Core.Path.{◌≡◌, refl, sym, ap, ◌∙◌}
+use Rattle.std.proofs.Common.{ℕ, ◌+◌, ◌≤◌, ◌<◌, Bool, true, false, cond, List, [], ◌∷◌, ◌≡◌, refl, sym, ap, ◌∙◌, arith, eqb, length, take}
+use Rattle.std.proofs.Common.{take_all}
 use native.Mathlib.Decide.{dec_le, ℕ_discrete}
-use native.Mathlib.Omega.{arith}
-use lib.Dec.{eqb}
-use lib.ListN.{length, take}
-use lib.Seq.{take_all}
 use Rattle.bits.specs.Bit.{with_bit, written}
 use Rattle.bits.proofs.Bytes.{bit_at-other, length-with_bit}
 use Rattle.bits.proofs.Fronts.{written-part, length-written}

@@ -12,12 +12,7 @@
 -- `-block-refused` a call that the check of the state or the function on the block turns back, `-lent` what that function returns, `-put` a
 -- state that is written, `-low` a bound on the number that the function tells. load-no-room is a buffer that is too short, sweep-settled a
 -- settled state, sweep-over one whose sweeps are all made. `lent-` laws are about Lent.
-use Prim.Native.Nat.{ℕ, ◌+◌, ◌%◌, ◌≤◌, ◌<◌}
-use mathlib.Core.List.{List, [], ◌∷◌}
-use mathlib.Core.Path.{◌≡◌, refl, sym, ap, ap₂, ◌∙◌}
-use native.Mathlib.Nat.{mod-eq_of_lt}
-use native.Mathlib.Omega.{arith}
-use lib.ListN.{length}
+use Rattle.std.proofs.Common.{ℕ, ◌+◌, ◌%◌, ◌≤◌, ◌<◌, List, [], ◌∷◌, ◌≡◌, refl, sym, ap, ap₂, ◌∙◌, mod-eq_of_lt, arith, length}
 use Rattle.bits.specs.Bit.{pair_at, written}
 use Rattle.inner_code.specs.Reply.{Reply, done, refused, and_then, if_done}
 use Rattle.inner_code.proofs.Replies.{and_then-done, and_then-back, if_done-done, if_done-refused}

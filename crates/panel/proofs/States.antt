@@ -7,14 +7,10 @@
 -- Laws are named by the part, then by where it is read: `-of` is a part of a state that is made of its parts. head-stored leads from the
 -- copies of the bytes before a block to the state. Of a block that is lent on, block-lent is the part that is lent, block_back, block_same and
 -- block-copied are the state when another, the same or a copied one is back.
-use Prim.Native.Nat.{ℕ, ◌+◌, ◌-◌, ◌/◌, ◌%◌, ◌≤◌, ◌<◌}
-use mathlib.Core.List.{List, [], ◌∷◌, ◌++◌, append-nil}
-use mathlib.Core.Path.{◌≡◌, refl, sym, ap, ap₂, ◌∙◌}
-use native.Mathlib.Nat.{div-add-mod'}
-use native.Mathlib.Omega.{arith}
+use Rattle.std.proofs.Common.{ℕ, ◌+◌, ◌-◌, ◌/◌, ◌%◌, ◌≤◌, ◌<◌, List, [], ◌∷◌, ◌++◌, append-nil, ◌≡◌, refl, sym, ap, ap₂, ◌∙◌, div-add-mod'}
+use Rattle.std.proofs.Common.{arith, length, take, drop, length-drop, take-append-drop, drop_of_length-le, length-take-le, take_all}
+use Rattle.std.proofs.Common.{drop_at, drop-drop}
 use borrow.Rule.Slice.PartMut.{put_mid}
-use lib.ListN.{length, take, drop, length-drop, take-append-drop, drop_of_length-le}
-use lib.Seq.{length-take-le, take_all, drop_at, drop-drop}
 use Rattle.bits.specs.Bit.{written}
 use Rattle.inner_code.specs.Reply.{done}
 use Rattle.panel.specs.State.{count_in, sweeps_in, block_in, state_of}

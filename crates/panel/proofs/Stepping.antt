@@ -13,15 +13,9 @@
 -- unsettled state, `-at` the state after i calls before the block settles, and `-ended` the state from then on.
 -- The theorems are steps-swept, which says what each call leaves, steps-settle and steps-unsettled, which compare the calls after a loading
 -- with what the full decoding answers and leaves, and set-steps-settle and set-steps-unsettled, the same after a bit is set.
-use Prim.Native.Nat.{ℕ, zero, suc, ◌+◌, ◌-◌, ◌≤◌, ◌<◌}
-use mathlib.Core.Bool.{false, true≢false}
-use mathlib.Core.List.{List, [], ◌∷◌}
-use mathlib.Core.Path.{◌≡◌, refl, sym, ap, ap₂, ◌∙◌}
+use Rattle.std.proofs.Common.{ℕ, zero, suc, ◌+◌, ◌-◌, ◌≤◌, ◌<◌, false, true≢false, List, [], ◌∷◌, ◌≡◌, refl, sym, ap, ap₂, ◌∙◌, le_refl}
+use Rattle.std.proofs.Common.{lt-suc_self, add-zero, add-suc, add-one, arith, length, take}
 use native.Mathlib.Decide.{dec_le}
-use native.Mathlib.Nat.{le_refl, lt-suc_self, add-zero, add-suc}
-use native.Mathlib.Numerals.{add-one}
-use native.Mathlib.Omega.{arith}
-use lib.ListN.{length, take}
 use Rattle.bits.specs.Bit.{with_bit}
 use Rattle.bits.proofs.Fronts.{written-part}
 use Rattle.inner_code.specs.Reply.{done, refused}

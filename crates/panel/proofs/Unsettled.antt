@@ -6,15 +6,10 @@
 --   Passed ..                            what a call knows that nothing stops before it decodes (decoder specs Turns)
 --   Not15 reply                          the reply is no refusal with 15
 -- Laws are named by their subject, then by the fact: each `-not15` says Not15 of a check; unsettled-means leads from the answer 15 to what it says.
-use Prim.Native.Nat.{ℕ, zero, suc, ◌+◌, ◌*◌, ◌^◌, ◌<◌}
-use mathlib.Core.Bool.{Bool, true, false, not, ◌||◌}
-use mathlib.Core.List.{List, []}
-use mathlib.Core.Logic.{◌≢◌, ⊎_elim}
-use mathlib.Core.Path.{◌≡◌, refl, sym, ◌∙◌}
+use Rattle.std.proofs.Common.{ℕ, zero, suc, ◌+◌, ◌*◌, ◌^◌, ◌<◌, Bool, true, false, not, ◌||◌, List, [], ⊎_elim, ◌≡◌, refl, sym, ◌∙◌, arith}
+use Rattle.std.proofs.Common.{ltb, leb, eqb, length}
+use mathlib.Core.Logic.{◌≢◌}
 use native.Mathlib.Decide.{dec_le}
-use native.Mathlib.Omega.{arith}
-use lib.Dec.{ltb, leb, eqb}
-use lib.ListN.{length}
 use Rattle.bits.specs.Search.{some_below}
 use Rattle.inner_code.specs.Code.{is_codeword}
 use Rattle.inner_code.specs.Reply.{Reply, done, refused, refuse_if, and_then}

@@ -5,12 +5,9 @@
 -- and here
 --   Covered plan F q               the plan is accepted, F flips are covered, and q sweeps are named for them
 -- Laws are named `margin-`, then by the outcome. margin-means leads from the answer back to what it says.
-use Prim.Native.Nat.{ℕ, ◌≤◌, ◌<◌}
-use mathlib.Core.List.{List, [], ◌∷◌}
+use Rattle.std.proofs.Common.{ℕ, ◌≤◌, ◌<◌, List, [], ◌∷◌, ◌≡◌, refl, sym, ◌∙◌, ltb, eqb, lt-ltb, le-ltb, ltb-false, eq-eqb, ne_eqb}
 use mathlib.Core.Logic.{◌≢◌}
-use mathlib.Core.Path.{◌≡◌, refl, sym, ◌∙◌}
-use lib.Dec.{ltb, eqb}
-use borrow.Author.Tests.{lt-ltb, le-ltb, ltb-false, eq-eqb, ne_eqb, eqb-false}
+use borrow.Author.Tests.{eqb-false}
 use Rattle.inner_code.specs.Reply.{done, refused, refuse_if, and_then}
 use Rattle.inner_code.proofs.Replies.{refuse-taken, refuse-passed, refuse-done, and_then-passed, and_then-refused, and_then-done}
 use Rattle.wiring.specs.Plan.{Plan, edge_count}

@@ -3,11 +3,7 @@
 -- host means.
 --   decode_check ..           what stops a call before it decodes (decoder specs Answer)
 --   stopped_before15 reply    a row before 15 in the table stops the call (specs Demand)
-use Prim.Native.Nat.{ℕ, ◌≤◌}
-use mathlib.Core.Bool.{Bool, true, false, not}
-use mathlib.Core.List.{List, [], ◌∷◌}
-use mathlib.Core.Path.{◌≡◌, refl, ap, ◌∙◌}
-use lib.ListN.{length}
+use Rattle.std.proofs.Common.{ℕ, ◌≤◌, Bool, true, false, not, List, [], ◌∷◌, ◌≡◌, refl, ap, ◌∙◌, length}
 use Rattle.inner_code.specs.Reply.{done, refuse_if}
 use Rattle.wiring.specs.Plan.{Plan, edge_count}
 use Rattle.wiring.specs.Wiring.{plan_check}

@@ -3,12 +3,7 @@
 --   sweeps_from m to b     the place of the first zero in the chain that begins with b; 0 where a step is not covered (MarginChain)
 --   counted p s              the same for the whole of a chain whose part from place p on has s
 -- The laws `walk-` say what `counted` is where the walk starts, takes a covered step, stops at one that is not, and ends with b = 0.
-use Prim.Native.Nat.{ℕ, zero, suc, ◌+◌, ◌<◌}
-use mathlib.Core.Bool.{true}
-use mathlib.Core.Logic.{inl, inr}
-use mathlib.Core.Path.{◌≡◌, refl, ap, ◌∙◌}
-use native.Mathlib.Nat.{add-zero, eq-zero-or-pos}
-use native.Mathlib.Omega.{arith}
+use Rattle.std.proofs.Common.{ℕ, zero, suc, ◌+◌, ◌<◌, true, inl, inr, ◌≡◌, refl, ap, ◌∙◌, add-zero, eq-zero-or-pos, arith}
 use Rattle.radius.specs.Margin.{Measures, step_covered, next_bound}
 use Rattle.radius.specs.Chain.{one_more}
 use Rattle.wiring.specs.declared.side.SideName.{SideName}

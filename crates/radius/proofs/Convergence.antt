@@ -21,15 +21,11 @@
 --   leaves-half, leaves-first, leaves-next              how many vertices a sweep leaves wrong
 --   leaves-bounded                                      the same by the chain of b
 -- The theorem is converges.
-use Prim.Native.Nat.{ℕ, zero, suc, ◌+◌, ◌*◌, ◌/◌, ◌%◌, ◌≤◌, ◌<◌, zero-le}
-use mathlib.Core.Bool.{Bool, true, false}
+use Rattle.std.proofs.Common.{ℕ, zero, suc, ◌+◌, ◌*◌, ◌/◌, ◌%◌, ◌≤◌, ◌<◌, zero-le, Bool, true, false, ◌≡◌, refl, sym, ap, ◌∙◌, div-add-mod'}
+use Rattle.std.proofs.Common.{le-div_iff_mul-le, le_trans, lt_of_not-le, mod-lt, mul-le-mul_left, mul-pos, arith, ltb, ltb-true, ltb-false}
+use Rattle.std.proofs.Common.{lt-ltb}
 use mathlib.Core.Logic.{◌≢◌}
-use mathlib.Core.Path.{◌≡◌, refl, sym, ap, ◌∙◌}
-use native.Mathlib.Nat.{div-add-mod', le-div_iff_mul-le, le_trans, lt_of_not-le, mod-lt, mul-le-mul_left, mul-pos}
 use native.Mathlib.Decide.{dec_le}
-use native.Mathlib.Omega.{arith}
-use lib.Dec.{ltb}
-use borrow.Author.Tests.{ltb-true, ltb-false, lt-ltb}
 use Rattle.bits.specs.Sum.{sum, flag}
 use Rattle.bits.proofs.Tests.{flag-zero}
 use Rattle.bits.proofs.Sums.{count-le, flag-false, flag-le-one, flag-mono, flag_true}

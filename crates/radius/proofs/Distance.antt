@@ -8,15 +8,10 @@
 --   mixed a b t            the block a with its bits below t made those of b
 -- Names: `mixed-` is about the blocks on the way from a to b, and at the end of a name `-below` and `-from` are its bits below t and from t
 -- on. The theorem is codewords-apart; codewords-same says it of two codewords that are not so far apart.
-use Prim.Native.Nat.{ℕ, zero, suc, ◌+◌, ◌*◌, ◌≤◌, ◌<◌}
-use mathlib.Core.List.{List, [], ◌∷◌}
-use mathlib.Core.Logic.{◌⊎◌, inl, inr}
-use mathlib.Core.Path.{◌≡◌, refl, sym, ap, ◌∙◌}
-use native.Mathlib.Nat.{le_refl, le_trans}
+use Rattle.std.proofs.Common.{ℕ, zero, suc, ◌+◌, ◌*◌, ◌≤◌, ◌<◌, List, [], ◌∷◌, ◌⊎◌, inl, inr, ◌≡◌, refl, sym, ap, ◌∙◌, le_refl, le_trans}
+use Rattle.std.proofs.Common.{arith, bit_xor, length, get_or}
 use native.Mathlib.Decide.{dec_le, ℕ_discrete}
-use native.Mathlib.Omega.{arith}
-use lib.Bits.{bit_xor, xor_self, xor_comm}
-use lib.ListN.{length, get_or}
+use lib.Bits.{xor_self, xor_comm}
 use Rattle.wiring.proofs.Blocks.{block_room}
 use Rattle.bits.specs.Bit.{bit_at, with_bit, flips}
 use Rattle.bits.proofs.Sums.{sum-add, sum-ext, sum-none, sum-none-each}

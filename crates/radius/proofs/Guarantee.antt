@@ -14,16 +14,10 @@
 -- settles (settles-by: when; settles-as: on what), `free-` about the tests that a call, whatever its list, has passed which no row
 -- before 15 stops.
 -- The theorems are demand3, about a decoder call, and demand3-alone, which mentions no call.
-use Prim.Native.Nat.{ℕ, ◌+◌, ◌≤◌, ◌<◌}
-use mathlib.Core.Path.{◌≡◌, refl, sym, ap, ◌∙◌}
-use mathlib.Core.List.{List, [], ◌∷◌}
-use mathlib.Core.Bool.{false, true≢false}
-use mathlib.Core.Logic.{⊎_elim}
-use native.Mathlib.Nat.{le_trans}
+use Rattle.std.proofs.Common.{ℕ, ◌+◌, ◌≤◌, ◌<◌, ◌≡◌, refl, sym, ap, ◌∙◌, List, [], ◌∷◌, false, true≢false, ⊎_elim, le_trans, arith, length}
+use Rattle.std.proofs.Common.{get_or, eqb-true}
 use native.Mathlib.Decide.{dec_le}
-use native.Mathlib.Omega.{arith}
-use lib.ListN.{length, get_or}
-use borrow.Author.Tests.{eqb-true, not-false}
+use borrow.Author.Tests.{not-false}
 use Rattle.bits.specs.Bit.{written, flips}
 use Rattle.inner_code.specs.Reply.{Reply, done, refused}
 use Rattle.inner_code.proofs.SheetChecks.{Sound}

@@ -14,14 +14,8 @@
 --   changed_from .. b                   the received bits that it changes outside the spans
 -- Names: `trial-` is about one trial, whatever its bits (trial-home: one that begins near the sent block; trial-code, trial-same, trial-least:
 -- one that settles), `kept-` about the one that is kept. The theorem is lost-restored.
-use Prim.Native.Nat.{ℕ, ◌+◌, ◌*◌, ◌≤◌, ◌<◌}
-use mathlib.Core.Bool.{false}
-use mathlib.Core.List.{List, [], ◌∷◌}
-use mathlib.Core.Path.{◌≡◌, refl, sym, ap, ◌∙◌}
-use native.Mathlib.Nat.{le_trans}
+use Rattle.std.proofs.Common.{ℕ, ◌+◌, ◌*◌, ◌≤◌, ◌<◌, false, List, [], ◌∷◌, ◌≡◌, refl, sym, ap, ◌∙◌, le_trans, arith, length, get_or}
 use native.Mathlib.Decide.{dec_le}
-use native.Mathlib.Omega.{arith}
-use lib.ListN.{length, get_or}
 use Rattle.wiring.proofs.Blocks.{block_room}
 use Rattle.bits.specs.Bit.{written, flips}
 use Rattle.inner_code.specs.Reply.{done}

@@ -21,17 +21,14 @@
 --   named_step, named-last                           the b of a covered F: every step is covered, and the last b is 0
 --   named-is, named-one, named-zero, named_small, named-over  which F are covered, by which chain
 --   named-monotone, named-le                         the covered F have no gaps; how many sweeps are named at most
-use Prim.Native.Nat.{ℕ, zero, suc, ◌+◌, ◌*◌, ◌/◌, ◌≤◌, ◌<◌, zero-le}
-use mathlib.Core.Bool.{Bool, true, false, cond, ◌&&◌}
-use mathlib.Core.Logic.{◌≢◌, inl, inr}
-use mathlib.Core.Path.{◌≡◌, refl, sym, ap, ◌∙◌}
-use native.Mathlib.Nat.{div-lt_iff_lt-mul, div-zero, eq-zero-or-pos, le_refl, mul-le-mul, mul-le-mul_left}
-use native.Mathlib.Nat.{mul-le-mul_right, mul-lt-mul_of_pos_right, mul-pos, not-suc-le-zero, zero-add, zero-div}
-use native.Mathlib.Numerals.{add-one}
-use native.Mathlib.Omega.{arith}
-use lib.Dec.{ltb, leb, eqb}
+use Rattle.std.proofs.Common.{ℕ, zero, suc, ◌+◌, ◌*◌, ◌/◌, ◌≤◌, ◌<◌, zero-le, Bool, true, false, cond, ◌&&◌, inl, inr, ◌≡◌, refl, sym, ap}
+use Rattle.std.proofs.Common.{◌∙◌, div-lt_iff_lt-mul, eq-zero-or-pos, le_refl, mul-le-mul, mul-le-mul_left, mul-le-mul_right}
+use Rattle.std.proofs.Common.{mul-lt-mul_of_pos_right, mul-pos, not-suc-le-zero, zero-add, add-one, arith, ltb, leb, eqb, ltb-true, lt-ltb}
+use Rattle.std.proofs.Common.{leb-true, le-leb, eqb-true, ne_eqb}
+use mathlib.Core.Logic.{◌≢◌}
+use native.Mathlib.Nat.{div-zero}
+use native.Mathlib.Nat.{zero-div}
 use lib.Ieee.Nearest.{div_mono}
-use borrow.Author.Tests.{ltb-true, lt-ltb, leb-true, le-leb, eqb-true, ne_eqb}
 use Rattle.bits.proofs.Tests.{and_both}
 use Rattle.bits.proofs.Searches.{first-passed, first-failed}
 use Rattle.radius.specs.Margin.{Measures, slack, step_covered, next_bound, bound, chain_end, sweeps_named}

@@ -4,12 +4,8 @@
 --   numbers_of plan, in_order p    a plan's nine numbers, and such numbers in the order in which they are answered (specs Answer)
 -- Laws are named by their subject, then by the fact: `-is` is what a measure gives, `-refused` and `-answered` are the outcomes,
 -- and `-known` leads from its answer back to the plan.
-use Prim.Native.Nat.{ℕ, ◌^◌, ◌≤◌, min}
-use mathlib.Core.List.{List, []}
-use mathlib.Core.Path.{◌≡◌, sym, ap, ◌∙◌}
+use Rattle.std.proofs.Common.{Result, Ok, ℕ, ◌^◌, ◌≤◌, min, List, [], ◌≡◌, sym, ap, ◌∙◌, length, get_or, take}
 use native.Mathlib.Nat.{min-eq_left}
-use lib.ListN.{length, get_or, take}
-use Rattle.std.proofs.Common.{Result, Ok}
 use Rattle.bits.specs.Window.{at}
 use Rattle.inner_code.specs.Reply.{Reply, done, refused}
 use Rattle.inner_code.specs.Code.{distance}

@@ -7,12 +7,9 @@
 --   distance_most                                D is at most d
 --   distance-plan, measures-plan                 the numbers of a plan give its measures
 --   plan-within                                  those of an accepted plan are in the range
-use Prim.Native.Nat.{ℕ, zero, suc, ◌*◌, ◌≤◌, ◌<◌}
-use mathlib.Core.Bool.{true, false≢true}
-use mathlib.Core.List.{List, []}
-use mathlib.Core.Path.{◌≡◌, refl, sym, ap, ◌∙◌}
-use native.Mathlib.Nat.{le_trans, mul-le-mul, not-suc-le-zero, pos_of_ne-zero}
-use native.Mathlib.Omega.{arith}
+use Rattle.std.proofs.Common.{ℕ, zero, suc, ◌*◌, ◌≤◌, ◌<◌, true, List, [], ◌≡◌, refl, sym, ap, ◌∙◌, le_trans, mul-le-mul, not-suc-le-zero}
+use Rattle.std.proofs.Common.{pos_of_ne-zero, arith}
+use mathlib.Core.Bool.{false≢true}
 use lib.Count.{ones-le}
 use Rattle.inner_code.specs.Reply.{done}
 use Rattle.inner_code.specs.Code.{is_codeword, distance}

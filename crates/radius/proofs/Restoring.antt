@@ -9,12 +9,8 @@
 --                                 is mended to it
 -- Laws are named by their subject, then by the fact: `flips-` is about the bits of two blocks, `sweep-` about one sweep, `after-` about
 -- many. The theorem is after-restores.
-use Prim.Native.Nat.{ℕ, ◌+◌, ◌*◌, ◌^◌, ◌≤◌, ◌<◌}
-use mathlib.Core.Bool.{true, false}
-use mathlib.Core.List.{List, []}
+use Rattle.std.proofs.Common.{ℕ, ◌+◌, ◌*◌, ◌^◌, ◌≤◌, ◌<◌, true, false, List, [], ◌≡◌, sym, ◌∙◌, bit_xor}
 use mathlib.Core.Logic.{◌≢◌}
-use mathlib.Core.Path.{◌≡◌, sym, ◌∙◌}
-use lib.Bits.{bit_xor}
 use lib.Count.{ones}
 use Rattle.bits.specs.Bit.{flips}
 use Rattle.bits.proofs.Flips.{flips-comm}

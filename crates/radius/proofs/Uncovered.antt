@@ -4,11 +4,8 @@
 --   beyond-covers              what is below the first F that is not covered is covered
 --   beyond-is                  which F is the first that is not covered
 --   beyond-all                 it is N + 1 where all up to N are
-use Prim.Native.Nat.{ℕ, ◌+◌, ◌≤◌, ◌<◌}
-use mathlib.Core.Path.{◌≡◌, sym, ◌∙◌}
+use Rattle.std.proofs.Common.{ℕ, ◌+◌, ◌≤◌, ◌<◌, ◌≡◌, sym, ◌∙◌, arith, ltb-true, lt-ltb, le-ltb}
 use native.Mathlib.Decide.{dec_le}
-use native.Mathlib.Omega.{arith}
-use borrow.Author.Tests.{ltb-true, lt-ltb, le-ltb}
 use Rattle.bits.proofs.Searches.{first-at, first-all, first-passed}
 use Rattle.radius.specs.Margin.{Measures, sweeps_named, beyond}
 use Rattle.radius.proofs.MarginChain.{named_small, named-over}

@@ -13,16 +13,10 @@
 --   differs_at a b i              bit i of two blocks differs (report specs Report)
 -- Names: the subject first (heard, leaves, visits), then the fact. The theorems are visits-bounded, visits-limited for
 -- the sweeps of a limit H, and visits-promised about a decoder call.
-use Prim.Native.Nat.{ℕ, suc, ◌+◌, ◌-◌, ◌*◌, ◌≤◌, ◌<◌, min, zero-le}
-use mathlib.Core.Bool.{Bool, true, false, not}
-use mathlib.Core.List.{List, [], ◌∷◌}
-use mathlib.Core.Path.{◌≡◌, refl, sym, ap, ◌∙◌}
-use native.Mathlib.Nat.{le_trans, min-eq_left, min-eq_right, min-le_left, mul-le-mul_left}
+use Rattle.std.proofs.Common.{ℕ, suc, ◌+◌, ◌-◌, ◌*◌, ◌≤◌, ◌<◌, min, zero-le, Bool, true, false, not, List, [], ◌∷◌, ◌≡◌, refl, sym, ap, ◌∙◌}
+use Rattle.std.proofs.Common.{le_trans, mul-le-mul_left, add-one, arith, eq-eqb, le-ltb, get_or}
+use native.Mathlib.Nat.{min-eq_left, min-eq_right, min-le_left}
 use native.Mathlib.Decide.{dec_le}
-use native.Mathlib.Numerals.{add-one}
-use native.Mathlib.Omega.{arith}
-use borrow.Author.Tests.{eq-eqb, le-ltb}
-use lib.ListN.{get_or}
 use Rattle.bits.specs.Bit.{flips}
 use Rattle.bits.specs.Sum.{flag}
 use Rattle.bits.proofs.Sums.{flag-le-one, sum-add, sum-append, sum_mono}

@@ -12,16 +12,9 @@
 -- Laws are named by their subject, then by the fact: `pair_at-` is about a two-byte number, `lengths-` about the lengths in a list, `ended-`
 -- about those of the runs that have ended, and `report-` about what the service answers and leaves. At the end of a name, `-front` is a list
 -- with more behind it; `-one-more` is as in Runs.
-use Prim.Native.Nat.{ℕ, zero, suc, ◌+◌, ◌-◌, ◌*◌, ◌≤◌}
-use mathlib.Core.Bool.{Bool, true, false}
-use mathlib.Core.List.{List, [], ◌∷◌, ◌++◌}
-use mathlib.Core.Logic.{inl, inr}
-use mathlib.Core.Path.{◌≡◌, sym, ap, ap₂, ◌∙◌}
-use native.Mathlib.Nat.{le_refl}
+use Rattle.std.proofs.Common.{ℕ, zero, suc, ◌+◌, ◌-◌, ◌*◌, ◌≤◌, Bool, true, false, List, [], ◌∷◌, ◌++◌, inl, inr, ◌≡◌, sym, ap, ap₂, ◌∙◌}
+use Rattle.std.proofs.Common.{le_refl, add-one, arith, length, drop}
 use native.Mathlib.Decide.{dec_le}
-use native.Mathlib.Numerals.{add-one}
-use native.Mathlib.Omega.{arith}
-use lib.ListN.{length, drop}
 use Rattle.bits.specs.Bit.{pair_at, written, flips}
 use Rattle.bits.specs.Sum.{sum, flag}
 use Rattle.bits.proofs.Bytes.{pair_at-front, pair_at-behind}

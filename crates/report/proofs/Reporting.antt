@@ -12,17 +12,12 @@
 -- passes, `stretch-` about runs after a stretch, `written-` about the list with the runs that have ended, `outcome-` about the service, one
 -- outcome each, in the order of its checks. At the end of a name, `-ends` is a run that ends before the stretch, `-none` no such run.
 -- `stored-pair` is about the stores of one run; `blocks-held` leads from the checks to what a walk over the bits needs.
-use Prim.Native.Nat.{ℕ, zero, suc, ◌+◌, ◌-◌, ◌*◌, ◌/◌, ◌%◌, ◌≤◌, ◌<◌}
-use mathlib.Core.Bool.{Bool, true, false, not}
-use mathlib.Core.List.{List, [], ◌∷◌, ◌++◌}
-use mathlib.Core.Path.{◌≡◌, refl, sym, ap, ◌∙◌}
-use native.Mathlib.Nat.{add-zero, add-suc, lt-suc_self, le_step, not-suc-le-zero}
-use native.Mathlib.Numerals.{add-one}
-use native.Mathlib.Omega.{arith}
-use lib.ListN.{length, get_or, set}
-use lib.Dec.{eqb}
+use Rattle.std.proofs.Common.{ℕ, zero, suc, ◌+◌, ◌-◌, ◌*◌, ◌/◌, ◌%◌, ◌≤◌, ◌<◌, Bool, true, false, not, List, [], ◌∷◌, ◌++◌, ◌≡◌, refl, sym}
+use Rattle.std.proofs.Common.{ap, ◌∙◌, add-zero, add-suc, lt-suc_self, not-suc-le-zero, add-one, arith, length, get_or, set, eqb, eqb-true}
+use Rattle.std.proofs.Common.{ne_eqb}
+use native.Mathlib.Nat.{le_step}
 use lib.Seq.{sets}
-use borrow.Author.Tests.{eqb-true, eqb-false, ne_eqb}
+use borrow.Author.Tests.{eqb-false}
 use mir.Val.{bool_byte}
 use Rattle.bits.specs.Bit.{bit_at, written}
 use Rattle.inner_code.specs.Reply.{Reply, done, refused}

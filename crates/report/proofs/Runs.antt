@@ -15,19 +15,15 @@
 -- `report-tests` is the answer as these checks in their order.
 -- At the end of a name, `-zero` and `-one-more` are a loop's start and step: a bit in the run (-inside) or not (-outside), a run
 -- that ends there (-ends) or none (-none).
-use Prim.Native.Nat.{ℕ, zero, suc, ◌+◌, ◌-◌, ◌*◌, ◌≤◌, ◌<◌, pred}
-use mathlib.Core.Bool.{Bool, true, false, not, ◌&&◌, and-false, true≢false}
-use mathlib.Core.List.{List, [], ◌∷◌, ◌++◌, append-nil}
-use mathlib.Core.Logic.{◌⊎◌, inl, inr}
-use mathlib.Core.Path.{◌≡◌, refl, sym, ap, ◌∙◌}
-use native.Mathlib.Nat.{le_refl, le_step, not-suc-le-zero, eq-or-lt_of_le, le_of_suc-le-suc}
+use Rattle.std.proofs.Common.{ℕ, zero, suc, ◌+◌, ◌-◌, ◌*◌, ◌≤◌, ◌<◌, Bool, true, false, not, ◌&&◌, true≢false, List, [], ◌∷◌, ◌++◌}
+use Rattle.std.proofs.Common.{append-nil, ◌⊎◌, inl, inr, ◌≡◌, refl, sym, ap, ◌∙◌, le_refl, not-suc-le-zero, eq-or-lt_of_le}
+use Rattle.std.proofs.Common.{le_of_suc-le-suc, add-one, arith, bit_xor, ltb, leb, eqb, length, get_or, length-append, ltb-true, lt-ltb}
+use Rattle.std.proofs.Common.{le-ltb, leb-true, le-leb, eqb-true, eq-eqb, ne_eqb}
+use Prim.Native.Nat.{pred}
+use mathlib.Core.Bool.{and-false}
+use native.Mathlib.Nat.{le_step}
 use native.Mathlib.Decide.{dec_le, ℕ_discrete}
-use native.Mathlib.Numerals.{add-one}
-use native.Mathlib.Omega.{arith}
-use lib.Bits.{bit_xor}
-use lib.Dec.{ltb, leb, eqb}
-use lib.ListN.{length, get_or, length-append}
-use borrow.Author.Tests.{ltb-true, lt-ltb, le-ltb, leb-true, le-leb, eqb-true, eq-eqb, ne_eqb, not-true, not-false}
+use borrow.Author.Tests.{not-true, not-false}
 use Rattle.bits.proofs.Tests.{and_both}
 use Rattle.bits.specs.Bit.{bit_at, written, flips}
 use Rattle.bits.specs.Sum.{sum, flag}

@@ -5,20 +5,12 @@
 --   sweeps_of                        how a call ended (specs Outcome)
 -- Names: `decode-` is about a call: its tests pass (-passed), and no row before 15 stops it (-free), so the guarantee holds of it
 -- (-restored); the limit is the count at which the block settles (-at), or one less (-before). `outcome-` reads an answer of the code.
-use mathlib.Core.Path.{◌≡◌}
-use mathlib.Core.List.{List, [], ◌∷◌}
-use mathlib.Core.Bool.{true, false}
-use Prim.Native.Nat.{ℕ, ◌-◌, ◌≤◌, ◌<◌}
-use native.Mathlib.Nat.{le_refl}
-use native.Mathlib.Omega.{arith}
-use borrow.Author.Tests.{eq-eqb}
-use lib.ListN.{length}
+use Rattle.std.proofs.Common.{Result, Ok, Err, refl, ap, ◌≡◌, List, [], ◌∷◌, true, false, ℕ, ◌-◌, ◌≤◌, ◌<◌, le_refl, arith, eq-eqb, length}
 use Rattle.inner_code.specs.Reply.{done, refused}
 use Rattle.wiring.specs.Square.{square_plan}
 use Rattle.spans.proofs.Checking.{spans-none}
 use Rattle.decoder.specs.Decode.{settled_after}
 use Rattle.decoder.specs.Answer.{decode_check, decode_answer, decode_reply}
-use Rattle.std.proofs.Common.{Result, Ok, Err, refl, ap}
 use Rattle.inner_code.specs.Refusal.{number_of}
 use Rattle.inner_code.specs.declared.refusal.Refusal.{Refusal}
 use Rattle.decoder.proofs.Settling.{settles-at, settles-none, decode-settled, decode-unsettled}

@@ -1,9 +1,7 @@
 -- Flipping one bit of a block brings it at most one bit further from another.
 --   Flipped sent a b most      the block b is at most so many bits further from the sent one than a (specs Flip)
 -- Laws are named `flipped-` and the fact.
-use mathlib.Core.List.{List}
-use Prim.Native.Nat.{ℕ, ◌+◌, ◌≤◌, ◌<◌}
-use native.Mathlib.Omega.{arith}
+use Rattle.std.proofs.Common.{List, ℕ, ◌+◌, ◌≤◌, ◌<◌, arith}
 use Rattle.bits.specs.Bit.{with_bit}
 use Rattle.bits.proofs.Flips.{flips-one}
 use Rattle.bits.proofs.Bytes.{with_bit-byte}

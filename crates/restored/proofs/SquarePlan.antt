@@ -6,16 +6,10 @@
 --   Received received     what is received of the sent block (specs Sent)
 -- Names: the subject first, then the fact. `square-` is about the plan, `sent-` and `zero-` about the two codewords, `received-` about a
 -- received block, `bytes-` about the bytes of a block.
-use mathlib.Core.Path.{◌≡◌, refl, ◌∙◌}
-use mathlib.Core.List.{List, [], ◌∷◌}
-use mathlib.Core.Bool.{true}
-use Prim.Native.Nat.{ℕ, ◌≤◌, ◌<◌}
-use native.Mathlib.Nat.{le_refl}
+use Rattle.std.proofs.Common.{◌≡◌, refl, ◌∙◌, List, [], ◌∷◌, true, ℕ, ◌≤◌, ◌<◌, le_refl, arith, lit<, length, get_or}
 use native.Mathlib.Decide.{dec_le}
-use native.Mathlib.Omega.{arith}
 use lib.Count.{ones}
-use lib.Dec.{lit<}
-use lib.ListN.{length, get_or, get_or-eq_default}
+use lib.ListN.{get_or-eq_default}
 use Rattle.bits.specs.Bit.{written, flips}
 use Rattle.bits.specs.Search.{largest}
 use Rattle.bits.proofs.Searches.{largest-bounds}

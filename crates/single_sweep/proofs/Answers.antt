@@ -2,9 +2,7 @@
 --   once_check plan block           what stops it (specs Answer)
 --   once_answer, once_block          the answer, and the block at exit (specs Answer)
 -- Laws are named `once-`: a plan or a block that is refused (-plan, -block), and a sweep that is made (-swept). `check-` leads to the check.
-use Prim.Native.Nat.{ℕ}
-use mathlib.Core.List.{List, [], ◌∷◌}
-use mathlib.Core.Path.{◌≡◌, sym, ap, ◌∙◌}
+use Rattle.std.proofs.Common.{ℕ, List, [], ◌∷◌, ◌≡◌, sym, ap, ◌∙◌}
 use Rattle.inner_code.specs.Reply.{Reply, done, refused}
 use Rattle.inner_code.proofs.Replies.{and_then-passed, and_then-refused, if_done-done, if_done-refused}
 use Rattle.wiring.specs.Plan.{Plan, edge_count, side_of}

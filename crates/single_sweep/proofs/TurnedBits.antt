@@ -6,13 +6,8 @@
 --   code_of                         a side as the code holds it (wiring specs Code)
 -- Laws are named by their subject, then by the fact: `across-` is about the entry of the other side, `told-` about the count of a side in which
 -- one bit is turned, `count-` about the counts of both sides.
-use Prim.Native.Nat.{ℕ, ◌+◌, ◌-◌, ◌*◌, ◌/◌, ◌%◌, ◌^◌, ◌≤◌, ◌<◌}
-use mathlib.Core.List.{List, []}
-use mathlib.Core.Path.{◌≡◌, refl, sym, ap, ap₂, ◌∙◌}
-use native.Mathlib.Nat.{div-add-mod', div-lt_iff_lt-mul, mod-lt}
-use native.Mathlib.Omega.{arith}
-use lib.Bits.{bit_xor}
-use lib.ListN.{length}
+use Rattle.std.proofs.Common.{ℕ, ◌+◌, ◌-◌, ◌*◌, ◌/◌, ◌%◌, ◌^◌, ◌≤◌, ◌<◌, List, [], ◌≡◌, refl, sym, ap, ap₂, ◌∙◌, div-add-mod'}
+use Rattle.std.proofs.Common.{div-lt_iff_lt-mul, mod-lt, arith, bit_xor, length}
 use Rattle.bits.specs.Window.{turned}
 use Rattle.inner_code.specs.Reply.{done}
 use Rattle.wiring.specs.Plan.{Plan, Side, edge_count, sheet_of, count_of, side_of, side_bit, right, other}

@@ -11,17 +11,11 @@
 -- all pairs below m, `spans-` about the whole check, `numbered-` about the numbers of refusals, `lost-` and `filled-` about the bits of a list
 -- that passes. At the end of a name, `-tests` writes a check out, `-passed` and `-each` lead from a check to the facts, `-refused` and `-all` are
 -- the outcomes of a loop over the pairs, `-number` is about the number of a refusal, `-done` about the values that are told.
-use Prim.Native.Nat.{ℕ, zero, suc, ◌+◌, ◌/◌, ◌%◌, ◌≤◌, ◌<◌}
-use mathlib.Core.Bool.{Bool, true, false, not, ◌||◌, or-true}
-use mathlib.Core.List.{List, []}
-use mathlib.Core.Logic.{⊎_elim}
-use mathlib.Core.Path.{◌≡◌, refl, sym, ap, ◌∙◌}
-use native.Mathlib.Nat.{not-suc-le-zero, eq-or-lt_of_le, le_of_suc-le-suc}
-use native.Mathlib.Numerals.{add-one}
-use native.Mathlib.Omega.{arith}
-use lib.Dec.{ltb, eqb}
-use lib.ListN.{length}
-use borrow.Author.Tests.{ltb-false, lt-ltb, le-ltb, eqb-true, eqb-false, eq-eqb, ne_eqb, not-false}
+use Rattle.std.proofs.Common.{ℕ, zero, suc, ◌+◌, ◌/◌, ◌%◌, ◌≤◌, ◌<◌, Bool, true, false, not, ◌||◌, List, [], ⊎_elim, ◌≡◌, refl, sym, ap}
+use Rattle.std.proofs.Common.{◌∙◌, not-suc-le-zero, eq-or-lt_of_le, le_of_suc-le-suc, add-one, arith, ltb, eqb, length, ltb-false, lt-ltb}
+use Rattle.std.proofs.Common.{le-ltb, eqb-true, eq-eqb, ne_eqb}
+use mathlib.Core.Bool.{or-true}
+use borrow.Author.Tests.{eqb-false, not-false}
 use Rattle.bits.proofs.Tests.{or-neither}
 use Rattle.inner_code.specs.Reply.{Reply, done, refused, refuse_if, and_then}
 use Rattle.inner_code.proofs.Replies.{refuse-taken, refuse-passed, refuse-done, and_then-passed, and_then-refused, and_then-done}

@@ -12,19 +12,15 @@
 -- `stored-` about a block with one byte stored, `bytes-` about whole bytes made one after the other. At the end of a name, `-inside` and `-lost`
 -- are the bits that are made b, `-outside` and `-kept` those that stay, `-other` all but the one that is written, `-past` what lies past the
 -- end, `-bytes` says that bytes stay bytes.
-use Prim.Native.Nat.{ℕ, zero, suc, ◌+◌, ◌-◌, ◌*◌, ◌/◌, ◌%◌, ◌≤◌, ◌<◌}
-use mathlib.Core.Bool.{Bool, true, false, cond, ◌&&◌, and-false, true≢false}
-use mathlib.Core.List.{List, []}
-use mathlib.Core.Logic.{◌⊎◌, inl, inr, ◌≢◌, ⊎_elim}
-use mathlib.Core.Path.{◌≡◌, refl, sym, ap, ◌∙◌}
-use native.Mathlib.Nat.{le_step, lt-suc_self, not-suc-le-zero, eq-or-lt_of_le, le_of_suc-le-suc, add-zero, add-suc}
+use Rattle.std.proofs.Common.{ℕ, zero, suc, ◌+◌, ◌-◌, ◌*◌, ◌/◌, ◌%◌, ◌≤◌, ◌<◌, Bool, true, false, cond, ◌&&◌, true≢false, List, [], ◌⊎◌}
+use Rattle.std.proofs.Common.{inl, inr, ⊎_elim, ◌≡◌, refl, sym, ap, ◌∙◌, lt-suc_self, not-suc-le-zero, eq-or-lt_of_le, le_of_suc-le-suc}
+use Rattle.std.proofs.Common.{add-zero, add-suc, add-one, arith, ltb, leb, length, get_or, set, length-set, get_or-set_same}
+use Rattle.std.proofs.Common.{get_or-set_other, leb-true, ltb-true, le-leb, lt-ltb, le-ltb}
+use mathlib.Core.Bool.{and-false}
+use mathlib.Core.Logic.{◌≢◌}
+use native.Mathlib.Nat.{le_step}
 use native.Mathlib.Decide.{dec_le, ℕ_discrete}
-use native.Mathlib.Numerals.{add-one}
-use native.Mathlib.Omega.{arith}
-use lib.Dec.{ltb, leb}
-use lib.ListN.{length, get_or, set, length-set}
-use lib.Seq.{get_or-set_same, get_or-set_other}
-use borrow.Author.Tests.{leb-true, ltb-true, le-leb, lt-leb, lt-ltb, le-ltb}
+use borrow.Author.Tests.{lt-leb}
 use Rattle.bits.specs.Bit.{digit, word, bit_at, with_bit}
 use Rattle.bits.specs.Search.{some_below}
 use Rattle.bits.proofs.Bytes.{bit_at-ext, bit_at-same, bit_at-other, length-with_bit, with_bit-byte, with_bit-past}

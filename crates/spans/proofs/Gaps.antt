@@ -12,18 +12,11 @@
 -- `around-` about flips_around; `before-`, `ends-`, `gap-` and `pair-` are about a list that passes its check: the pair before, all earlier pairs, one
 -- gap, one pair. At the end of a name, `-le` and `-within` are bounds, `-byte` is a whole byte, `-none` no bit at all, `-one-more` and `-zero` are
 -- the steps of a loop.
-use Prim.Native.Nat.{ℕ, zero, suc, ◌+◌, ◌-◌, ◌*◌, ◌/◌, ◌≤◌, ◌<◌, max}
-use mathlib.Core.Bool.{true, false, cond}
-use mathlib.Core.List.{List}
-use mathlib.Core.Logic.{inl, inr}
-use mathlib.Core.Path.{◌≡◌, refl, sym, ap, ap₂, ◌∙◌}
-use native.Mathlib.Nat.{le_refl, le_of_eq, not-suc-le-zero, eq-or-lt_of_le, le_of_suc-le-suc}
+use Rattle.std.proofs.Common.{ℕ, zero, suc, ◌+◌, ◌-◌, ◌*◌, ◌/◌, ◌≤◌, ◌<◌, max, true, false, cond, List, inl, inr, ◌≡◌, refl, sym, ap, ap₂}
+use Rattle.std.proofs.Common.{◌∙◌, le_refl, le_of_eq, not-suc-le-zero, eq-or-lt_of_le, le_of_suc-le-suc, add-one, arith, bit_xor, length}
+use Rattle.std.proofs.Common.{get_or}
 use native.Mathlib.Decide.{dec_le}
-use native.Mathlib.Numerals.{add-one}
-use native.Mathlib.Omega.{arith}
-use lib.Bits.{bit_xor}
 use lib.Count.{ones}
-use lib.ListN.{length, get_or}
 use Rattle.bits.specs.Bit.{word, bit_at}
 use Rattle.bits.specs.Sum.{sum}
 use Rattle.bits.specs.Window.{word_at}

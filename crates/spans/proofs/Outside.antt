@@ -6,14 +6,9 @@
 --   flips N a b              the number of bits 0 .. N - 1 in which two blocks differ (bits specs Bit)
 -- Laws are named by their subject, then by the fact: `bit-` is about one bit of each block, `outside-` about flips_outside, `lost-` about lost
 -- bits. At the end of a name, `-none` is about the empty list.
-use Prim.Native.Nat.{ℕ, ◌+◌, ◌*◌, ◌≤◌, ◌<◌}
-use mathlib.Core.Bool.{Bool, true, false, cond}
-use mathlib.Core.List.{List, []}
-use mathlib.Core.Path.{◌≡◌, refl, sym, ap, ◌∙◌}
-use native.Mathlib.Nat.{le_trans, le_of_eq, lt_of_lt_of_le}
-use native.Mathlib.Omega.{arith}
-use lib.Bits.{bit_xor, xor_comm}
-use lib.ListN.{length}
+use Rattle.std.proofs.Common.{ℕ, ◌+◌, ◌*◌, ◌≤◌, ◌<◌, Bool, true, false, cond, List, [], ◌≡◌, refl, sym, ap, ◌∙◌, le_trans, le_of_eq}
+use Rattle.std.proofs.Common.{lt_of_lt_of_le, arith, bit_xor, length}
+use lib.Bits.{xor_comm}
 use Rattle.bits.specs.Bit.{bit_at, flips}
 use Rattle.bits.specs.Sum.{sum, flag}
 use Rattle.bits.proofs.Sums.{sum-ext, sum_mono, sum-add, sum-scale, sum-none, flag_true, flag-false}

@@ -7,17 +7,12 @@
 --   NewsRound plan name before kept₀ p changed visits block kept   the vertices below p that had news are visited: it is as if all had been
 -- Laws are named by their subject, then by the fact: `hears-` is about a vertex without news, `round-` about visits so far, `news-round-` about visits
 -- of vertices with news so far, `scan-` about the marks of sixteen vertices as a number whose ones are taken off from the highest on.
-use Prim.Native.Nat.{ℕ, zero, suc, ◌+◌, ◌-◌, ◌*◌, ◌/◌, ◌%◌, ◌^◌, ◌≤◌, ◌<◌, min}
-use mathlib.Core.Bool.{Bool, true, false, true≢false}
-use mathlib.Core.List.{List, []}
+use Rattle.std.proofs.Common.{ℕ, zero, suc, ◌+◌, ◌-◌, ◌*◌, ◌/◌, ◌%◌, ◌^◌, ◌≤◌, ◌<◌, min, Bool, true, false, true≢false, List, [], ◌≡◌, refl}
+use Rattle.std.proofs.Common.{sym, ap, ap₂, ◌∙◌, le_refl, pow-suc, add-one, arith, bit_xor, length, set, length-set}
 use mathlib.Mathlib.Data.Bool.Basic.{eq-false_of_not-eq-true}
-use mathlib.Core.Path.{◌≡◌, refl, sym, ap, ap₂, ◌∙◌}
 use native.Mathlib.Decide.{dec_le}
-use native.Mathlib.Nat.{le_refl, min-eq_left, min-eq_right, pow-suc}
-use native.Mathlib.Numerals.{add-one}
-use native.Mathlib.Omega.{arith}
-use lib.Bits.{bit_xor, xor_zero_l}
-use lib.ListN.{length, set, length-set}
+use native.Mathlib.Nat.{min-eq_left, min-eq_right}
+use lib.Bits.{xor_zero_l}
 use Rattle.bits.specs.Bit.{digit}
 use Rattle.bits.specs.Sum.{sum}
 use Rattle.bits.specs.Window.{at}

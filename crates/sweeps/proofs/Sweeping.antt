@@ -14,20 +14,14 @@
 -- visited vertex has, `-word` and `-later` the words of visited vertices and of those still to come, `-block` the check of 11 and 12,
 -- `-bytes` that bytes stay below 256, `-skip` and `-fixed` a map that leaves words as they are, `-again` a side swept twice, `-stays`, `-still`
 -- and `-ended` a block that does not change any more, `-satisfied` vertices that read codewords, `-tied` those that wait for their neighbours.
-use Prim.Native.Nat.{ℕ, zero, suc, ◌+◌, ◌*◌, ◌^◌, ◌≤◌, ◌<◌}
-use mathlib.Core.Bool.{true, false, and-true}
-use mathlib.Core.List.{List, []}
-use mathlib.Core.Logic.{◌≢◌, ⊎_elim}
-use mathlib.Core.Path.{◌≡◌, refl, ap, ◌∙◌}
-use native.Mathlib.Nat.{le_refl, le_step, lt-suc_self, not-suc-le-zero, eq-or-lt_of_le, le_of_suc-le-suc, add-zero, add-suc}
-use native.Mathlib.Numerals.{add-one}
-use native.Mathlib.Omega.{arith}
+use Rattle.std.proofs.Common.{ℕ, zero, suc, ◌+◌, ◌*◌, ◌^◌, ◌≤◌, ◌<◌, true, false, List, [], ⊎_elim, ◌≡◌, refl, ap, ◌∙◌, le_refl}
+use Rattle.std.proofs.Common.{lt-suc_self, not-suc-le-zero, eq-or-lt_of_le, le_of_suc-le-suc, add-zero, add-suc, add-one, arith, bit_xor}
+use Rattle.std.proofs.Common.{eqb, length, get_or, eq-eqb}
+use mathlib.Core.Bool.{and-true}
+use mathlib.Core.Logic.{◌≢◌}
+use native.Mathlib.Nat.{le_step}
 use lib.Arith.{digits_lt}
-use lib.Bits.{bit_xor}
 use lib.Count.{ones}
-use lib.Dec.{eqb}
-use lib.ListN.{length, get_or}
-use borrow.Author.Tests.{eq-eqb}
 use Rattle.wiring.proofs.Blocks.{block_room}
 use Rattle.bits.specs.Bit.{bit_at, flips}
 use Rattle.bits.proofs.Sums.{sum-ext}

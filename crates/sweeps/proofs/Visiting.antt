@@ -8,16 +8,10 @@
 -- Laws are named by their subject, then by the fact: `changed-` is about the number of bits that change, `ties-` about the vertices that
 -- wait, `visits-` about the block so far, `word-`, `found-` and `pattern-` about one vertex's word in the code, `ready-` about a side of a
 -- checked plan.
-use Prim.Native.Nat.{ℕ, ◌+◌, ◌*◌, ◌^◌, ◌≤◌, ◌<◌}
-use mathlib.Core.Bool.{Bool, true, false, cond}
-use mathlib.Core.List.{List, []}
-use mathlib.Core.Path.{◌≡◌, refl, sym, ap, ap₂, ◌∙◌}
-use native.Mathlib.Nat.{le_refl, le_trans, le_of_eq}
-use native.Mathlib.Omega.{arith}
+use Rattle.std.proofs.Common.{ℕ, ◌+◌, ◌*◌, ◌^◌, ◌≤◌, ◌<◌, Bool, true, false, cond, List, [], ◌≡◌, refl, sym, ap, ap₂, ◌∙◌, le_refl}
+use Rattle.std.proofs.Common.{le_trans, le_of_eq, arith, bit_xor, eqb, length, replicate}
 use Rattle.bits.proofs.Sums.{sum-zero, sum-one-more, sum_mono, sum-const, sum-none-each, sum-some}
-use lib.Bits.{bit_xor, xor_lt}
-use lib.Dec.{eqb}
-use lib.ListN.{length, replicate}
+use lib.Bits.{xor_lt}
 use Rattle.bits.specs.Window.{word_at}
 use Rattle.bits.proofs.Xor.{xor-cancel}
 use Rattle.inner_code.specs.Code.{is_codeword}

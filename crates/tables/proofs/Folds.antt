@@ -4,18 +4,12 @@
 --   lighter here other        of two keys of one class the one of fewer ones; where they have the same ones, a tie
 -- `upper-` laws are about the patterns that have digit b and no higher one, `light-` laws about the lightest pattern of a class: how it is
 -- told, and what digit b makes of it.
-use mathlib.Core.Path.{◌≡◌, refl, sym, ap, ◌∙◌}
-use mathlib.Core.Bool.{Bool, true, false, cond}
-use mathlib.Core.Logic.{◌⊎◌, inl, inr, ⊎_elim}
-use Prim.Native.Nat.{ℕ, zero, suc, ◌+◌, ◌*◌, ◌/◌, ◌%◌, ◌^◌, ◌≤◌, ◌<◌, min}
+use Rattle.std.proofs.Common.{◌≡◌, refl, sym, ap, ◌∙◌, Bool, true, false, cond, ◌⊎◌, inl, inr, ⊎_elim, ℕ, zero, suc, ◌+◌, ◌*◌, ◌/◌, ◌%◌}
+use Rattle.std.proofs.Common.{◌^◌, ◌≤◌, ◌<◌, min, pow-suc, one-mul, arith, eq-eqb, ne_eqb, eqb, bit_xor, pow_mono, pow_pos}
 use native.Mathlib.Decide.{ℕ_discrete, dec_lt}
-use native.Mathlib.Nat.{le_dest, pow-suc, one-mul, min-eq_left, min-eq_right}
-use native.Mathlib.Omega.{arith}
-use borrow.Author.Tests.{eq-eqb, ne_eqb}
-use lib.Dec.{eqb}
-use lib.Bits.{bit_xor, xor_shifted, xor_comm}
+use native.Mathlib.Nat.{le_dest, min-eq_left, min-eq_right}
+use lib.Bits.{xor_shifted, xor_comm}
 use lib.Count.{ones, ones_cat, ones-le}
-use lib.Pow.{pow_mono, pow_pos}
 use Rattle.bits.proofs.Xor.{xor-cancel, ones-zero}
 use Rattle.inner_code.specs.Code.{is_codeword, least_pattern, tied}
 use Rattle.inner_code.proofs.Cosets.{ones-pow}

@@ -2,18 +2,12 @@
 --   key_at table costs c   the key of class c (specs Folding)
 -- `pair-` laws are about the two bytes of a class, `lighter-` laws about two keys of one class, `copied-`, `folded-` and `marked-` laws about
 -- one turn more of the code.
-use mathlib.Core.Path.{◌≡◌, refl, sym, ap, ap₂, ◌∙◌, subst⁻¹}
-use mathlib.Core.Bool.{Bool, cond}
-use mathlib.Core.List.{List}
-use mathlib.Core.Logic.{inl, inr, ⊎_elim}
-use Prim.Native.Nat.{ℕ, ◌+◌, ◌*◌, ◌/◌, ◌%◌, ◌≤◌, ◌<◌, min}
+use Rattle.std.proofs.Common.{◌≡◌, refl, sym, ap, ap₂, ◌∙◌, Bool, cond, List, inl, inr, ⊎_elim, ℕ, ◌+◌, ◌*◌, ◌/◌, ◌%◌, ◌≤◌, ◌<◌, min, arith}
+use Rattle.std.proofs.Common.{eq-eqb, ne_eqb, bit_xor, length, get_or, set, length-set, get_or-set_same, get_or-set_other}
+use mathlib.Core.Path.{subst⁻¹}
 use native.Mathlib.Decide.{ℕ_discrete, dec_lt}
 use native.Mathlib.Nat.{min-eq_left, min-eq_right}
-use native.Mathlib.Omega.{arith}
-use borrow.Author.Tests.{eq-eqb, ne_eqb}
-use lib.Bits.{bit_xor, xor_block}
-use lib.ListN.{length, get_or, set, length-set}
-use lib.Seq.{get_or-set_same, get_or-set_other}
+use lib.Bits.{xor_block}
 use Rattle.bits.specs.Bit.{pair_at}
 use Rattle.bits.proofs.Xor.{xor-cancel-right}
 use Rattle.tables.specs.Classes.{tie_mark}

@@ -2,19 +2,13 @@
 --   table_of sheet, look_up_answer, build_answer, build_output   the table and the services of the paper (specs Answer)
 -- `looked-up` is the law for every sheet, every word and whatever stands behind the table, `looked-up-built` the same for the output of a
 -- building call. `mark-` is about the mark, `build-` and `look-` laws about one outcome of a service.
-use mathlib.Core.Path.{◌≡◌, refl, sym, ap, ap₂, ◌∙◌, subst}
-use mathlib.Core.Bool.{Bool, true, false, cond, true≢false}
-use mathlib.Core.List.{List, [], ◌∷◌, ◌++◌, append-nil}
-use Prim.Native.Nat.{ℕ, zero, suc, ◌*◌, ◌%◌, ◌^◌, ◌≤◌, ◌<◌}
+use Rattle.std.proofs.Common.{◌≡◌, refl, sym, ap, ap₂, ◌∙◌, subst, Bool, true, false, cond, true≢false, List, [], ◌∷◌, ◌++◌, append-nil, ℕ}
+use Rattle.std.proofs.Common.{zero, suc, ◌*◌, ◌%◌, ◌^◌, ◌≤◌, ◌<◌, mod-eq_of_lt, arith, eq-eqb, ne_eqb, le-leb, lt-ltb, le-ltb, bit_xor, eqb}
+use Rattle.std.proofs.Common.{length, length-append, drop, pow_mono}
 use native.Mathlib.Decide.{dec_lt}
-use native.Mathlib.Nat.{mod-eq_of_lt}
-use native.Mathlib.Omega.{arith}
-use borrow.Author.Tests.{eq-eqb, ne_eqb, le-leb, lt-leb, lt-ltb, le-ltb}
-use lib.Bits.{bit_xor, xor_lt}
+use borrow.Author.Tests.{lt-leb}
+use lib.Bits.{xor_lt}
 use lib.Count.{ones, ones-le, ones-ones}
-use lib.Dec.{eqb}
-use lib.ListN.{length, length-append, drop}
-use lib.Pow.{pow_mono}
 use Rattle.bits.specs.Bit.{pair_at, written}
 use Rattle.bits.proofs.Xor.{xor_assoc, xor-cancel}
 use Rattle.inner_code.specs.Reply.{Reply, done, refused}

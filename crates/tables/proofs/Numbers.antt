@@ -6,20 +6,17 @@
 -- Laws are named by their subject, then by the fact: `reduced-` is about what the rows leave, `smallest-` about the smallest words of classes,
 -- `count-` about how many there are below a bound, `weight-` and `number-` about weights and numbers, `free-` about the free digits, `mask-`
 -- about the word of them. They hold for any rows and any k; only `free-rank` and `mask-digit` ask that no row is made of those before it.
-use mathlib.Core.Path.{◌≡◌, refl, sym, ap, ap₂, ◌∙◌}
-use mathlib.Core.Logic.{⊎_elim}
-use mathlib.Core.Bool.{Bool, true, false, cond, not, ◌&&◌, and-true, and-false, true≢false}
-use Prim.Native.Nat.{ℕ, zero, suc, ◌+◌, ◌-◌, ◌*◌, ◌/◌, ◌^◌, ◌≤◌, ◌<◌}
-use native.Mathlib.Nat.{le_refl, le_antisymm, lt_of_le_of_lt, lt_of_lt_of_le, lt-suc_self, eq-zero-or-pos}
-use native.Mathlib.Nat.{le_step, add-zero, mul-one, pow-suc, one-mul, zero-mul}
+use Rattle.std.proofs.Common.{◌≡◌, refl, sym, ap, ap₂, ◌∙◌, ⊎_elim, Bool, true, false, cond, not, ◌&&◌, true≢false, ℕ, zero, suc, ◌+◌, ◌-◌}
+use Rattle.std.proofs.Common.{◌*◌, ◌/◌, ◌^◌, ◌≤◌, ◌<◌, le_refl, le_antisymm, lt_of_le_of_lt, lt_of_lt_of_le, lt-suc_self, eq-zero-or-pos}
+use Rattle.std.proofs.Common.{add-zero, mul-one, pow-suc, one-mul, zero-mul, add-one, arith, eq-eqb, ne_eqb, eqb-true, bit_xor, eqb}
+use Rattle.std.proofs.Common.{pow_pos, pow_mono, pow-add}
+use mathlib.Core.Bool.{and-true, and-false}
+use native.Mathlib.Nat.{le_step}
 use native.Mathlib.Decide.{dec_lt, ℕ_discrete, le_ind}
-use native.Mathlib.Numerals.{add-one}
-use native.Mathlib.Omega.{arith}
-use borrow.Author.Tests.{eq-eqb, ne_eqb, eqb-true, eqb-false}
-use lib.Bits.{bit_xor, xor_comm, xor_lt, xor_self, xor_shifted, xor_zero_r}
+use borrow.Author.Tests.{eqb-false}
+use lib.Bits.{xor_comm, xor_lt, xor_self, xor_shifted, xor_zero_r}
 use lib.Count.{count_leading_zeros, leading_top}
-use lib.Dec.{eqb}
-use lib.Pow.{pow_pos, pow_mono, pow-lt, pow-add}
+use lib.Pow.{pow-lt}
 use Rattle.bits.proofs.Xor.{digit-power, xor-cancel, xor-digit, digit_lt, digit-first, digit-suc}
 use Rattle.bits.specs.Bit.{digit}
 use Rattle.bits.specs.Search.{least}

@@ -2,19 +2,14 @@
 --   Filled sheet b count table costs   so many classes are reached, and each has its lightest pattern of those below 2^b (specs Folding)
 --   table_of sheet, look_up_answer        the table and the look-up of the paper (specs Answer)
 -- `filled-` laws follow the code's turns, `table-` and `look-` laws are about the table and the look-up.
-use mathlib.Core.Path.{◌≡◌, refl, sym, ap, ap₂, ◌∙◌, subst, subst⁻¹}
-use mathlib.Core.Bool.{Bool, true, false}
-use mathlib.Core.List.{List}
-use mathlib.Core.Logic.{inl}
-use Prim.Native.Nat.{ℕ, suc, ◌+◌, ◌-◌, ◌*◌, ◌%◌, ◌^◌, ◌≤◌, ◌<◌, min}
+use Rattle.std.proofs.Common.{◌≡◌, refl, sym, ap, ap₂, ◌∙◌, subst, Bool, true, false, List, inl, ℕ, suc, ◌+◌, ◌-◌, ◌*◌, ◌%◌, ◌^◌, ◌≤◌, ◌<◌}
+use Rattle.std.proofs.Common.{min, pow-suc, le_antisymm, lt_of_lt_of_le, add-one, arith, eq-eqb, ne_eqb, eqb-true, bit_xor, length, get_or}
+use Rattle.std.proofs.Common.{replicate, pow_mono}
+use mathlib.Core.Path.{subst⁻¹}
 use native.Mathlib.Decide.{dec_lt}
-use native.Mathlib.Nat.{pow-suc, le_dest, le_antisymm, lt_of_lt_of_le, min-eq_left}
-use native.Mathlib.Numerals.{add-one}
-use native.Mathlib.Omega.{arith}
-use borrow.Author.Tests.{eq-eqb, ne_eqb, eqb-true}
-use lib.Bits.{bit_xor, xor_lt, xor_comm}
-use lib.ListN.{length, get_or, replicate, length-replicate}
-use lib.Pow.{pow_mono}
+use native.Mathlib.Nat.{le_dest, min-eq_left}
+use lib.Bits.{xor_lt, xor_comm}
+use lib.ListN.{length-replicate}
 use Rattle.bits.specs.Bit.{pair_at}
 use Rattle.bits.specs.Window.{at}
 use Rattle.bits.specs.Sum.{flag}

@@ -8,12 +8,8 @@
 -- Laws are named by the service, `count-` or `bit-`, then by the outcome: `-plan-refused` and `-block-refused` are checks that turn back,
 -- `-told` is the count, `-past` a bit that the plan does not have, `-kept` one that has its value already, `-turned` one that has the other.
 -- `checks-` laws are about what both services begin with.
-use Prim.Native.Nat.{ℕ, ◌+◌, ◌%◌, ◌≤◌, ◌<◌}
-use mathlib.Core.List.{List, [], ◌∷◌}
-use mathlib.Core.Path.{◌≡◌, sym, ap, ap₂, ◌∙◌}
-use native.Mathlib.Nat.{mod-lt}
-use native.Mathlib.Omega.{arith}
-use borrow.Author.Tests.{le-leb, lt-leb}
+use Rattle.std.proofs.Common.{ℕ, ◌+◌, ◌%◌, ◌≤◌, ◌<◌, List, [], ◌∷◌, ◌≡◌, sym, ap, ap₂, ◌∙◌, mod-lt, arith, le-leb}
+use borrow.Author.Tests.{lt-leb}
 use Rattle.bits.specs.Bit.{bit_at, with_bit}
 use Rattle.bits.specs.Window.{turned}
 use Rattle.bits.proofs.Bytes.{bit_at_lt, with_bit-keeps}

@@ -10,15 +10,8 @@
 -- i / d. Laws are named by their subject, then by the fact: `entry-` is about the entry of an edge, `degree-` about the degree of a side as
 -- the code holds it, `side-` about the count of one side, `change-` about the change. At the end of a name, `-readable` leads to what
 -- reading a vertex's word asks, `-found` and `-nowhere` are the ends of a search, `-lt` is a bound, `-turned` a bit that is turned.
-use Prim.Native.Nat.{ℕ, ◌+◌, ◌-◌, ◌*◌, ◌/◌, ◌≤◌, ◌<◌}
-use mathlib.Core.Bool.{not}
-use mathlib.Core.List.{List, []}
-use mathlib.Core.Path.{◌≡◌, sym, ap, ◌∙◌}
-use native.Mathlib.Nat.{div-lt_iff_lt-mul}
-use native.Mathlib.Omega.{arith}
-use lib.Dec.{eqb}
-use lib.ListN.{length}
-use borrow.Author.Tests.{eq-eqb, ne_eqb}
+use Rattle.std.proofs.Common.{ℕ, ◌+◌, ◌-◌, ◌*◌, ◌/◌, ◌≤◌, ◌<◌, not, List, [], ◌≡◌, sym, ap, ◌∙◌, div-lt_iff_lt-mul, arith, eqb, length}
+use Rattle.std.proofs.Common.{eq-eqb, ne_eqb}
 use Rattle.bits.specs.Search.{first_failing}
 use Rattle.bits.specs.Window.{turned}
 use Rattle.bits.proofs.Searches.{first-at, first-all}

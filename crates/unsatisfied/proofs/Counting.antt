@@ -7,15 +7,9 @@
 -- Laws are named by their subject, then by the fact: `at-` is about the vertices of one side, `count-` about both, `change-` about the change.
 -- At the end of a name, `-le` is a bound, `-codeword` and `-none` lead from a codeword block to no unsatisfied vertex and back, `-moved` is a
 -- block in which one vertex reads another word, `-turned` one in which a bit is turned.
-use Prim.Native.Nat.{ℕ, ◌+◌, ◌*◌, ◌/◌, ◌%◌, ◌≤◌, ◌<◌}
-use mathlib.Core.Bool.{Bool, true, not}
-use mathlib.Core.List.{List}
-use mathlib.Core.Path.{◌≡◌, refl, sym, ap, ◌∙◌}
+use Rattle.std.proofs.Common.{ℕ, ◌+◌, ◌*◌, ◌/◌, ◌%◌, ◌≤◌, ◌<◌, Bool, true, not, List, ◌≡◌, refl, sym, ap, ◌∙◌, div-add-mod'}
+use Rattle.std.proofs.Common.{div-lt_iff_lt-mul, mod-lt, arith, eqb, length}
 use native.Mathlib.Decide.{ℕ_discrete}
-use native.Mathlib.Nat.{div-add-mod', div-lt_iff_lt-mul, mod-lt}
-use native.Mathlib.Omega.{arith}
-use lib.Dec.{eqb}
-use lib.ListN.{length}
 use borrow.Author.Tests.{not-false}
 use Rattle.bits.specs.Sum.{sum, flag}
 use Rattle.bits.specs.Window.{turned}

@@ -8,11 +8,7 @@
 -- Laws are named by their subject, then by the fact: `word-` is about one word, `vertex-` about one vertex, `up-to-` about the vertices before
 -- one. At the end of a name, `-told` is what the code's cast of a test tells, `-none` and `-one-more` are the steps of a loop, `-defined` says that
 -- in an accepted plan the code's number is the definition's.
-use Prim.Native.Nat.{ℕ, ◌+◌, ◌≤◌, ◌<◌, min}
-use mathlib.Core.Bool.{Bool, true, false, not}
-use mathlib.Core.List.{List, []}
-use mathlib.Core.Path.{◌≡◌, refl, sym, ap, ap₂, ◌∙◌}
-use lib.Dec.{eqb}
+use Rattle.std.proofs.Common.{ℕ, ◌+◌, ◌≤◌, ◌<◌, min, Bool, true, false, not, List, [], ◌≡◌, refl, sym, ap, ap₂, ◌∙◌, eqb}
 use mir.Val.{bool_byte}
 use Rattle.bits.specs.Sum.{flag}
 use Rattle.bits.specs.Window.{at}

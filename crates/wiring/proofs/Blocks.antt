@@ -7,18 +7,12 @@
 -- Laws are named by their subject, then by the fact: `bits-` is about the outcome of the check and a string that passes it, `block-` about
 -- a block, `bytes-` about the number of bytes, `stray-` about the second test as the code makes it, on the last byte alone. At the end of
 -- a name, `-back` leads from the facts to the check, `-ext` is equality from the bits.
-use Prim.Native.Nat.{ℕ, ◌+◌, ◌-◌, ◌*◌, ◌/◌, ◌%◌, ◌^◌, ◌≤◌, ◌<◌}
-use mathlib.Core.Bool.{Bool, true, false, not, ◌&&◌, and-false}
-use mathlib.Core.List.{List, []}
-use mathlib.Core.Logic.{◌⊎◌, inl, inr, ◌≢◌}
-use mathlib.Core.Path.{◌≡◌, refl, sym, ap, ◌∙◌}
-use native.Mathlib.Nat.{mod-lt}
+use Rattle.std.proofs.Common.{ℕ, ◌+◌, ◌-◌, ◌*◌, ◌/◌, ◌%◌, ◌^◌, ◌≤◌, ◌<◌, Bool, true, false, not, ◌&&◌, List, [], ◌⊎◌, inl, inr, ◌≡◌, refl}
+use Rattle.std.proofs.Common.{sym, ap, ◌∙◌, mod-lt, arith, leb, eqb, length, get_or, pow_pos, le-leb, eqb-true, eq-eqb, ne_eqb}
+use mathlib.Core.Bool.{and-false}
+use mathlib.Core.Logic.{◌≢◌}
 use native.Mathlib.Decide.{dec_le}
-use native.Mathlib.Omega.{arith}
-use lib.Dec.{leb, eqb}
-use lib.ListN.{length, get_or}
-use lib.Pow.{pow_pos}
-use borrow.Author.Tests.{le-leb, lt-leb, eqb-true, eqb-false, eq-eqb, ne_eqb, not-false}
+use borrow.Author.Tests.{lt-leb, eqb-false, not-false}
 use Rattle.bits.specs.Bit.{digit, bit_at}
 use Rattle.bits.proofs.Xor.{digit-ext, digit-zero}
 use Rattle.bits.proofs.Windows.{digit_low}

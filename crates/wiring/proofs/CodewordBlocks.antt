@@ -7,14 +7,8 @@
 -- Laws are named by their subject, then by the fact: `unsatisfied-` is about the first vertex of one side, `codeword-block-` about
 -- the test of a block, `located-` about the locator. At the end of a name, `-each` leads from the test to every vertex, `-back`
 -- from every vertex to the test, `-ext` says that equal bits give equal answers, `-tests` writes a definition out.
-use Prim.Native.Nat.{ℕ, ◌≤◌, ◌<◌}
-use mathlib.Core.Bool.{Bool, true, false, cond, ◌&&◌}
-use mathlib.Core.List.{List, [], ◌∷◌}
-use mathlib.Core.Path.{◌≡◌, refl, sym, ap₂, ◌∙◌}
-use native.Mathlib.Nat.{le_antisymm}
-use native.Mathlib.Omega.{arith}
-use lib.Dec.{ltb, eqb}
-use borrow.Author.Tests.{le-ltb, ltb-false, eqb-true, eq-eqb}
+use Rattle.std.proofs.Common.{ℕ, ◌≤◌, ◌<◌, Bool, true, false, cond, ◌&&◌, List, [], ◌∷◌, ◌≡◌, refl, sym, ap₂, ◌∙◌, le_antisymm, arith, ltb}
+use Rattle.std.proofs.Common.{eqb, le-ltb, ltb-false, eqb-true, eq-eqb}
 use Rattle.bits.proofs.Tests.{and_both}
 use Rattle.wiring.specs.Plan.{Side, left, right}
 use Rattle.wiring.specs.Block.{satisfied, first_unsatisfied, is_codeword_block, located}

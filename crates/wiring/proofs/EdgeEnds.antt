@@ -7,13 +7,8 @@
 --   Whole N side, vertex_of       a side whose entries are all bits (Permutation), and the vertex that has a bit (Edges)
 -- Laws are named by their subject, then by the fact: `noted-` is about both lists of ends. `-none` and `-one-more` are the start of the loop and
 -- one turn of it. wired-notable leads from an accepted wiring to the notes.
-use Prim.Native.Nat.{ℕ, ◌+◌, ◌*◌, ◌/◌, ◌≤◌, ◌<◌}
-use mathlib.Core.List.{List}
-use mathlib.Core.Path.{◌≡◌, sym, ap, ◌∙◌}
-use native.Mathlib.Nat.{div-lt_iff_lt-mul}
+use Rattle.std.proofs.Common.{ℕ, ◌+◌, ◌*◌, ◌/◌, ◌≤◌, ◌<◌, List, ◌≡◌, sym, ap, ◌∙◌, div-lt_iff_lt-mul, arith, length, set}
 use native.Mathlib.Decide.{ℕ_discrete}
-use native.Mathlib.Omega.{arith}
-use lib.ListN.{length, set}
 use Rattle.bits.proofs.Lists.{at_set_same, at_set_other}
 use Rattle.bits.specs.Window.{at}
 use Rattle.wiring.specs.Plan.{Side, edge_of}

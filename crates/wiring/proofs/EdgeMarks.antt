@@ -6,17 +6,12 @@
 -- Laws are named by their subject, then by the fact: `masked-` is about the digits that a mask leaves, `marked-` about the bytes, `digits-`
 -- about the binary digits of the first edges, `least-` about the least of the first bytes, `entries-` about the check of all entries.
 -- `-one-more` is one turn of a loop; `-lowered` is the turn that finds a smaller byte and `-kept` the turn that does not.
-use Prim.Native.Nat.{ℕ, zero, suc, ◌+◌, ◌-◌, ◌^◌, ◌≤◌, ◌<◌}
-use mathlib.Core.List.{List, []}
-use mathlib.Core.Logic.{⊎_elim}
-use mathlib.Core.Path.{◌≡◌, sym, ap, ◌∙◌}
-use native.Mathlib.Nat.{le_step, lt-suc_self, eq-or-lt_of_le, mod-eq_of_lt}
+use Rattle.std.proofs.Common.{ℕ, zero, suc, ◌+◌, ◌-◌, ◌^◌, ◌≤◌, ◌<◌, List, [], ⊎_elim, ◌≡◌, sym, ap, ◌∙◌, lt-suc_self, eq-or-lt_of_le}
+use Rattle.std.proofs.Common.{mod-eq_of_lt, add-one, arith, bit_and, bit_or, length, get_or, set, get_or-set_other}
+use native.Mathlib.Nat.{le_step}
 use native.Mathlib.Decide.{ℕ_discrete}
-use native.Mathlib.Numerals.{add-one}
-use native.Mathlib.Omega.{arith}
-use lib.Bits.{bit_and, bit_or, or_add_and, and_le_l, and_le_r, and_mask}
-use lib.ListN.{length, get_or, set, length-replicate}
-use lib.Seq.{get_or-set_other}
+use lib.Bits.{or_add_and, and_le_l, and_le_r, and_mask}
+use lib.ListN.{length-replicate}
 use Rattle.bits.specs.Window.{at}
 use Rattle.bits.specs.Search.{least}
 use Rattle.bits.proofs.Searches.{least-le, least-one-more}

@@ -2,12 +2,8 @@
 --   PlacesNoted wiring places    the list holds, at each edge, the entry of the wiring where it stands (specs Places)
 --   place_of N side e             the entry of a side that has the bit e (Permutation)
 -- Laws are named by their subject, `places-`, then by the fact: `-lt` is a bound, `-bit` what stands at a place, `-more` one more that is noted.
-use Prim.Native.Nat.{ℕ, ◌+◌, ◌<◌}
-use mathlib.Core.List.{List, []}
-use mathlib.Core.Path.{◌≡◌, sym, ap, ◌∙◌}
+use Rattle.std.proofs.Common.{ℕ, ◌+◌, ◌<◌, List, [], ◌≡◌, sym, ap, ◌∙◌, arith, length, set}
 use native.Mathlib.Decide.{ℕ_discrete}
-use native.Mathlib.Omega.{arith}
-use lib.ListN.{length, set}
 use Rattle.bits.specs.Window.{at}
 use Rattle.inner_code.specs.Reply.{done}
 use Rattle.wiring.specs.Plan.{Plan, edge_count, side_of, side_bit, right}

@@ -8,11 +8,8 @@
 --   entries-left                 what is summed over the entries of a left vertex's edges, at their places
 --   edges-into, edges-from       edges counted at their far ends: of a right vertex, of a left vertex
 --   edges-row, edges-column      the right vertices that one left vertex meets, and the left ones that one right vertex meets
-use Prim.Native.Nat.{ℕ, ◌+◌, ◌*◌, ◌/◌, ◌<◌}
-use mathlib.Core.Path.{◌≡◌, sym, ap, ◌∙◌}
-use native.Mathlib.Nat.{div-lt_iff_lt-mul, mul_comm, mul-one, one-mul}
+use Rattle.std.proofs.Common.{ℕ, ◌+◌, ◌*◌, ◌/◌, ◌<◌, ◌≡◌, sym, ap, ◌∙◌, div-lt_iff_lt-mul, mul_comm, mul-one, one-mul, eqb}
 use lib.Arith.{digits_div}
-use lib.Dec.{eqb}
 use Rattle.bits.specs.Sum.{sum, flag}
 use Rattle.bits.proofs.Sums.{flag_same, sum-at, sum-blocks, sum-const, sum-ext, sum-reindex, sum-scale, sum-scale-right, sum-swap}
 use Rattle.wiring.specs.Plan.{Side, left, right}

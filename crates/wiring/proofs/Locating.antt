@@ -9,15 +9,9 @@
 -- Laws are named by their subject, then by the fact: `codeword-` is about one word, `satisfied-` about one vertex, `by-` about the first
 -- vertex of a side as a loop finds it, `located-` about both sides, `answer-` about the service. At the end of a name, `-residue` and `-by`
 -- say that the code's test is the definition's.
-use Prim.Native.Nat.{ℕ, ◌+◌, ◌≤◌, ◌<◌, min}
-use mathlib.Core.Bool.{Bool, true}
-use mathlib.Core.List.{List, [], ◌∷◌}
-use mathlib.Core.Path.{◌≡◌, refl, sym, ap, ap₂, ◌∙◌}
+use Rattle.std.proofs.Common.{ℕ, ◌+◌, ◌≤◌, ◌<◌, min, Bool, true, List, [], ◌∷◌, ◌≡◌, refl, sym, ap, ap₂, ◌∙◌, arith, eqb, replicate, lt-ltb}
+use Rattle.std.proofs.Common.{le-ltb, eq-eqb, ne_eqb}
 use native.Mathlib.Nat.{min-eq_left}
-use native.Mathlib.Omega.{arith}
-use lib.Dec.{eqb}
-use lib.ListN.{replicate}
-use borrow.Author.Tests.{lt-ltb, le-ltb, eq-eqb, ne_eqb}
 use Rattle.bits.specs.Window.{at}
 use Rattle.bits.proofs.Searches.{first-zero, first-one-more, first-at, first-all, first-all-each, first-ext}
 use Rattle.inner_code.specs.Reply.{Reply, done, refused, and_then}

@@ -16,19 +16,14 @@
 -- `wired` about a wiring that passes it, `fitted-` about a side of it, `place-` and `bit-` about a bit and its entry, `side-` about either side. At the end of a name, `-lt` and `-le`
 -- are bounds, `-once` says that no two entries have one bit, `-passed` leads from a check to the facts and `-back` from the facts to the
 -- check, `-onto` begins with every edge standing somewhere, `-tests` writes a check out.
-use Prim.Native.Nat.{ℕ, zero, suc, ◌+◌, ◌*◌, ◌≤◌, ◌<◌}
-use mathlib.Core.Bool.{true, false, not, ◌||◌, or-true, true≢false}
-use mathlib.Core.List.{List, []}
-use mathlib.Core.Logic.{⊎_elim}
-use mathlib.Core.Path.{◌≡◌, refl, sym, ap, ◌∙◌}
-use native.Mathlib.Nat.{le_step, lt-suc_self, not-suc-le-zero, eq-or-lt_of_le, le_of_suc-le-suc}
-use native.Mathlib.Nat.{le_antisymm, ne_of_lt, mul-le-mul_left, mul-le-mul_right}
+use Rattle.std.proofs.Common.{ℕ, zero, suc, ◌+◌, ◌*◌, ◌≤◌, ◌<◌, true, false, not, ◌||◌, true≢false, List, [], ⊎_elim, ◌≡◌, refl, sym, ap}
+use Rattle.std.proofs.Common.{◌∙◌, lt-suc_self, not-suc-le-zero, eq-or-lt_of_le, le_of_suc-le-suc, le_antisymm, ne_of_lt, mul-le-mul_left}
+use Rattle.std.proofs.Common.{mul-le-mul_right, add-one, arith, ltb, leb, eqb, length, ltb-false, lt-ltb, le-ltb, leb-false, eqb-true}
+use Rattle.std.proofs.Common.{eq-eqb, ne_eqb}
+use mathlib.Core.Bool.{or-true}
+use native.Mathlib.Nat.{le_step}
 use native.Mathlib.Decide.{dec_le}
-use native.Mathlib.Numerals.{add-one}
-use native.Mathlib.Omega.{arith}
-use lib.Dec.{ltb, leb, eqb}
-use lib.ListN.{length}
-use borrow.Author.Tests.{ltb-false, lt-ltb, le-ltb, leb-false, lt-leb, eqb-true, eqb-false, eq-eqb, ne_eqb, not-false}
+use borrow.Author.Tests.{lt-leb, eqb-false, not-false}
 use Rattle.bits.proofs.Sums.{injective-onto}
 use Rattle.bits.proofs.Tests.{or-neither}
 use Rattle.inner_code.specs.Reply.{done, refused, refuse_if}

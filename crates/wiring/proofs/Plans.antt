@@ -11,13 +11,8 @@
 -- Laws are named by their subject, then by the fact: `plan-` is about the check and what it leads to, `checked-` leads to what the code's check gives,
 -- `piece-` is about the piece. At the end of a name, `-accepted` and `-refused` are the outcomes of the check, `-sound` and `-joined` lead
 -- from the check to the facts and `-back` from the facts to the check.
-use Prim.Native.Nat.{ℕ, ◌+◌, ◌-◌, ◌*◌, ◌/◌, ◌≤◌, ◌<◌}
-use mathlib.Core.List.{List, [], ◌∷◌}
-use mathlib.Core.Path.{◌≡◌, sym, ap, ap₂, ◌∙◌, subst}
-use Rattle.std.proofs.Common.{Result, Ok, Err}
-use native.Mathlib.Omega.{arith}
-use lib.ListN.{length, take, drop}
-use borrow.Author.Tests.{lt-ltb, le-ltb}
+use Rattle.std.proofs.Common.{Result, Ok, Err, ℕ, ◌+◌, ◌-◌, ◌*◌, ◌/◌, ◌≤◌, ◌<◌, List, [], ◌∷◌, ◌≡◌, sym, ap, ap₂, ◌∙◌, subst, arith, length}
+use Rattle.std.proofs.Common.{take, drop, lt-ltb, le-ltb}
 use Rattle.inner_code.specs.Reply.{done, refused}
 use Rattle.inner_code.specs.Refusal.{number_of, place_of}
 use Rattle.inner_code.specs.Checking.{SheetChecked}

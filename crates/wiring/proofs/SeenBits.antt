@@ -5,19 +5,13 @@
 --   entry_check N edge i    entry i alone: its edge at or above N (9), else seen earlier (10) (specs Wiring)
 -- Laws are named by their subject, then by the fact: `mask-` is about a byte and one weight, `zeros-` about a list of zeros, `seen-` about
 -- the bits, `entry-` about the outcome of one entry: `-high` by 9, `-seen` by 10, `-fresh` by neither.
-use Prim.Native.Nat.{ℕ, zero, suc, ◌+◌, ◌-◌, ◌*◌, ◌/◌, ◌%◌, ◌^◌, ◌≤◌, ◌<◌}
-use mathlib.Core.Bool.{Bool, true, false, ◌||◌, or-true, or-false}
-use mathlib.Core.List.{List, [], ◌∷◌}
-use mathlib.Core.Logic.{⊎_elim}
-use mathlib.Core.Path.{◌≡◌, refl, sym, ap, ap₂, ◌∙◌}
-use native.Mathlib.Nat.{zero-mul, one-mul, pow-suc, eq-zero-or-pos, mul-le-mul_right}
-use native.Mathlib.Numerals.{add-one, one-add}
-use native.Mathlib.Omega.{arith}
-use lib.Bits.{bit_xor, bit_and, and_high}
-use lib.Dec.{eqb}
-use lib.ListN.{length, get_or, set, length-replicate}
-use lib.Pow.{pow_pos}
-use borrow.Author.Tests.{le-leb, lt-leb, eqb-true, eqb-false}
+use Rattle.std.proofs.Common.{ℕ, zero, suc, ◌+◌, ◌-◌, ◌*◌, ◌/◌, ◌%◌, ◌^◌, ◌≤◌, ◌<◌, Bool, true, false, ◌||◌, List, [], ◌∷◌, ⊎_elim, ◌≡◌}
+use Rattle.std.proofs.Common.{refl, sym, ap, ap₂, ◌∙◌, zero-mul, one-mul, pow-suc, eq-zero-or-pos, mul-le-mul_right, add-one, one-add}
+use Rattle.std.proofs.Common.{arith, bit_xor, bit_and, eqb, length, get_or, set, pow_pos, le-leb, eqb-true}
+use mathlib.Core.Bool.{or-true, or-false}
+use lib.Bits.{and_high}
+use lib.ListN.{length-replicate}
+use borrow.Author.Tests.{lt-leb, eqb-false}
 use Rattle.bits.specs.Bit.{digit, bit_at, put_digit, with_bit}
 use Rattle.bits.proofs.Lists.{zeros-at}
 use Rattle.bits.proofs.Tests.{flag-zero}

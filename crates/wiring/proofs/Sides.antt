@@ -1,8 +1,7 @@
 -- The two sides by name.
 --   other name                   the other side (specs Plan)
 --   sheet_for, count_for           the sheet of a side and the number of its vertices, as the code picks them (specs Access)
-use mathlib.Core.Bool.{Bool, true, false, true≢false}
-use mathlib.Core.Path.{◌≡◌, refl, ap}
+use Rattle.std.proofs.Common.{Bool, true, false, true≢false, ◌≡◌, refl, ap}
 use Rattle.wiring.specs.Plan.{Plan, sheet_of, count_of, other}
 use Rattle.wiring.specs.Access.{sheet_for, count_for}
 use Rattle.wiring.specs.declared.side.SideName.{SideName}

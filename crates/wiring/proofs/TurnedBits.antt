@@ -4,16 +4,11 @@
 --   Whole N side              the entries of a side are the bits 0 .. N - 1, each once (Permutation)
 -- Entry i of a side is read by vertex i / d, as its digit of weight 2^(d - 1 - i % d). Laws are named `vertex-turned-`: `-same` is that vertex,
 -- `-other` any other.
-use Prim.Native.Nat.{ℕ, ◌+◌, ◌-◌, ◌*◌, ◌/◌, ◌^◌, ◌≤◌, ◌<◌}
-use mathlib.Core.List.{List}
+use Rattle.std.proofs.Common.{ℕ, ◌+◌, ◌-◌, ◌*◌, ◌/◌, ◌^◌, ◌≤◌, ◌<◌, List, ◌≡◌, sym, ap, ◌∙◌, le_trans, one-mul, arith, bit_xor, length}
 use mathlib.Core.Logic.{◌≢◌}
-use mathlib.Core.Path.{◌≡◌, sym, ap, ◌∙◌}
 use native.Mathlib.Decide.{ℕ_discrete}
-use native.Mathlib.Nat.{le_trans, one-mul}
-use native.Mathlib.Omega.{arith}
 use lib.Arith.{digits_div}
-use lib.Bits.{bit_xor, xor_zero_r, xor_lt}
-use lib.ListN.{length}
+use lib.Bits.{xor_zero_r, xor_lt}
 use lib.Pow.{pow-lt}
 use Rattle.bits.specs.Bit.{digit, bit_at}
 use Rattle.bits.specs.Window.{turned}

@@ -6,13 +6,7 @@
 --   side_by sheet n wiring name           the side of these parts (specs Plan)
 -- Laws are named by their subject, then by the fact: `read-` is about the word that is read, `word-from-` about a word of which some digits are
 -- read. At the end of a name, `-readable` leads to what reading asks, `-one-more` is one more digit, `-zero` the zero block.
-use Prim.Native.Nat.{ℕ, ◌+◌, ◌*◌, ◌≤◌, ◌<◌}
-use mathlib.Core.List.{List, []}
-use mathlib.Core.Path.{◌≡◌, refl, sym, ap, ap₂, ◌∙◌}
-use native.Mathlib.Nat.{le_trans}
-use native.Mathlib.Omega.{arith}
-use lib.ListN.{length}
-use lib.Pow.{pow_mono}
+use Rattle.std.proofs.Common.{ℕ, ◌+◌, ◌*◌, ◌≤◌, ◌<◌, List, [], ◌≡◌, refl, sym, ap, ap₂, ◌∙◌, le_trans, arith, length, pow_mono}
 use Rattle.bits.specs.Window.{at, word_at}
 use Rattle.bits.specs.Bit.{word, bit_at}
 use Rattle.bits.proofs.Words.{word_lt, word-one-more, word-zero}

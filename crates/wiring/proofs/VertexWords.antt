@@ -9,20 +9,14 @@
 -- Laws are named by their subject, then by the fact: `vertex-` is about one word that is read, `scattered-` about digits that are
 -- written, `with_word-` about a word that is, `heard-` about a vertex that reads another word, `flips-` about the bits in which all words of a side differ. At the end of a name, `-lt` is a bound, `-ext` equality
 -- from the bits, `-same` and `-other` what is written to and what is not, `-fixed` a write of what stands there, `-one-more` one more digit.
-use Prim.Native.Nat.{ℕ, zero, suc, ◌+◌, ◌-◌, ◌*◌, ◌/◌, ◌^◌, ◌≤◌, ◌<◌}
-use mathlib.Core.Bool.{true, false}
-use mathlib.Core.List.{List}
-use mathlib.Core.Logic.{◌≢◌, ⊎_elim}
-use mathlib.Core.Path.{◌≡◌, refl, sym, ap, ◌∙◌}
+use Rattle.std.proofs.Common.{ℕ, zero, suc, ◌+◌, ◌-◌, ◌*◌, ◌/◌, ◌^◌, ◌≤◌, ◌<◌, true, false, List, ⊎_elim, ◌≡◌, refl, sym, ap, ◌∙◌, arith}
+use Rattle.std.proofs.Common.{eq-eqb, ne_eqb, le_trans, lt-suc_self, not-suc-le-zero, eq-or-lt_of_le, le_of_suc-le-suc, ne_of_lt, add-one}
+use Rattle.std.proofs.Common.{bit_xor, length, get_or}
+use mathlib.Core.Logic.{◌≢◌}
 use native.Mathlib.Decide.{ℕ_discrete}
-use native.Mathlib.Omega.{arith}
-use borrow.Author.Tests.{eq-eqb, ne_eqb}
-use native.Mathlib.Nat.{le_trans, le_step, lt-suc_self, not-suc-le-zero, eq-or-lt_of_le, le_of_suc-le-suc, ne_of_lt}
-use native.Mathlib.Numerals.{add-one}
+use native.Mathlib.Nat.{le_step}
 use lib.Arith.{digits_div}
-use lib.Bits.{bit_xor}
 use lib.Count.{ones}
-use lib.ListN.{length, get_or}
 use Rattle.bits.specs.Bit.{digit, bit_at, with_bit, flips}
 use Rattle.bits.specs.Sum.{sum, flag}
 use Rattle.bits.proofs.Sums.{sum-ext, sum-blocks, sum-reindex, flag_true, flag-false}

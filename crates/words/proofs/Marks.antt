@@ -6,15 +6,11 @@
 -- Laws are named by their subject, then by the fact: `marks-` is about where the marks stand, `marked-` about one more mark, `news-` about all
 -- marks of a side. At the end of a name, `-same` and `-other` are the vertex that is marked and any
 -- other, `-else` a number of the list that holds none of the marks meant, `-silent` a side without a mark.
-use Prim.Native.Nat.{ℕ, ◌+◌, ◌-◌, ◌*◌, ◌/◌, ◌%◌, ◌^◌, ◌≤◌, ◌<◌}
-use mathlib.Core.List.{List, []}
-use mathlib.Core.Path.{◌≡◌, refl, sym, ap, ap₂, ◌∙◌}
+use Rattle.std.proofs.Common.{ℕ, ◌+◌, ◌-◌, ◌*◌, ◌/◌, ◌%◌, ◌^◌, ◌≤◌, ◌<◌, List, [], ◌≡◌, refl, sym, ap, ap₂, ◌∙◌, div-add-mod'}
+use Rattle.std.proofs.Common.{div-lt_iff_lt-mul, mod-lt, mod-eq_of_lt, one-mul, zero-mul, arith, eq-eqb, ne_eqb, bit_xor, length, set}
+use Rattle.std.proofs.Common.{length-set}
 use native.Mathlib.Decide.{ℕ_discrete, dec_le}
-use native.Mathlib.Nat.{div-add-mod', div-lt_iff_lt-mul, mod-lt, mod-eq_of_lt, one-mul, zero-mul}
-use native.Mathlib.Omega.{arith}
-use borrow.Author.Tests.{eq-eqb, ne_eqb}
-use lib.Bits.{bit_xor, xor_zero_r}
-use lib.ListN.{length, set, length-set}
+use lib.Bits.{xor_zero_r}
 use lib.Pow.{pow-lt}
 use lib.Seq.{set-get_or}
 use Rattle.bits.specs.Bit.{digit, bit_at}

@@ -5,16 +5,10 @@
 --   scattered bit d at w m block      the block with the first m of the d digits of w put at the entries from `at` on (wiring specs Block)
 --   Rest .., Fresh ..                 what a loop that puts the highest one first still has to put, and that the bits it has to turn are as they were
 -- Laws are named `pattern-`, `rest-` or `fresh-` and then by the fact.
-use Prim.Native.Nat.{ℕ, zero, suc, ◌+◌, ◌-◌, ◌*◌, ◌^◌, ◌≤◌, ◌<◌}
-use mathlib.Core.List.{List}
-use mathlib.Core.Path.{◌≡◌, refl, sym, ap, ap₂, ◌∙◌}
-use native.Mathlib.Nat.{le_step, lt-suc_self, add-zero, add-suc, ne_of_lt, pow-suc}
-use native.Mathlib.Numerals.{add-one}
+use Rattle.std.proofs.Common.{ℕ, zero, suc, ◌+◌, ◌-◌, ◌*◌, ◌^◌, ◌≤◌, ◌<◌, List, ◌≡◌, refl, sym, ap, ap₂, ◌∙◌, lt-suc_self, add-zero}
+use Rattle.std.proofs.Common.{add-suc, ne_of_lt, pow-suc, add-one, arith, bit_xor, length, pow_mono}
+use native.Mathlib.Nat.{le_step}
 use native.Mathlib.Decide.{dec_le}
-use native.Mathlib.Omega.{arith}
-use lib.Bits.{bit_xor}
-use lib.ListN.{length}
-use lib.Pow.{pow_mono}
 use Rattle.bits.specs.Bit.{digit, bit_at, with_bit}
 use Rattle.bits.specs.Window.{turned}
 use Rattle.bits.proofs.Turning.{turned_none, length-turned, bit_at-turned-other}

@@ -4,13 +4,8 @@
 --   WordsRead, KeptUp            the right words are those of the block; the list goes with the block (specs Words, Marks)
 --   Putting plan name v pattern start kept₀ block kept rest   the ones of the pattern above `rest` are put: `block` and `kept` are left
 -- Laws of `Putting` are named `putting-` and then by the fact.
-use Prim.Native.Nat.{ℕ, ◌+◌, ◌-◌, ◌*◌, ◌/◌, ◌%◌, ◌^◌, ◌≤◌, ◌<◌}
-use mathlib.Core.List.{List, []}
-use mathlib.Core.Path.{◌≡◌, refl, sym, ap, ◌∙◌}
-use native.Mathlib.Nat.{div-lt_iff_lt-mul}
-use native.Mathlib.Omega.{arith}
-use lib.Bits.{bit_xor}
-use lib.ListN.{length, set, length-set}
+use Rattle.std.proofs.Common.{ℕ, ◌+◌, ◌-◌, ◌*◌, ◌/◌, ◌%◌, ◌^◌, ◌≤◌, ◌<◌, List, [], ◌≡◌, refl, sym, ap, ◌∙◌, div-lt_iff_lt-mul, arith}
+use Rattle.std.proofs.Common.{bit_xor, length, set, length-set}
 use Rattle.bits.specs.Bit.{bit_at}
 use Rattle.bits.specs.Window.{at, turned}
 use Rattle.inner_code.specs.Reply.{done}

@@ -2,14 +2,9 @@
 --   WordsRead side block words   the list holds the words that the vertices of a side read (specs Words)
 --   turned block e b             the block with its bit e turned where b is 1 (bits specs Window)
 -- Laws are named by their subject, then by the fact: `words-` is about the words.
-use Prim.Native.Nat.{ℕ, ◌+◌, ◌-◌, ◌*◌, ◌/◌, ◌%◌, ◌^◌, ◌≤◌, ◌<◌}
-use mathlib.Core.List.{List}
-use mathlib.Core.Path.{◌≡◌, sym, ap, ◌∙◌}
+use Rattle.std.proofs.Common.{ℕ, ◌+◌, ◌-◌, ◌*◌, ◌/◌, ◌%◌, ◌^◌, ◌≤◌, ◌<◌, List, ◌≡◌, sym, ap, ◌∙◌, div-add-mod', div-lt_iff_lt-mul, mod-lt}
+use Rattle.std.proofs.Common.{arith, bit_xor, length, set, length-set}
 use native.Mathlib.Decide.{ℕ_discrete}
-use native.Mathlib.Nat.{div-add-mod', div-lt_iff_lt-mul, mod-lt}
-use native.Mathlib.Omega.{arith}
-use lib.Bits.{bit_xor}
-use lib.ListN.{length, set, length-set}
 use Rattle.bits.specs.Window.{at, turned}
 use Rattle.bits.proofs.Turning.{length-turned}
 use Rattle.wiring.specs.Plan.{Side}

@@ -1,8 +1,5 @@
 -- `bits::bit` meets its contract: past the end the bit is 0, elsewhere it is a digit of the byte that holds it, moved.
-use Prim.Native.Nat.{◌/◌, ◌%◌}
-use mathlib.Core.Path.{sym}
-use native.Mathlib.Omega.{arith}
-use lib.ListN.{get_or}
+use Rattle.std.proofs.Common.{◌/◌, ◌%◌, sym, arith, get_or}
 use Rattle.bits.specs.Bit.{bit_at}
 use Rattle.bits.proofs.Bytes.{bit_at-past}
 use Rattle.bits.proofs.Windows.{digit-moved}

@@ -1,6 +1,5 @@
 -- `bits::byte` meets its contract: past the end the byte is 0, elsewhere it is the list's.
-use mathlib.Core.Path.{refl, sym}
-use native.Mathlib.Omega.{arith}
+use Rattle.std.proofs.Common.{refl, sym, arith}
 use lib.ListN.{get_or-eq_default}
 use Rattle.bits.specs.Window.{at}
 use Rattle.bits.proofs.byte.Goals as goal

@@ -1,8 +1,5 @@
 -- `bits::highest` meets its contract: a number that is not 0 has its highest digit behind its leading zeros.
-use Prim.Native.Nat.{ℕ, ◌+◌, ◌-◌, ◌^◌, ◌≤◌, ◌<◌}
-use mathlib.Core.Path.{◌≡◌}
-use native.Mathlib.Numerals.{add-one}
-use native.Mathlib.Omega.{arith}
+use Rattle.std.proofs.Common.{ℕ, ◌+◌, ◌-◌, ◌^◌, ◌≤◌, ◌<◌, ◌≡◌, add-one, arith}
 use lib.Count.{count_leading_zeros, leading_le, leading_top}
 use Rattle.bits.proofs.highest.Goals as goal
 

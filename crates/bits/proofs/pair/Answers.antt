@@ -1,7 +1,5 @@
 -- `bits::pair` meets its contract: each byte is below 256, so nothing wraps, and what is missing reads as 0.
-use mathlib.Core.Path.{refl, sym}
-use Prim.Native.Nat.{◌+◌}
-use native.Mathlib.Omega.{arith}
+use Rattle.std.proofs.Common.{refl, sym, ◌+◌, arith}
 use Rattle.bits.specs.Bit.{pair_at}
 use Rattle.bits.proofs.Bytes.{pair_at-past, pair_at-last}
 use Rattle.bits.proofs.pair.Goals as goal

@@ -1,9 +1,5 @@
 -- `bits::power` meets its contract: the shift drops no digit.
-use Prim.Native.Nat.{◌^◌}
-use mathlib.Core.Path.{◌∙◌}
-use native.Mathlib.Nat.{one-mul}
-use native.Mathlib.Omega.{arith}
-use lib.Pow.{shl_exact}
+use Rattle.std.proofs.Common.{◌^◌, ◌∙◌, one-mul, arith, shl_exact}
 use Rattle.bits.proofs.power.Goals as goal
 
 pub returns : goal.returns

@@ -1,11 +1,6 @@
 -- `bits::put_bit` meets its contract: within the byte string the code is the definition of `with_bit`, since the shift
 -- drops no digit, and past the end both leave the bytes alone.
-use mathlib.Core.Path.{sym, ap}
-use Prim.Native.Nat.{ℕ, ◌-◌, ◌/◌, ◌%◌}
-use native.Mathlib.Omega.{arith}
-use lib.Bits.{bit_xor}
-use lib.ListN.{get_or, set}
-use lib.Pow.{shl_exact}
+use Rattle.std.proofs.Common.{sym, ap, ℕ, ◌-◌, ◌/◌, ◌%◌, arith, bit_xor, get_or, set, shl_exact}
 use Rattle.bits.specs.Bit.{with_bit}
 use Rattle.bits.proofs.Bytes.{with_bit-past}
 use Rattle.bits.proofs.Xor.{digit_lt, xor-bits-lt}

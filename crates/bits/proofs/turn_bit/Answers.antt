@@ -1,12 +1,6 @@
 -- `bits::turn_bit` meets its contract: the shift drops no digit, so the byte that holds the bit has one digit turned, and past the end nothing is
 -- written.
-use mathlib.Core.Path.{sym, ap, ◌∙◌}
-use Prim.Native.Nat.{ℕ, ◌-◌, ◌/◌, ◌%◌, ◌^◌}
-use native.Mathlib.Nat.{one-mul}
-use native.Mathlib.Omega.{arith}
-use lib.Bits.{bit_xor}
-use lib.ListN.{get_or, set}
-use lib.Pow.{shl_exact}
+use Rattle.std.proofs.Common.{sym, ap, ◌∙◌, ℕ, ◌-◌, ◌/◌, ◌%◌, ◌^◌, one-mul, arith, bit_xor, get_or, set, shl_exact}
 use Rattle.bits.proofs.Turning.{turned-byte, turned-past}
 use Rattle.bits.proofs.turn_bit.Goals as goal
 

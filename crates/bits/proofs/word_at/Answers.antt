@@ -1,9 +1,5 @@
 -- `bits::word_at` meets its contract: the three bytes put together, cut at both ends.
-use mathlib.Core.Path.{ap₂, ◌∙◌}
-use Prim.Native.Nat.{ℕ, ◌+◌, ◌-◌, ◌*◌, ◌/◌, ◌%◌, ◌^◌, ◌≤◌, ◌<◌}
-use native.Mathlib.Nat.{mod-lt}
-use native.Mathlib.Omega.{arith}
-use lib.Pow.{pow_pos, pow_mono}
+use Rattle.std.proofs.Common.{ap₂, ◌∙◌, ℕ, ◌+◌, ◌-◌, ◌*◌, ◌/◌, ◌%◌, ◌^◌, ◌≤◌, ◌<◌, mod-lt, arith, pow_pos, pow_mono}
 use Rattle.bits.specs.Window.{at}
 use Rattle.bits.proofs.Windows.{shifted_one, word_at-window}
 use Rattle.bits.proofs.word_at.Goals as goal

@@ -1,5 +1,5 @@
 -- `c_api::done` meets its contract.
-use mathlib.Core.Path.{refl}
+use Rattle.std.proofs.Common.{refl}
 use Rattle.c_api.specs.Answer.{told}
 use Rattle.c_api.proofs.done.Goals as goal
 

@@ -1,6 +1,6 @@
 -- `c_api::lembikat_decode` meets its contract: what is told of each case of the service's answer is told of the defined reply, and the sums and
 -- visits are the service's.
-use mathlib.Core.Path.{refl}
+use Rattle.std.proofs.Common.{refl}
 use Rattle.decoder.specs.Answer.{decode_reply}
 use Rattle.c_api.specs.Answer.{told_decode}
 use Rattle.c_api.proofs.Telling.{telling-sums}

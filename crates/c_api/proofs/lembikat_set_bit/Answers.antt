@@ -1,5 +1,5 @@
 -- `c_api::lembikat_set_bit` meets its contract: what is told of the service's answer is told of the defined reply.
-use mathlib.Core.Path.{ap, ◌∙◌}
+use Rattle.std.proofs.Common.{ap, ◌∙◌}
 use Rattle.c_api.specs.Answer.{told_state}
 use Rattle.c_api.proofs.lembikat_set_bit.Goals as goal
 

@@ -1,5 +1,5 @@
 -- `c_api::refused` meets its contract.
-use mathlib.Core.Path.{refl}
+use Rattle.std.proofs.Common.{refl}
 use Rattle.c_api.specs.Answer.{told}
 use Rattle.c_api.proofs.refused.Goals as goal
 

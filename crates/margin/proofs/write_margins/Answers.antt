@@ -1,7 +1,5 @@
 -- `margin::write_margins` hands the parts of the input on, which lie in order within it, and what it writes is what is answered for them.
-use mathlib.Core.Path.{sym, ap, ◌∙◌}
-use native.Mathlib.Omega.{arith}
-use lib.Seq.{length-take-le}
+use Rattle.std.proofs.Common.{sym, ap, ◌∙◌, arith, length-take-le}
 use Rattle.radius.specs.Answer.{numbers_reply}
 use Rattle.margin.proofs.MarginInputs.{parts_within}
 use Rattle.margin.proofs.Outputs.{first-is}

@@ -1,9 +1,6 @@
 -- `report::count_runs` meets its contract: at bit i `start` is where the run that is open there begins, i where none is, and `count` is the
 -- number of runs that have ended. A stretch that agrees ends the open run and begins none.
-use borrow.Author.Rules.{rules}
-use mathlib.Core.Path.{◌≡◌, sym, ap, ◌∙◌}
-use Prim.Native.Nat.{◌+◌, ◌<◌}
-use native.Mathlib.Omega.{arith}
+use Rattle.std.proofs.Common.{rules, ◌≡◌, sym, ap, ◌∙◌, ◌+◌, ◌<◌, arith}
 use Rattle.report.specs.Report.{differs_at, run_count}
 use Rattle.report.proofs.Runs.{start-zero, start-one-more-inside, run_count-zero, run_count-le}
 use Rattle.report.proofs.Reporting.{inside-count, stretch-start, stretch-count-ends, stretch-count-none}

@@ -1,6 +1,5 @@
 -- `report::put_run` meets its contract: its four stores are those of the run's bytes.
-use native.Mathlib.Omega.{arith}
-use lib.ListN.{length-set}
+use Rattle.std.proofs.Common.{arith, length-set}
 use Rattle.report.proofs.Reporting.{stored-pair}
 use Rattle.report.proofs.put_run.Goals as goal
 

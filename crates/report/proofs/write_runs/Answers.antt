@@ -1,11 +1,6 @@
 -- `report::write_runs` meets its contract: at bit i `offset` is where the run that is open there begins, i where none is, and the runs that
 -- have ended stand at the front of the list, up to the index `at`.
-use borrow.Author.Rules.{rules}
-use mathlib.Core.List.{List}
-use mathlib.Core.Path.{◌≡◌, sym, ap, ◌∙◌}
-use Prim.Native.Nat.{ℕ, ◌+◌, ◌<◌}
-use native.Mathlib.Omega.{arith}
-use lib.ListN.{length}
+use Rattle.std.proofs.Common.{rules, List, ◌≡◌, sym, ap, ◌∙◌, ℕ, ◌+◌, ◌<◌, arith, length}
 use Rattle.bits.proofs.Fronts.{written_none}
 use Rattle.bits.specs.Bit.{written}
 use Rattle.report.proofs.Runs.{start-zero, start-one-more-inside, run_count-zero, run_count-le, run_bytes-zero}

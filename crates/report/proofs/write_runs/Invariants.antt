@@ -1,5 +1,4 @@
-use mathlib.Core.Path.{◌≡◌}
-use Prim.Native.Nat.{◌+◌, ◌-◌, ◌*◌, ◌≤◌}
+use Rattle.std.proofs.Common.{◌≡◌, ◌+◌, ◌-◌, ◌*◌, ◌≤◌}
 use Rattle.bits.specs.Bit.{written}
 use Rattle.report.specs.Report.{differs_at, run_start, run_count, run_bytes}
 use Rattle.report.proofs.write_runs.Given as goal

@@ -1,10 +1,7 @@
 -- `restored::restore` cannot fail: each of its expectations is one fact that the guarantee gives of a decoder call. The first call settles
 -- within the sweeps named (`answer`, `within`) on the sent block (`restored`); with the limit at the count answered it settles there
 -- (`settled`, `first`), and with one sweep less it is refused (`first`).
-use mathlib.Core.Path.{◌≡◌, refl, sym, ◌∙◌}
-use Prim.Native.Nat.{◌<◌}
-use native.Mathlib.Omega.{arith}
-use borrow.Author.Tests.{le-leb, eq-eqb}
+use Rattle.std.proofs.Common.{◌≡◌, refl, sym, ◌∙◌, ◌<◌, arith, le-leb, eq-eqb}
 use lib.Pointwise.{bytes_decides}
 use Rattle.wiring.specs.Square.{square_plan}
 use Rattle.radius.specs.Demand.{Restored}

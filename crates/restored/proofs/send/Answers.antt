@@ -1,6 +1,5 @@
 -- `restored::send` meets what it calls: the received block starts as the sent one, and three flips bring it at most three bits away.
-use mathlib.Core.Path.{ap, ◌∙◌}
-use lib.ListN.{length}
+use Rattle.std.proofs.Common.{ap, ◌∙◌, length}
 use Rattle.restored.specs.Sent.{Received}
 use Rattle.restored.proofs.SquarePlan.{received-flipped}
 use Rattle.restored.proofs.send.Goals as goal

@@ -1,7 +1,6 @@
 -- `restored::tell_apart` cannot fail: what the guarantee says without any decoder call gives its expectation. The codeword of zeros is not
 -- the one that was sent, so it differs from the received block in more bits than are covered.
-use native.Mathlib.Omega.{arith}
-use borrow.Author.Tests.{lt-ltb}
+use Rattle.std.proofs.Common.{arith, lt-ltb}
 use Rattle.wiring.specs.Square.{square_plan}
 use Rattle.radius.proofs.Guarantee.{demand3-alone}
 use Rattle.restored.specs.Sent.{sent_block}

@@ -1,10 +1,6 @@
 -- `spans::check_spans` meets its contract: after j turns the first j pairs have passed, and `before` is the end of the last of them. Each return is
 -- the outcome of the first test that refuses.
-use Prim.Native.Nat.{ℕ, ◌+◌, ◌/◌}
-use mathlib.Core.Path.{◌≡◌, sym, ap, ◌∙◌}
-use native.Mathlib.Numerals.{add-one}
-use native.Mathlib.Omega.{arith}
-use lib.ListN.{length}
+use Rattle.std.proofs.Common.{ℕ, ◌+◌, ◌/◌, ◌≡◌, sym, ap, ◌∙◌, add-one, arith, length}
 use Rattle.inner_code.specs.Reply.{refused}
 use Rattle.spans.specs.Spans.{end_of, end_before, span_check, pairs_check, spans_check}
 use Rattle.spans.proofs.Filling.{end_is}

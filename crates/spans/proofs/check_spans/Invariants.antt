@@ -1,5 +1,4 @@
-use mathlib.Core.List.{[]}
-use mathlib.Core.Path.{◌≡◌}
+use Rattle.std.proofs.Common.{[], ◌≡◌}
 use Rattle.inner_code.specs.Reply.{done}
 use Rattle.spans.specs.Spans.{end_before, pairs_check}
 use Rattle.spans.proofs.check_spans.Given as goal

@@ -1,8 +1,5 @@
 -- `spans::fill` meets its contract: after j turns the bits of the first j pairs are made, and all pairs hold exactly the lost bits.
-use borrow.Author.Rules.{rules}
-use Prim.Native.Nat.{ℕ, ◌%◌}
-use mathlib.Core.Path.{◌≡◌, sym, ap, ◌∙◌}
-use native.Mathlib.Omega.{arith}
+use Rattle.std.proofs.Common.{rules, ℕ, ◌%◌, ◌≡◌, sym, ap, ◌∙◌, arith}
 use Rattle.spans.specs.Spans.{pair_count}
 use Rattle.spans.specs.Walking.{pairs_made}
 use Rattle.spans.proofs.Filling.{pairs_made-zero, pairs_made-next, pairs_made-filled}

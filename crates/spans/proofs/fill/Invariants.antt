@@ -1,5 +1,4 @@
-use Prim.Native.Nat.{◌%◌}
-use mathlib.Core.Path.{◌≡◌}
+use Rattle.std.proofs.Common.{◌%◌, ◌≡◌}
 use Rattle.spans.specs.Walking.{pairs_made}
 use Rattle.spans.proofs.fill.Given as goal
 

@@ -1,7 +1,6 @@
 -- `spans::flips_between` meets its contract: the bits before the first whole byte, the whole bytes, and the bits behind the last one are all the
 -- bits.
-use Prim.Native.Nat.{◌+◌, ◌*◌, ◌/◌}
-use native.Mathlib.Omega.{arith}
+use Rattle.std.proofs.Common.{◌+◌, ◌*◌, ◌/◌, arith}
 use Rattle.spans.proofs.Gaps.{between-append}
 use Rattle.spans.proofs.flips_between.Goals as goal
 

@@ -1,9 +1,5 @@
 -- `spans::flips_of_bits` meets its contract: after i - from turns the bits from `from` to before i are counted.
-use borrow.Author.Rules.{rules}
-use Prim.Native.Nat.{◌+◌}
-use mathlib.Core.Path.{◌≡◌, sym, ap₂, ◌∙◌}
-use native.Mathlib.Omega.{arith}
-use lib.Bits.{bit_xor}
+use Rattle.std.proofs.Common.{rules, ◌+◌, ◌≡◌, sym, ap₂, ◌∙◌, arith, bit_xor}
 use Rattle.spans.specs.Walking.{flips_between}
 use Rattle.spans.proofs.Gaps.{between_none, between-end, between_le, between-one-more}
 use Rattle.spans.proofs.flips_of_bits.Goals as goal

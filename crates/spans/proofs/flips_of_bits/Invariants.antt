@@ -1,5 +1,4 @@
-use Prim.Native.Nat.{◌≤◌, max}
-use mathlib.Core.Path.{◌≡◌}
+use Rattle.std.proofs.Common.{◌≤◌, max, ◌≡◌}
 use Rattle.spans.specs.Walking.{flips_between}
 use Rattle.spans.proofs.flips_of_bits.Given as goal
 

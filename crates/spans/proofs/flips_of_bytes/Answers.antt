@@ -1,12 +1,6 @@
 -- `spans::flips_of_bytes` meets its contract: after i - first turns the bits of the bytes from `first` to before i are counted.
-use borrow.Author.Rules.{rules}
-use Prim.Native.Nat.{ℕ, ◌+◌, ◌-◌, ◌*◌, ◌≤◌, ◌<◌}
-use mathlib.Core.List.{List}
-use mathlib.Core.Path.{◌≡◌, sym, ap, ◌∙◌}
-use native.Mathlib.Omega.{arith}
-use lib.Bits.{bit_xor}
+use Rattle.std.proofs.Common.{rules, ℕ, ◌+◌, ◌-◌, ◌*◌, ◌≤◌, ◌<◌, List, ◌≡◌, sym, ap, ◌∙◌, arith, bit_xor, get_or}
 use lib.Count.{ones}
-use lib.ListN.{get_or}
 use Rattle.spans.specs.Walking.{flips_between}
 use Rattle.spans.proofs.Gaps.{between_none, between_le, between-byte-more}
 use Rattle.spans.proofs.flips_of_bytes.Goals as goal

@@ -1,5 +1,4 @@
-use Prim.Native.Nat.{◌*◌}
-use mathlib.Core.Path.{◌≡◌}
+use Rattle.std.proofs.Common.{◌*◌, ◌≡◌}
 use Rattle.spans.specs.Walking.{flips_between}
 use Rattle.spans.proofs.flips_of_bytes.Given as goal
 

@@ -1,10 +1,6 @@
 -- `spans::flips_outside` meets its contract: after j turns the gaps before the first j pairs are counted, and `reach` is the farthest end of
 -- these pairs. The count is at most that end, so no sum wraps.
-use borrow.Author.Rules.{rules}
-use Prim.Native.Nat.{ℕ, ◌+◌, ◌/◌}
-use mathlib.Core.Path.{◌≡◌, sym, ap, ap₂, ◌∙◌}
-use native.Mathlib.Omega.{arith}
-use lib.ListN.{length}
+use Rattle.std.proofs.Common.{rules, ℕ, ◌+◌, ◌/◌, ◌≡◌, sym, ap, ap₂, ◌∙◌, arith, length}
 use Rattle.spans.specs.Spans.{end_of}
 use Rattle.spans.specs.Walking.{flips_between, flips_in_gaps}
 use Rattle.spans.proofs.Filling.{end_is}

@@ -1,5 +1,4 @@
-use Prim.Native.Nat.{◌<◌}
-use mathlib.Core.Path.{◌≡◌}
+use Rattle.std.proofs.Common.{◌<◌, ◌≡◌}
 use Rattle.spans.specs.Walking.{reach, flips_in_gaps}
 use Rattle.spans.proofs.flips_outside.Given as goal
 

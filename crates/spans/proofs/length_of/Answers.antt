@@ -1,5 +1,5 @@
 -- `spans::length_of` meets its contract: the two bytes that it reads are those of `length_of`, and a two-byte number is below 65536.
-use borrow.Author.Rules.{rules}
+use Rattle.std.proofs.Common.{rules}
 use Rattle.spans.specs.Spans.{length_of}
 use Rattle.spans.proofs.length_of.Goals as goal
 

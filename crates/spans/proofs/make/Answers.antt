@@ -1,7 +1,6 @@
 -- `spans::make` meets its contract: the bits before the first whole byte, the whole bytes, and the bits behind the last one are all the bits, in
 -- their order.
-use Prim.Native.Nat.{◌+◌, ◌/◌, ◌%◌}
-use native.Mathlib.Omega.{arith}
+use Rattle.std.proofs.Common.{◌+◌, ◌/◌, ◌%◌, arith}
 use Rattle.spans.proofs.Filling.{made-parts}
 use Rattle.spans.proofs.make.Goals as goal
 

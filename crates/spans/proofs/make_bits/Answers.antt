@@ -1,8 +1,5 @@
 -- `spans::make_bits` meets its contract: after i - from turns the bits from `from` to before i are made.
-use Prim.Native.Nat.{ℕ, ◌+◌, ◌-◌, ◌%◌}
-use mathlib.Core.List.{List}
-use mathlib.Core.Path.{◌≡◌, sym, ap, ◌∙◌}
-use native.Mathlib.Omega.{arith}
+use Rattle.std.proofs.Common.{ℕ, ◌+◌, ◌-◌, ◌%◌, List, ◌≡◌, sym, ap, ◌∙◌, arith}
 use Rattle.bits.specs.Bit.{with_bit}
 use Rattle.spans.specs.Walking.{made}
 use Rattle.spans.proofs.Filling.{made_none, made-one-more}

@@ -1,5 +1,4 @@
-use Prim.Native.Nat.{◌-◌, ◌%◌}
-use mathlib.Core.Path.{◌≡◌}
+use Rattle.std.proofs.Common.{◌-◌, ◌%◌, ◌≡◌}
 use Rattle.spans.specs.Walking.{made}
 use Rattle.spans.proofs.make_bits.Given as goal
 

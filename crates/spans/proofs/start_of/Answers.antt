@@ -1,5 +1,5 @@
 -- `spans::start_of` meets its contract: the two bytes that it reads are those of `start_of`, and a two-byte number is below 65536.
-use borrow.Author.Rules.{rules}
+use Rattle.std.proofs.Common.{rules}
 use Rattle.spans.specs.Spans.{start_of}
 use Rattle.spans.proofs.start_of.Goals as goal
 

@@ -1,5 +1,5 @@
 -- `decoder::answer_by` meets its contract: a count within the limit is answered, and past it the received block is put back.
-use native.Mathlib.Omega.{arith}
+use Rattle.std.proofs.Common.{arith}
 use Rattle.decoder.proofs.Trials.{by-settled, by-unsettled}
 use Rattle.decoder.proofs.decoding.answer_by.Goals as goal
 

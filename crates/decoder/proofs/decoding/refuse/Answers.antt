@@ -1,5 +1,5 @@
 -- `decoder::refuse` meets its contract: its sums are zeros, and so is its number of visits.
-use mathlib.Core.Path.{refl}
+use Rattle.std.proofs.Common.{refl}
 use Rattle.decoder.proofs.decoding.refuse.Goals as goal
 
 pub returns : goal.returns

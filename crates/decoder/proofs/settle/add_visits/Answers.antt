@@ -1,5 +1,5 @@
 -- `decoder::add_visits` meets its contract: the number of the sweep is compared with the limit.
-use borrow.Author.Tests.{lt-ltb, le-ltb}
+use Rattle.std.proofs.Common.{lt-ltb, le-ltb}
 use Rattle.decoder.specs.Turns.{added_visits}
 use Rattle.decoder.proofs.settle.add_visits.Goals as goal
 

@@ -1,5 +1,5 @@
 -- `decoder::ended` meets its contract: the number of ties is compared with 0.
-use borrow.Author.Tests.{eq-eqb, ne_eqb}
+use Rattle.std.proofs.Common.{eq-eqb, ne_eqb}
 use Rattle.decoder.specs.Turns.{ended_to}
 use Rattle.decoder.proofs.settle.ended.Goals as goal
 

@@ -1,6 +1,5 @@
 -- `decoder::note` meets its contract: the sum is put in its place where both tests hold, and else nothing is.
-use mathlib.Core.Path.{sym}
-use native.Mathlib.Omega.{arith}
+use Rattle.std.proofs.Common.{sym, arith}
 use Rattle.decoder.proofs.SweepSums.{noted-told, noted-untold}
 use Rattle.decoder.proofs.settle.note.Goals as goal
 

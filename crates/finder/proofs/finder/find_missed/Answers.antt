@@ -1,5 +1,5 @@
 -- `finder::find_missed` meets its contract: each return leads to the nearest word, and what is kept is the sheet's.
-use mathlib.Core.Path.{sym, ◌∙◌}
+use Rattle.std.proofs.Common.{sym, ◌∙◌}
 use Rattle.finder.specs.Finding.{slot_of}
 use Rattle.finder.proofs.Finding.{finds-formed, pays-room, room-few, found-sought}
 use Rattle.finder.proofs.finder.find_missed.Goals as goal

@@ -1,5 +1,5 @@
 -- `finder::find_nearest` meets its contract: each return leads to the nearest word.
-use mathlib.Core.Path.{sym, ◌∙◌}
+use Rattle.std.proofs.Common.{sym, ◌∙◌}
 use Rattle.finder.specs.Finding.{slot_of}
 use Rattle.finder.proofs.Finding.{entry_lt, found-codeword, found-entry, found-kept}
 use Rattle.finder.proofs.finder.find_nearest.Goals as goal

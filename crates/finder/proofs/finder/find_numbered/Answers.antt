@@ -1,6 +1,5 @@
 -- `finder::find_numbered` meets its contract: the classes are numbered by the sheet's echelon form, and the word's has its entry.
-use Rattle.std.proofs.Common.{◌≡◌, ℕ, ◌-◌, ◌≤◌, List}
-use lib.ListN.{replicate}
+use Rattle.std.proofs.Common.{◌≡◌, ℕ, ◌-◌, ◌≤◌, List, replicate}
 use mathlib.Core.Path.{subst⁻¹}
 use Rattle.inner_code.specs.Reduction.{with_echelon}
 use Rattle.inner_code.specs.Sheet.{degree, row_count, row_of}

@@ -1,7 +1,5 @@
 -- `finder::is_codeword` meets its contract: what the rows leave is compared with 0.
-use mathlib.Core.Path.{ap}
-use Prim.Native.Nat.{ℕ}
-use lib.Dec.{eqb}
+use Rattle.std.proofs.Common.{ap, ℕ, eqb}
 use Rattle.finder.specs.Finding.{codeword_by}
 use Rattle.finder.proofs.finder.is_codeword.Goals as goal
 

@@ -1,9 +1,5 @@
 -- `finder::make_entries` meets its contract: the table that is filled is the sheet's.
-use mathlib.Core.Path.{ap, ◌∙◌}
-use mathlib.Core.List.{List, []}
-use Prim.Native.Nat.{ℕ, ◌/◌}
-use native.Mathlib.Omega.{arith}
-use lib.ListN.{length}
+use Rattle.std.proofs.Common.{ap, ◌∙◌, List, [], ℕ, ◌/◌, arith, length}
 use Rattle.inner_code.specs.Sheet.{degree}
 use Rattle.inner_code.proofs.SheetChecks.{sound}
 use Rattle.finder.specs.Finding.{entries_of, sheet_entries}

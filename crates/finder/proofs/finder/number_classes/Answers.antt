@@ -1,8 +1,7 @@
 -- `finder::number_classes` meets its contract: the parts of the finder are put anew one after the other.
-use Rattle.std.proofs.Common.{◌≡◌, ℕ, ◌-◌, ◌*◌, ◌%◌, ◌+◌, ◌^◌, ◌≤◌, List, [], ap, refl, ◌∙◌, length, get_or, take, set, replicate, min, arith, rules}
+use Rattle.std.proofs.Common.{◌≡◌, ℕ, ◌-◌, ◌*◌, ◌%◌, ◌+◌, ◌^◌, ◌≤◌, List, [], ap, refl, ◌∙◌, length, get_or, take, set, replicate, min}
+use Rattle.std.proofs.Common.{arith, rules, pow_mono, length-take-le}
 use lib.ListN.{length-replicate}
-use lib.Pow.{pow_mono}
-use lib.Seq.{length-take-le}
 use Rattle.bits.specs.Window.{at}
 use Rattle.inner_code.specs.Reduction.{reduced_by}
 use Rattle.inner_code.specs.Sheet.{degree, row_count}

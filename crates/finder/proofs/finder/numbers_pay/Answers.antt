@@ -1,6 +1,5 @@
 -- `finder::numbers_pay` meets its contract: past the first test there is room.
-use Rattle.std.proofs.Common.{◌≡◌, ℕ, ◌+◌, ◌*◌, ◌%◌, ◌^◌, ap, ◌∙◌, get_or, arith}
-use lib.Dec.{leb}
+use Rattle.std.proofs.Common.{◌≡◌, ℕ, ◌+◌, ◌*◌, ◌%◌, ◌^◌, ap, ◌∙◌, get_or, arith, leb}
 use Rattle.bits.proofs.Windows.{shifted_one}
 use Rattle.finder.specs.Finding.{digits_in}
 use Rattle.finder.proofs.Finding.{pays-short, pays-long}

@@ -1,7 +1,5 @@
 -- `finder::search` meets its contract: the part that is lent on holds the listed codewords.
-use mathlib.Core.Path.{ap, ◌∙◌}
-use Prim.Native.Nat.{◌+◌, ◌-◌}
-use native.Mathlib.Omega.{arith}
+use Rattle.std.proofs.Common.{ap, ◌∙◌, ◌+◌, ◌-◌, arith}
 use Rattle.inner_code.specs.Reduction.{step_to}
 use Rattle.finder.proofs.Finding.{search-part}
 use Rattle.finder.proofs.finder.search.Goals as goal

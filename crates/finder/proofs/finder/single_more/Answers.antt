@@ -1,5 +1,5 @@
 -- `finder::single_more` meets its contract: the first is kept, a second is one too many.
-use mathlib.Core.Path.{sym}
+use Rattle.std.proofs.Common.{sym}
 use Rattle.finder.proofs.Finding.{more-first, more-next}
 use Rattle.finder.proofs.finder.single_more.Goals as goal
 

@@ -1,6 +1,5 @@
 -- `finder::single_pattern` meets its contract: after b turns `found` tells of the powers of 2 below 2^b.
-use mathlib.Core.Path.{◌≡◌, sym, ap, ap₂, ◌∙◌}
-use native.Mathlib.Omega.{arith}
+use Rattle.std.proofs.Common.{◌≡◌, sym, ap, ap₂, ◌∙◌, arith}
 use Rattle.finder.specs.Finding.{left_in, single_more, single_below}
 use Rattle.bits.proofs.Windows.{shifted_one}
 use Rattle.finder.proofs.Finding.{single-few, single-all, single-start, single-met, single-missed}

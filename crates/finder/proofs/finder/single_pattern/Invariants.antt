@@ -1,4 +1,4 @@
-use mathlib.Core.Path.{◌≡◌}
+use Rattle.std.proofs.Common.{◌≡◌}
 use Rattle.finder.specs.Finding.{single_below}
 use Rattle.finder.proofs.finder.single_pattern.Given as goal
 

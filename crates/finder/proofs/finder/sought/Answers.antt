@@ -1,5 +1,5 @@
 -- `finder::sought` meets its contract: by the pattern of a single one where there is one, and else by a search.
-use mathlib.Core.Path.{ap, ◌∙◌}
+use Rattle.std.proofs.Common.{ap, ◌∙◌}
 use Rattle.inner_code.specs.Reduction.{step_to}
 use Rattle.finder.proofs.Finding.{sought-searched, sought-single}
 use Rattle.finder.proofs.finder.sought.Goals as goal

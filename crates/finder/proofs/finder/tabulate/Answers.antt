@@ -1,7 +1,5 @@
 -- `finder::tabulate` meets its contract: after b turns the numbers of b digits are listed.
-use Rattle.std.proofs.Common.{◌≡◌, ℕ, ◌+◌, ◌*◌, ◌^◌, ◌≤◌, List, refl, sym, ap, ◌∙◌, length, length-set, arith, add-one}
-use native.Mathlib.Nat.{pow-suc}
-use lib.Seq.{set-set}
+use Rattle.std.proofs.Common.{◌≡◌, ℕ, ◌+◌, ◌*◌, ◌^◌, ◌≤◌, List, refl, sym, ap, ◌∙◌, length, length-set, arith, add-one, pow-suc, set-set}
 use Rattle.bits.proofs.Windows.{shifted_one}
 use Rattle.inner_code.specs.Reduction.{doubled, listed, Doubles}
 use Rattle.inner_code.proofs.Listings.{listed-one-more, listed-again}

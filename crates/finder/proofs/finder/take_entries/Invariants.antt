@@ -1,4 +1,4 @@
-use mathlib.Core.Path.{◌≡◌}
+use Rattle.std.proofs.Common.{◌≡◌}
 use Rattle.finder.specs.Finding.{entries_of}
 use Rattle.finder.proofs.finder.take_entries.Given as goal
 

@@ -1,11 +1,5 @@
 -- `inner_code::double` meets its contract: after m turns the words 0 to m - 1 stand again, with the row on them, from `count` on.
-use mathlib.Core.Path.{◌≡◌, refl, sym, ap, ◌∙◌}
-use Prim.Native.Nat.{ℕ, ◌+◌}
-use borrow.Author.Rules.{rules}
-use native.Mathlib.Omega.{arith}
-use mathlib.Core.List.{List}
-use lib.ListN.{get_or, set, length-set}
-use lib.Bits.{bit_xor}
+use Rattle.std.proofs.Common.{◌≡◌, refl, sym, ap, ◌∙◌, ℕ, ◌+◌, rules, arith, List, get_or, set, length-set, bit_xor}
 use Rattle.inner_code.specs.Reduction.{doubled}
 use Rattle.inner_code.proofs.Listings.{doubled-one-more}
 use Rattle.inner_code.proofs.codewords.double.Goals as goal

@@ -1,14 +1,6 @@
 -- `inner_code::list_codewords` meets its contract: after i turns the codewords of the first i rows are listed.
-use mathlib.Core.Path.{◌≡◌, refl, sym, ap, ap₂, ◌∙◌}
-use mathlib.Core.List.{List}
-use Prim.Native.Nat.{ℕ, suc, ◌*◌, ◌≤◌, ◌%◌, ◌^◌, min}
-use borrow.Author.Rules.{rules}
-use native.Mathlib.Omega.{arith}
-use native.Mathlib.Nat.{pow-suc}
-use native.Mathlib.Numerals.{add-one}
-use lib.ListN.{length, set, length-set}
-use lib.Pow.{pow_mono, pow_pos}
-use lib.Seq.{set-set}
+use Rattle.std.proofs.Common.{◌≡◌, refl, sym, ap, ap₂, ◌∙◌, List, ℕ, suc, ◌*◌, ◌≤◌, ◌%◌, ◌^◌, min, rules, arith, pow-suc, add-one, length}
+use Rattle.std.proofs.Common.{set, length-set, pow_mono, pow_pos, set-set}
 use Rattle.inner_code.specs.Sheet.{row_of}
 use Rattle.inner_code.specs.Reduction.{doubled, listed}
 use Rattle.bits.proofs.Windows.{shifted_one}

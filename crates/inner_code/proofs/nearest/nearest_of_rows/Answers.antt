@@ -1,6 +1,5 @@
 -- `inner_code::nearest_of_rows` meets its contract: either array has room for the codewords that are listed there.
-use Rattle.std.proofs.Common.{arith}
-use lib.Pow.{pow_mono}
+use Rattle.std.proofs.Common.{arith, pow_mono}
 use Rattle.inner_code.proofs.Listings.{words-most}
 use Rattle.inner_code.proofs.nearest.nearest_of_rows.Goals as goal
 

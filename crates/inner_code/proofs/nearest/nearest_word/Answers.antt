@@ -1,8 +1,7 @@
 -- `inner_code::nearest_word` meets its contract: each return is the outcome of the first test that holds, and the search over the
 -- listed codewords finds the nearest word.
-use Rattle.std.proofs.Common.{arith, ◌≡◌, sym, ap, ap₂, ◌∙◌, refl, ℕ, ◌*◌, ◌%◌, ◌^◌, ◌<◌, ◌≤◌, min, [], ◌∷◌}
-use native.Mathlib.Nat.{min-eq_left, one-mul}
-use lib.Pow.{pow_mono}
+use Rattle.std.proofs.Common.{arith, ◌≡◌, sym, ap, ap₂, ◌∙◌, refl, ℕ, ◌*◌, ◌%◌, ◌^◌, ◌<◌, ◌≤◌, min, [], ◌∷◌, one-mul, pow_mono}
+use native.Mathlib.Nat.{min-eq_left}
 use Rattle.inner_code.specs.Reply.{done}
 use Rattle.inner_code.specs.Code.{combination}
 use Rattle.inner_code.specs.Reduction.{searched, step_to}

@@ -1,5 +1,5 @@
 -- `inner_code::sole` meets its contract: the two are compared.
-use mathlib.Core.Path.{sym}
+use Rattle.std.proofs.Common.{sym}
 use Rattle.inner_code.proofs.NearestWord.{sole-one, sole_none}
 use Rattle.inner_code.proofs.nearest.sole.Goals as goal
 

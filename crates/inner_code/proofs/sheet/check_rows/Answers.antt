@@ -1,11 +1,6 @@
 -- `inner_code::check_rows` meets its contract: after i turns the rows below i are sound, and their echelon form stands in `basis`.
-use mathlib.Core.Path.{◌≡◌, refl, sym, ap, ap₂, ◌∙◌}
-use mathlib.Core.List.{List}
-use Prim.Native.Nat.{ℕ, ◌≤◌, ◌<◌, ◌^◌, min}
-use borrow.Author.Rules.{rules}
-use native.Mathlib.Omega.{arith}
+use Rattle.std.proofs.Common.{◌≡◌, refl, sym, ap, ap₂, ◌∙◌, List, ℕ, ◌≤◌, ◌<◌, ◌^◌, min, rules, arith, length, set}
 use native.Mathlib.Nat.{min-eq_left}
-use lib.ListN.{length, set}
 use Rattle.bits.specs.Window.{at}
 use Rattle.bits.proofs.Windows.{shifted_one}
 use Rattle.inner_code.specs.Sheet.{row_of, rows_check}

@@ -1,7 +1,4 @@
-use mathlib.Core.Path.{◌≡◌}
-use mathlib.Core.List.{[]}
-use Prim.Native.Nat.{◌≤◌, ◌-◌, ◌^◌}
-use lib.ListN.{length}
+use Rattle.std.proofs.Common.{◌≡◌, [], ◌≤◌, ◌-◌, ◌^◌, length}
 use Rattle.inner_code.specs.Reply.{done}
 use Rattle.inner_code.specs.Sheet.{row_of, rows_check}
 use Rattle.inner_code.specs.Reduction.{with_echelon}

@@ -1,6 +1,5 @@
 -- `margin::count_behind` meets its contract: its test is that of the definition.
-use mathlib.Core.Path.{◌∙◌}
-use native.Mathlib.Omega.{arith}
+use Rattle.std.proofs.Common.{◌∙◌, arith}
 use Rattle.margin.proofs.MarginInputs.{count_cut, count-whole}
 use Rattle.margin.proofs.margin_input.count_behind.Goals as goal
 

@@ -1,7 +1,7 @@
 -- `meetings::measured_spread` meets its contract: the vertices that are noted are those of the wiring, and the walks over them count the
 -- meeting numbers.
-use Rattle.std.proofs.Common.{◌≤◌, ℕ, length}
-use lib.ListN.{replicate, length-replicate}
+use Rattle.std.proofs.Common.{◌≤◌, ℕ, length, replicate}
+use lib.ListN.{length-replicate}
 use Rattle.wiring.specs.Plan.{edge_count}
 use Rattle.wiring.specs.PlanParts.{plan_in}
 use Rattle.wiring.specs.declared.parts.CheckedPlan.{CheckedPlan}

@@ -1,7 +1,5 @@
 -- `panel::side_at` meets its contract: the sides take turns, so that a sweep is of the left side exactly if the number before it is even.
-use mathlib.Core.Path.{◌≡◌, refl, sym, ap}
-use Prim.Native.Nat.{ℕ, zero, suc, ◌%◌}
-use native.Mathlib.Omega.{arith}
+use Rattle.std.proofs.Common.{◌≡◌, refl, sym, ap, ℕ, zero, suc, ◌%◌, arith}
 use Rattle.wiring.specs.Plan.{left, right, other}
 use Rattle.sweeps.specs.Sweep.{turn}
 use Rattle.panel.proofs.sweep.side_at.Goals as goal

@@ -1,11 +1,6 @@
 -- `radius::chain` meets its contract: at the loop's head b stands at `place` in the chain, which steps to the side `to` next, so the
 -- answer is `counted place` of what is still to come, and a covered step makes b smaller. In range every product is far below 2 ^ 64.
-use Prim.Native.Nat.{ℕ, ◌+◌, ◌-◌, ◌*◌, ◌/◌, ◌^◌, ◌≤◌, ◌<◌}
-use mathlib.Core.Bool.{true}
-use mathlib.Core.Path.{◌≡◌, sym, ap, ap₂, ◌∙◌}
-use native.Mathlib.Nat.{mul-le-mul, mul-pos}
-use native.Mathlib.Omega.{arith}
-use borrow.Author.Rules.{rules}
+use Rattle.std.proofs.Common.{ℕ, ◌+◌, ◌-◌, ◌*◌, ◌/◌, ◌^◌, ◌≤◌, ◌<◌, true, ◌≡◌, sym, ap, ap₂, ◌∙◌, mul-le-mul, mul-pos, arith, rules}
 use Rattle.radius.specs.Margin.{slack, step_covered, next_bound}
 use Rattle.radius.specs.Ranges.{measures_by}
 use Rattle.wiring.specs.Plan.{right}

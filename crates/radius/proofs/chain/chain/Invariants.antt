@@ -1,5 +1,4 @@
-use Prim.Native.Nat.{◌+◌, ◌≤◌}
-use mathlib.Core.Path.{◌≡◌}
+use Rattle.std.proofs.Common.{◌+◌, ◌≤◌, ◌≡◌}
 use Rattle.radius.specs.Ranges.{measures_by}
 use Rattle.wiring.specs.Plan.{right}
 use Rattle.radius.proofs.MarginChain.{sweeps_from}

@@ -1,9 +1,6 @@
 -- `radius::sweeps_named` meets its contract: none are named for F above N, and else the answer is that of the chain from 2F/D, which is
 -- at most 2N.
-use Prim.Native.Nat.{◌*◌, ◌≤◌}
-use mathlib.Core.Path.{sym, ◌∙◌}
-use native.Mathlib.Nat.{div-le_self, le_trans}
-use native.Mathlib.Omega.{arith}
+use Rattle.std.proofs.Common.{◌*◌, ◌≤◌, sym, ◌∙◌, div-le_self, le_trans, arith}
 use Rattle.wiring.proofs.Permutation.{edges_le}
 use Rattle.wiring.specs.Plan.{left, right}
 use Rattle.radius.proofs.MarginChain.{named-is, named-over}

@@ -1,8 +1,5 @@
 -- `radius::measured_distance` meets its contract: the listed words are the codewords, and the fewest ones of these are the distance.
-use mathlib.Core.Path.{◌≡◌, ap, ◌∙◌}
-use Prim.Native.Nat.{ℕ, ◌-◌}
-use native.Mathlib.Omega.{arith}
-use lib.ListN.{length, take}
+use Rattle.std.proofs.Common.{◌≡◌, ap, ◌∙◌, ℕ, ◌-◌, arith, length, take}
 use Rattle.bits.specs.Window.{at}
 use Rattle.inner_code.specs.Reduction.{fewest_ones}
 use Rattle.inner_code.specs.Sheet.{row_of}

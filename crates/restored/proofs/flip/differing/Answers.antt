@@ -1,6 +1,5 @@
 -- `restored::flip::differing` meets its contract: each turn adds one term of the sum, which is at most 1.
-use Rattle.std.proofs.Common.{◌≡◌, ◌+◌, ◌<◌, sym, ap₂, ◌∙◌, arith}
-use lib.Bits.{bit_xor}
+use Rattle.std.proofs.Common.{◌≡◌, ◌+◌, ◌<◌, sym, ap₂, ◌∙◌, arith, bit_xor}
 use Rattle.bits.specs.Bit.{bit_at}
 use Rattle.bits.proofs.Flips.{flips-zero, flips-one-more, flips-bit}
 use Rattle.restored.proofs.flip.differing.Goals as goal

@@ -1,9 +1,7 @@
 -- `restored::flip::flip_one` meets its contract: one bit made other brings the block at most one bit further from the sent one.
-use native.Mathlib.Nat.{le_of_suc-le-suc}
-use native.Mathlib.Omega.{arith}
+use Rattle.std.proofs.Common.{le_of_suc-le-suc, arith, rules}
 use Rattle.bits.proofs.Bytes.{bit_at_lt}
 use Rattle.restored.proofs.Flips.{flipped-none, flipped-one}
-use borrow.Author.Rules.{rules}
 use Rattle.restored.proofs.flip.flip_one.Goals as goal
 
 pub overflow_sub-bit : goal.overflow_sub-bit

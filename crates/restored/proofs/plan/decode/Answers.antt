@@ -1,7 +1,5 @@
 -- `restored::plan::decode` meets its contract: the sheet and the wiring that it calls the decoder with are the plan's.
-use Prim.Native.Nat.{ℕ}
-use mathlib.Core.List.{List}
-use mathlib.Core.Path.{◌≡◌, ap₂}
+use Rattle.std.proofs.Common.{ℕ, List, ◌≡◌, ap₂}
 use Rattle.wiring.specs.Plan.{plan_of}
 use Rattle.wiring.specs.Square.{square_plan}
 use Rattle.restored.proofs.plan.decode.Goals as goal

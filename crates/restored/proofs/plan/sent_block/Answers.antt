@@ -1,5 +1,5 @@
 -- `restored::plan::sent_block` meets its contract: the bytes are the plan's.
-use mathlib.Core.Path.{refl}
+use Rattle.std.proofs.Common.{refl}
 use Rattle.restored.specs.Sent.{sent_block}
 use Rattle.restored.proofs.plan.sent_block.Goals as goal
 

@@ -1,5 +1,5 @@
 -- `restored::plan::square_wiring` meets its contract: the bytes are the plan's.
-use mathlib.Core.Path.{refl}
+use Rattle.std.proofs.Common.{refl}
 use Rattle.wiring.specs.Square.{square_wiring}
 use Rattle.restored.proofs.plan.square_wiring.Goals as goal
 

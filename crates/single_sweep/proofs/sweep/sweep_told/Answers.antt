@@ -1,9 +1,7 @@
 -- `single_sweep::sweep_told` meets its contract: after v vertices the block is the one with the first v visited, and `change` is how the true count
 -- has changed. A codeword stays; any other word takes its nearest one, which is a codeword unless it is a tie.
-use Rattle.std.proofs.Common.{◌≡◌, ℕ, ◌+◌, ◌-◌, ◌*◌, ◌≤◌, ◌<◌, Bool, true, false, not, List, [], length, refl, ap, ◌∙◌, arith}
-use mathlib.Core.Bool.{cond}
-use lib.Bits.{bit_xor}
-use lib.Dec.{eqb}
+use Rattle.std.proofs.Common.{◌≡◌, ℕ, ◌+◌, ◌-◌, ◌*◌, ◌≤◌, ◌<◌, Bool, true, false, not, List, [], length, refl, ap, ◌∙◌, arith, cond}
+use Rattle.std.proofs.Common.{bit_xor, eqb}
 use mir.Val.{bool_byte}
 use Rattle.inner_code.specs.Reply.{done}
 use Rattle.inner_code.specs.Sheet.{degree}

@@ -1,5 +1,5 @@
 -- `single_sweep::place_across` meets its contract: from the left it reads the place that is noted, from the right entry i.
-use native.Mathlib.Omega.{arith}
+use Rattle.std.proofs.Common.{arith}
 use Rattle.bits.specs.Window.{at}
 use Rattle.wiring.specs.Plan.{edge_of}
 use Rattle.single_sweep.specs.Telling.{across_from}

@@ -1,7 +1,6 @@
 -- `single_sweep::put_told` meets its contract: each turn puts the highest one of the rest on the block, and tells it to the vertex of the other side.
-use Rattle.std.proofs.Common.{◌≡◌, ℕ, ◌+◌, ◌-◌, ◌*◌, ◌≤◌, ◌<◌, List, [], length, refl, ap, ◌∙◌, arith}
+use Rattle.std.proofs.Common.{◌≡◌, ℕ, ◌+◌, ◌-◌, ◌*◌, ◌≤◌, ◌<◌, List, [], length, refl, ap, ◌∙◌, arith, pow_pos}
 use lib.Arith.{digits_lt}
-use lib.Pow.{pow_pos}
 use Rattle.bits.specs.Window.{turned}
 use Rattle.inner_code.specs.Reply.{done}
 use Rattle.inner_code.specs.Sheet.{degree}

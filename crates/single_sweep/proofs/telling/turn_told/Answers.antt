@@ -1,7 +1,6 @@
 -- `single_sweep::turn_told` meets its contract: of its side only one vertex reads the bit that is turned, and the word that it then reads is the one
 -- that it read with one digit turned.
-use Rattle.std.proofs.Common.{ℕ, ◌≤◌, ◌<◌, ap, ◌∙◌, arith, bit_xor}
-use native.Mathlib.Nat.{mod-lt}
+use Rattle.std.proofs.Common.{ℕ, ◌≤◌, ◌<◌, ap, ◌∙◌, arith, bit_xor, mod-lt}
 use Rattle.bits.specs.Window.{turned}
 use Rattle.wiring.specs.Plan.{left}
 use Rattle.wiring.specs.PlanParts.{plan_in}

@@ -1,10 +1,5 @@
 -- `sweeps::all_codewords` meets its contract: the words so far are codewords, or one is found that is none.
-use mathlib.Core.Bool.{true≢false}
-use mathlib.Core.List.{List, []}
-use mathlib.Core.Path.{◌≡◌, refl, sym, ◌∙◌}
-use Prim.Native.Nat.{ℕ}
-use native.Mathlib.Omega.{arith}
-use borrow.Author.Count.{below_more}
+use Rattle.std.proofs.Common.{true≢false, List, [], ◌≡◌, refl, sym, ◌∙◌, ℕ, arith, below_more}
 use Rattle.inner_code.specs.Sheet.{degree}
 use Rattle.inner_code.proofs.SheetChecks.{sound}
 use Rattle.finder.proofs.Finding.{member-means}

@@ -1,7 +1,4 @@
-use mathlib.Core.Bool.{true}
-use mathlib.Core.List.{List}
-use mathlib.Core.Path.{◌≡◌}
-use Prim.Native.Nat.{ℕ, ◌<◌}
+use Rattle.std.proofs.Common.{true, List, ◌≡◌, ℕ, ◌<◌}
 use Rattle.wiring.specs.Block.{satisfied}
 use Rattle.wiring.specs.Plan.{side_by}
 use Rattle.wiring.specs.declared.side.SideName.{SideName}

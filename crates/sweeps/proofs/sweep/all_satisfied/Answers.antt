@@ -1,7 +1,5 @@
 -- `sweeps::all_satisfied` meets its contract: the left words are those of the block, and so are the right ones that are kept.
-use mathlib.Core.Bool.{true}
-use mathlib.Core.Path.{◌≡◌, sym}
-use Prim.Native.Nat.{ℕ, ◌<◌}
+use Rattle.std.proofs.Common.{true, ◌≡◌, sym, ℕ, ◌<◌}
 use Rattle.wiring.specs.Block.{satisfied}
 use Rattle.wiring.specs.Plan.{side_of, left, right}
 use Rattle.wiring.specs.PlanParts.{plan_in}

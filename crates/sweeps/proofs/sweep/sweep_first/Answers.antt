@@ -1,10 +1,6 @@
 -- `sweeps::sweep_first` meets its contract: after v vertices the block is the one with the first v visited, `changed` counts the bits that
 -- changed and `ties` the vertices that wait. A codeword stays, and of any other word the step tells how many bits it changes.
-use mathlib.Core.Path.{◌≡◌}
-use Prim.Native.Nat.{◌<◌}
-use native.Mathlib.Nat.{le_of_lt}
-use native.Mathlib.Omega.{arith}
-use lib.Dec.{eqb}
+use Rattle.std.proofs.Common.{◌≡◌, ◌<◌, le_of_lt, arith, eqb}
 use Rattle.inner_code.specs.Sheet.{degree}
 use Rattle.finder.specs.Finding.{Found}
 use Rattle.finder.proofs.Finding.{member-means}

@@ -1,13 +1,8 @@
 -- `sweeps::sweep_news` meets its contract: below the vertex reached, every vertex with news is visited and every other one would stay. The marks of
 -- sixteen vertices are taken off the list at once, and from a number of their own one by one, the highest first.
-use mathlib.Core.List.{List}
-use mathlib.Core.Path.{◌≡◌, refl, sym, ap, ◌∙◌}
-use Prim.Native.Nat.{ℕ, ◌+◌, ◌*◌, ◌≤◌, ◌<◌}
+use Rattle.std.proofs.Common.{List, ◌≡◌, refl, sym, ap, ◌∙◌, ℕ, ◌+◌, ◌*◌, ◌≤◌, ◌<◌, le_refl, le_trans, le_of_eq, arith, length, get_or, set}
+use Rattle.std.proofs.Common.{pow_pos}
 use native.Mathlib.Decide.{ℕ_discrete}
-use native.Mathlib.Nat.{le_refl, le_trans, le_of_eq}
-use native.Mathlib.Omega.{arith}
-use lib.ListN.{length, get_or, set}
-use lib.Pow.{pow_pos}
 use Rattle.bits.specs.Window.{at}
 use Rattle.finder.specs.Finding.{Finds}
 use Rattle.wiring.specs.Plan.{Plan, sheet_of, count_of}

@@ -1,6 +1,4 @@
-use mathlib.Core.List.{List}
-use mathlib.Core.Path.{◌≡◌}
-use Prim.Native.Nat.{ℕ, ◌+◌, ◌*◌, ◌≤◌, ◌<◌}
+use Rattle.std.proofs.Common.{List, ◌≡◌, ℕ, ◌+◌, ◌*◌, ◌≤◌, ◌<◌}
 use Rattle.bits.specs.Window.{at}
 use Rattle.finder.specs.Finding.{Finds}
 use Rattle.wiring.specs.Plan.{Plan, sheet_of}

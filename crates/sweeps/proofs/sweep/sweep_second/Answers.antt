@@ -1,11 +1,6 @@
 -- `sweeps::sweep_second` meets its contract: after v vertices the block is the one with the first v visited, `changed` counts the bits that changed and
 -- `ties` the vertices that wait, and what is kept goes with the block. No mark of the right side is set.
-use mathlib.Core.Path.{◌≡◌, refl, ◌∙◌}
-use Prim.Native.Nat.{◌≤◌, ◌<◌}
-use native.Mathlib.Nat.{le_of_lt}
-use native.Mathlib.Omega.{arith}
-use lib.Dec.{eqb}
-use lib.ListN.{get_or}
+use Rattle.std.proofs.Common.{◌≡◌, refl, ◌∙◌, ◌≤◌, ◌<◌, le_of_lt, arith, eqb, get_or}
 use Rattle.bits.specs.Window.{at}
 use Rattle.finder.proofs.Finding.{Member, member-means}
 use Rattle.wiring.specs.Block.{vertex_word}

@@ -1,10 +1,5 @@
 -- `tables::build_table` meets its contract: each return is the outcome of the first test that holds, and the table is filled in place.
-use mathlib.Core.Path.{◌≡◌, sym, ap₂, ◌∙◌}
-use mathlib.Core.List.{List, ◌++◌}
-use Prim.Native.Nat.{ℕ, ◌*◌, ◌-◌, ◌%◌, ◌^◌}
-use native.Mathlib.Omega.{arith}
-use lib.ListN.{drop}
-use lib.Seq.{length-take-le}
+use Rattle.std.proofs.Common.{◌≡◌, sym, ap₂, ◌∙◌, List, ◌++◌, ℕ, ◌*◌, ◌-◌, ◌%◌, ◌^◌, arith, drop, length-take-le}
 use Rattle.bits.specs.Bit.{written}
 use Rattle.inner_code.proofs.Replies.{passed-on}
 use Rattle.inner_code.proofs.SheetChecks.{Accepted, accepted, turned-back}

@@ -1,7 +1,5 @@
 -- `tables::copy_with` meets its contract: after c turns the first c keys stand again.
-use Rattle.std.proofs.Common.{◌≡◌, ℕ, ◌+◌, ◌*◌, ◌/◌, ◌%◌, List, refl, ap, ◌∙◌, get_or, arith, rules}
-use lib.Bits.{bit_xor}
-use lib.Seq.{get_or-set_other}
+use Rattle.std.proofs.Common.{◌≡◌, ℕ, ◌+◌, ◌*◌, ◌/◌, ◌%◌, List, refl, ap, ◌∙◌, get_or, arith, rules, bit_xor, get_or-set_other}
 use Rattle.bits.specs.Window.{at}
 use Rattle.tables.proofs.Keys.{copied_more}
 use Rattle.tables.proofs.building.copy_with.Goals as goal

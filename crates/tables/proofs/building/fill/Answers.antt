@@ -1,7 +1,7 @@
 -- `tables::fill` meets its contract: after b turns every class that a pattern below 2^b reaches has its lightest one.
 use Rattle.std.proofs.Common.{◌≡◌, ℕ, ◌-◌, ◌*◌, ◌%◌, ◌^◌, ◌≤◌, ◌<◌, min, List, [], sym, ap, ◌∙◌, subst, length, get_or, arith, rules}
+use Rattle.std.proofs.Common.{pow_pos}
 use mathlib.Core.Path.{subst⁻¹}
-use lib.Pow.{pow_pos}
 use Rattle.bits.specs.Window.{at}
 use Rattle.bits.proofs.Windows.{shifted_one}
 use Rattle.inner_code.specs.Reduction.{reduced, reduced_by}

@@ -1,5 +1,5 @@
 -- `tables::fold` meets its contract: after c turns the first c classes, and those apart from them, are folded.
-use native.Mathlib.Omega.{arith}
+use Rattle.std.proofs.Common.{arith}
 use Rattle.tables.proofs.Keys.{folded-passed, folded_both, folded-same}
 use Rattle.tables.proofs.building.fold.Goals as goal
 use Rattle.tables.proofs.building.fold.Goals.{else-c-other, then-c-other}

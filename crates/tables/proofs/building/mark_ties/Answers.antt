@@ -1,9 +1,5 @@
 -- `tables::mark_ties` meets its contract: after c turns the first c classes have their entries.
-use mathlib.Core.Path.{ap, ◌∙◌}
-use Prim.Native.Nat.{◌+◌, ◌*◌}
-use native.Mathlib.Omega.{arith}
-use lib.ListN.{get_or}
-use lib.Seq.{get_or-set_other}
+use Rattle.std.proofs.Common.{ap, ◌∙◌, ◌+◌, ◌*◌, arith, get_or, get_or-set_other}
 use Rattle.tables.specs.Folding.{marked_byte}
 use Rattle.tables.proofs.Keys.{marked_more}
 use Rattle.tables.proofs.building.mark_ties.Goals as goal

@@ -1,5 +1,5 @@
 -- `tables::marked_byte` meets its contract.
-use mathlib.Core.Path.{sym}
+use Rattle.std.proofs.Common.{sym}
 use Rattle.tables.proofs.Keys.{byte-marked, byte-kept}
 use Rattle.tables.proofs.building.marked_byte.Goals as goal
 

@@ -1,9 +1,7 @@
 -- `tables::look_up` meets its contract: each return is the outcome of the first test that holds, and the entry that is read is that of the
 -- word's class.
-use Rattle.std.proofs.Common.{arith, rules, ◌≡◌, sym, ap, ◌∙◌, ℕ, ◌*◌, ◌-◌, ◌%◌, ◌^◌, ◌<◌, min, [], ◌∷◌}
-use lib.Bits.{bit_xor}
+use Rattle.std.proofs.Common.{arith, rules, ◌≡◌, sym, ap, ◌∙◌, ℕ, ◌*◌, ◌-◌, ◌%◌, ◌^◌, ◌<◌, min, [], ◌∷◌, bit_xor, pow_mono}
 use lib.Count.{ones}
-use lib.Pow.{pow_mono}
 use Rattle.bits.specs.Window.{at}
 use Rattle.bits.proofs.Windows.{shifted_one}
 use Rattle.inner_code.specs.Reply.{done}

@@ -1,9 +1,5 @@
 -- `tables::pattern_of` meets its contract.
-use mathlib.Core.Path.{◌≡◌, sym, ap, ◌∙◌}
-use Prim.Native.Nat.{ℕ, ◌*◌, ◌%◌, ◌^◌}
-use native.Mathlib.Omega.{arith}
-use mathlib.Core.Bool.{Bool, cond}
-use borrow.Author.Tests.{eq-eqb, ne_eqb}
+use Rattle.std.proofs.Common.{◌≡◌, sym, ap, ◌∙◌, ℕ, ◌*◌, ◌%◌, ◌^◌, arith, Bool, cond, eq-eqb, ne_eqb}
 use Rattle.bits.proofs.Windows.{shifted_one}
 use Rattle.tables.specs.Classes.{tie_mark}
 use Rattle.tables.proofs.looking.pattern_of.Goals as goal

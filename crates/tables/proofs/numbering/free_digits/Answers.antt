@@ -1,6 +1,5 @@
 -- `tables::free_digits` meets its contract: after i turns the highest digits of the first i rows are taken out.
-use Rattle.std.proofs.Common.{refl, sym, ap₂, ◌∙◌}
-use lib.Bits.{bit_xor}
+use Rattle.std.proofs.Common.{refl, sym, ap₂, ◌∙◌, bit_xor}
 use Rattle.bits.specs.Window.{at}
 use Rattle.tables.specs.Numbering.{free_mask}
 use Rattle.tables.proofs.Numbers.{mask-one-more}

@@ -1,4 +1,4 @@
-use mathlib.Core.Path.{◌≡◌}
+use Rattle.std.proofs.Common.{◌≡◌}
 use Rattle.bits.specs.Window.{at}
 use Rattle.tables.specs.Numbering.{free_mask}
 use Rattle.tables.proofs.numbering.free_digits.Given as goal

@@ -1,10 +1,5 @@
 -- `tables::squeeze` meets its contract: after b turns `number` is what the free digits below b make, and `place` how many they are.
-use mathlib.Core.Path.{refl, sym, ap, ap₂, ◌∙◌}
-use Prim.Native.Nat.{ℕ, ◌+◌, ◌*◌, ◌/◌, ◌%◌, ◌^◌, ◌<◌}
-use native.Mathlib.Omega.{arith}
-use native.Mathlib.Nat.{mul_assoc}
-use lib.Bits.{bit_xor}
-use lib.Pow.{shl_exact}
+use Rattle.std.proofs.Common.{refl, sym, ap, ap₂, ◌∙◌, ℕ, ◌+◌, ◌*◌, ◌/◌, ◌%◌, ◌^◌, ◌<◌, arith, mul_assoc, bit_xor, shl_exact}
 use Rattle.bits.specs.Bit.{digit}
 use Rattle.bits.specs.Sum.{sum}
 use Rattle.bits.proofs.Sums.{sum-one-more}

@@ -1,4 +1,4 @@
-use mathlib.Core.Path.{◌≡◌}
+use Rattle.std.proofs.Common.{◌≡◌}
 use Rattle.bits.specs.Bit.{digit}
 use Rattle.bits.specs.Sum.{sum}
 use Rattle.tables.specs.Numbering.{squeezed_by}

@@ -1,7 +1,5 @@
 -- `tables::top_digit` meets its contract.
-use mathlib.Core.Path.{sym, ◌∙◌}
-use Prim.Native.Nat.{◌-◌}
-use native.Mathlib.Omega.{arith}
+use Rattle.std.proofs.Common.{sym, ◌∙◌, ◌-◌, arith}
 use lib.Count.{count_leading_zeros}
 use Rattle.bits.proofs.Windows.{shifted_one}
 use Rattle.tables.proofs.Numbers.{top-none, top-some}

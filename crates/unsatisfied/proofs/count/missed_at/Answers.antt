@@ -1,5 +1,5 @@
 -- `unsatisfied::missed_at` meets its contract: it tests the word that the vertex reads.
-use mathlib.Core.Path.{ap, ◌∙◌}
+use Rattle.std.proofs.Common.{ap, ◌∙◌}
 use Rattle.unsatisfied.specs.Answer.{missed_of, missed_by}
 use Rattle.unsatisfied.proofs.count.missed_at.Goals as goal
 

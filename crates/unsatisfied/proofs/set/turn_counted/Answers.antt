@@ -1,6 +1,5 @@
 -- `unsatisfied::turn_counted` meets its contract: all but the two vertices that read the bit read the same word before and after.
-use mathlib.Core.Path.{◌≡◌, refl, ap, ◌∙◌}
-use lib.ListN.{length}
+use Rattle.std.proofs.Common.{◌≡◌, refl, ap, ◌∙◌, length}
 use Rattle.bits.proofs.Turning.{length-turned}
 use Rattle.unsatisfied.proofs.BitChange.{degree-left, degree-right, left-readable, right-readable, change-turned}
 use Rattle.unsatisfied.proofs.set.turn_counted.Goals as goal

@@ -1,7 +1,5 @@
 -- `wiring::edge_at` meets its contract: it reads the two bytes of entry i.
-use Prim.Native.Nat.{◌*◌, ◌+◌}
-use mathlib.Core.Path.{refl}
-use native.Mathlib.Omega.{arith}
+use Rattle.std.proofs.Common.{◌*◌, ◌+◌, refl, arith}
 use Rattle.bits.specs.Bit.{pair_at}
 use Rattle.wiring.specs.Plan.{edge_of}
 use Rattle.wiring.proofs.access.edge_at.Goals as goal

@@ -1,8 +1,5 @@
 -- `wiring::gathered` meets its contract: after j turns `scaled` is 128 times the bits of the first j entries, and every bit is in the block.
-use mathlib.Core.Path.{◌≡◌, refl, sym, ap, ◌∙◌}
-use Prim.Native.Nat.{ℕ, ◌*◌, ◌/◌, ◌%◌, ◌<◌}
-use native.Mathlib.Omega.{arith}
-use lib.ListN.{get_or}
+use Rattle.std.proofs.Common.{◌≡◌, refl, sym, ap, ◌∙◌, ℕ, ◌*◌, ◌/◌, ◌%◌, ◌<◌, arith, get_or}
 use Rattle.bits.specs.Bit.{bit_at}
 use Rattle.bits.proofs.Windows.{digit-moved}
 use Rattle.wiring.specs.Plan.{edge_of}

@@ -1,5 +1,4 @@
-use mathlib.Core.Path.{◌≡◌}
-use Prim.Native.Nat.{◌*◌}
+use Rattle.std.proofs.Common.{◌≡◌, ◌*◌}
 use Rattle.wiring.specs.Plan.{edge_of}
 use Rattle.wiring.specs.Access.{word_from}
 use Rattle.wiring.proofs.access.gathered.Given as goal

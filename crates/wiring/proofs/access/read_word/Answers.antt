@@ -1,5 +1,5 @@
 -- `wiring::read_word` meets its contract: a left vertex's bits are read in a row, a right vertex's bit by bit.
-use mathlib.Core.Path.{sym, ap, ◌∙◌}
+use Rattle.std.proofs.Common.{sym, ap, ◌∙◌}
 use Rattle.wiring.specs.Plan.{side_bit, right}
 use Rattle.wiring.specs.Access.{read_word, Readable}
 use Rattle.wiring.specs.declared.side.SideName.{SideName}

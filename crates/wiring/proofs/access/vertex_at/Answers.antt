@@ -1,6 +1,5 @@
 -- `wiring::vertex_at` meets its contract: each arm divides by d.
-use mathlib.Core.Path.{sym, ap}
-use Prim.Native.Nat.{ℕ, ◌/◌}
+use Rattle.std.proofs.Common.{sym, ap, ℕ, ◌/◌}
 use Rattle.wiring.proofs.access.vertex_at.Goals as goal
 
 pub returns-then-d-eq16 : goal.returns-then-d-eq16

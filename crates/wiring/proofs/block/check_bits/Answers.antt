@@ -1,10 +1,6 @@
 -- `wiring::check_bits` meets its contract: with the right length only the last byte can hold a bit after the last, and it holds one
 -- exactly if a low digit of it is set.
-use mathlib.Core.Path.{◌≡◌, sym, ◌∙◌}
-use Prim.Native.Nat.{ℕ, ◌*◌, ◌%◌, ◌^◌, ◌<◌}
-use native.Mathlib.Nat.{one-mul}
-use native.Mathlib.Omega.{arith}
-use lib.Pow.{pow_pos, shl_exact}
+use Rattle.std.proofs.Common.{◌≡◌, sym, ◌∙◌, ℕ, ◌*◌, ◌%◌, ◌^◌, ◌<◌, one-mul, arith, pow_pos, shl_exact}
 use Rattle.wiring.specs.Block.{block_bytes}
 use Rattle.wiring.proofs.Blocks.{bits-unsized, bits-whole, bits-low-clear, bits-low-set}
 use Rattle.wiring.proofs.block.check_bits.Goals as goal

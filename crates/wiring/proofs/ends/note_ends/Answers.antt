@@ -1,10 +1,6 @@
 -- `wiring::note_ends` meets its contract: after i turns the ends that the first i entries name are noted, and since no edge stands twice no
 -- later turn writes over one of them.
-use mathlib.Core.Path.{◌≡◌, refl}
-use Prim.Native.Nat.{◌<◌}
-use native.Mathlib.Nat.{div-le_self}
-use native.Mathlib.Omega.{arith}
-use lib.ListN.{length-set}
+use Rattle.std.proofs.Common.{◌≡◌, refl, ◌<◌, div-le_self, arith, length-set}
 use Rattle.bits.proofs.Lists.{kept-start, kept_set}
 use Rattle.wiring.proofs.EdgeEnds.{noted-none, noted-one-more}
 use Rattle.wiring.proofs.ends.note_ends.Goals as goal

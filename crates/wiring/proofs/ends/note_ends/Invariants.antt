@@ -1,5 +1,4 @@
-use mathlib.Core.Path.{◌≡◌}
-use lib.ListN.{length}
+use Rattle.std.proofs.Common.{◌≡◌, length}
 use Rattle.bits.specs.Window.{KeptFrom}
 use Rattle.wiring.specs.Plan.{edge_of}
 use Rattle.wiring.specs.Ends.{Noted}

@@ -1,8 +1,5 @@
 -- `wiring::note_places` meets its contract: after i turns the places of the first i entries' edges are noted, and no later entry has one of them.
-use mathlib.Core.Path.{◌≡◌, refl, ◌∙◌}
-use Prim.Native.Nat.{◌/◌, ◌<◌}
-use native.Mathlib.Omega.{arith}
-use lib.ListN.{length, length-set}
+use Rattle.std.proofs.Common.{◌≡◌, refl, ◌∙◌, ◌/◌, ◌<◌, arith, length, length-set}
 use Rattle.bits.proofs.Lists.{kept-start, kept_set}
 use Rattle.wiring.proofs.EdgePlaces.{places-more}
 use Rattle.wiring.proofs.places.note_places.Goals as goal

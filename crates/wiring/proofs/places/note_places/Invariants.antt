@@ -1,6 +1,4 @@
-use mathlib.Core.Path.{◌≡◌}
-use Prim.Native.Nat.{ℕ, ◌<◌}
-use lib.ListN.{length}
+use Rattle.std.proofs.Common.{◌≡◌, ℕ, ◌<◌, length}
 use Rattle.bits.specs.Window.{at, KeptFrom}
 use Rattle.wiring.specs.Plan.{edge_of}
 use Rattle.wiring.proofs.places.note_places.Given as goal

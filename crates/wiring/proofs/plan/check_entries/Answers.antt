@@ -1,6 +1,5 @@
 -- `wiring::check_entries` meets its contract: after i turns the first i entries have passed, and `seen` has a bit for each of their edges.
-use mathlib.Core.Path.{◌≡◌, refl, sym, ap, ◌∙◌}
-use native.Mathlib.Omega.{arith}
+use Rattle.std.proofs.Common.{◌≡◌, refl, sym, ap, ◌∙◌, arith}
 use Rattle.wiring.specs.Plan.{edge_of}
 use Rattle.wiring.specs.Wiring.{entries_check}
 use Rattle.wiring.specs.Access.{none_seen, seen_after}

@@ -1,5 +1,4 @@
-use mathlib.Core.Path.{◌≡◌}
-use mathlib.Core.List.{[]}
+use Rattle.std.proofs.Common.{◌≡◌, []}
 use Rattle.inner_code.specs.Reply.{done}
 use Rattle.wiring.specs.Plan.{edge_of}
 use Rattle.wiring.specs.Wiring.{entries_check}

@@ -1,8 +1,5 @@
 -- `wiring::check_wiring` meets its contract: each return is the outcome of the first test that holds.
-use mathlib.Core.Bool.{false}
-use mathlib.Core.Path.{◌≡◌, sym, ◌∙◌}
-use Prim.Native.Nat.{◌*◌, ◌≤◌}
-use native.Mathlib.Omega.{arith}
+use Rattle.std.proofs.Common.{false, ◌≡◌, sym, ◌∙◌, ◌*◌, ◌≤◌, arith}
 use Rattle.wiring.specs.Wiring.{count_faulty}
 use Rattle.wiring.proofs.Permutation.{edges_le, count-range, wiring-left-count, wiring-right-count}
 use Rattle.wiring.proofs.Permutation.{wiring-differing, wiring-unsized, wiring-entries}

@@ -1,11 +1,8 @@
 -- `wiring::every_edge_stands` meets its contract: after i turns of the first loop no edge of the first i entries is above `digits` and `marks`
 -- has a 1 for each of them; after e turns of the second `least` is the least of the first e marks.
-use Rattle.std.proofs.Common.{arith, ◌≡◌, refl, sym, ap, ◌∙◌, ◌+◌, ℕ, List, ◌-◌, min, eqb-true}
-use lib.Pow.{pow_pos}
+use Rattle.std.proofs.Common.{arith, ◌≡◌, refl, sym, ap, ◌∙◌, ◌+◌, ℕ, List, ◌-◌, min, eqb-true, pow_pos, not-suc-le-zero, length-set}
 use Rattle.bits.proofs.Searches.{least-one-more}
-use native.Mathlib.Nat.{not-suc-le-zero}
 use lib.Bits.{and_le_r}
-use lib.ListN.{length-set}
 use Rattle.bits.specs.Window.{at}
 use Rattle.bits.specs.Search as Search
 use Rattle.wiring.specs.Plan.{edge_of}

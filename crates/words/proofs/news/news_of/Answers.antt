@@ -1,5 +1,5 @@
 -- `words::news_of` meets its contract: the marks of the left side stand behind the words, those of the right side behind them.
-use mathlib.Core.Path.{sym, ap}
+use Rattle.std.proofs.Common.{sym, ap}
 use Rattle.words.specs.Marks.{news_of}
 use Rattle.words.proofs.news.news_of.Goals as goal
 

@@ -1,9 +1,7 @@
 -- `words::put_left` meets its contract: each turn puts the highest one of the rest on the block and tells the right vertex at the other end of its
 -- edge.
-use Rattle.std.proofs.Common.{ℕ, ◌+◌, ◌-◌, ◌*◌, ◌/◌, ◌<◌, refl, ap, arith}
-use native.Mathlib.Nat.{div-lt_iff_lt-mul}
+use Rattle.std.proofs.Common.{ℕ, ◌+◌, ◌-◌, ◌*◌, ◌/◌, ◌<◌, refl, ap, arith, div-lt_iff_lt-mul, pow_pos}
 use lib.Arith.{digits_lt}
-use lib.Pow.{pow_pos}
 use Rattle.bits.specs.Window.{at}
 use Rattle.wiring.specs.Plan.{Plan, side_bit, edge_count, left, right, other}
 use Rattle.wiring.specs.PlanParts.{plan_in}

@@ -1,9 +1,6 @@
 -- `words::put_pattern` meets its contract: each turn puts the highest one of the rest on the block, and the block with the rest on it stays the
 -- same.
-use mathlib.Core.Path.{refl}
-use Prim.Native.Nat.{◌<◌}
-use native.Mathlib.Omega.{arith}
-use lib.Pow.{pow_pos}
+use Rattle.std.proofs.Common.{refl, ◌<◌, arith, pow_pos}
 use Rattle.words.proofs.Patterns.{rest-none, rest-high, rest_more}
 use Rattle.words.proofs.pattern.put_pattern.Goals as goal
 use Rattle.words.proofs.pattern.put_pattern.Goals.{After-highest-high}

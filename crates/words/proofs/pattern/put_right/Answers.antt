@@ -1,11 +1,8 @@
 -- `words::put_right` meets its contract: each turn puts the highest one of the rest on the block and on the vertex's own word, and marks the left
 -- vertex of the bit.
-use Rattle.std.proofs.Common.{ℕ, ◌≡◌, ◌+◌, ◌-◌, ◌*◌, ◌/◌, ◌%◌, ◌^◌, ◌<◌, ◌∙◌, refl, sym, ap, ap₂, arith}
-use native.Mathlib.Nat.{div-lt_iff_lt-mul}
+use Rattle.std.proofs.Common.{ℕ, ◌≡◌, ◌+◌, ◌-◌, ◌*◌, ◌/◌, ◌%◌, ◌^◌, ◌<◌, ◌∙◌, refl, sym, ap, ap₂, arith, div-lt_iff_lt-mul, bit_xor, set}
+use Rattle.std.proofs.Common.{length-set, pow_pos}
 use lib.Arith.{digits_lt, digits_div, digits_mod}
-use lib.Bits.{bit_xor}
-use lib.ListN.{set, length-set}
-use lib.Pow.{pow_pos}
 use Rattle.bits.specs.Window.{at}
 use Rattle.inner_code.specs.Sheet.{degree}
 use Rattle.wiring.specs.Plan.{Plan, side_bit, edge_of, edge_count, left, right, other}

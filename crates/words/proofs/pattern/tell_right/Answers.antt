@@ -1,11 +1,6 @@
 -- `words::tell_right` meets its contract: one digit of the word is turned, and the vertex is marked.
-use mathlib.Core.List.{List}
-use mathlib.Core.Path.{◌≡◌, ◌∙◌, ap, ap₂}
-use Prim.Native.Nat.{ℕ, ◌+◌, ◌-◌, ◌*◌, ◌%◌, ◌^◌}
-use native.Mathlib.Nat.{div-add-mod', mod-lt}
-use native.Mathlib.Omega.{arith}
-use lib.Bits.{bit_xor}
-use lib.ListN.{get_or, set, length-set}
+use Rattle.std.proofs.Common.{List, ◌≡◌, ◌∙◌, ap, ap₂, ℕ, ◌+◌, ◌-◌, ◌*◌, ◌%◌, ◌^◌, div-add-mod', mod-lt, arith, bit_xor, get_or, set}
+use Rattle.std.proofs.Common.{length-set}
 use Rattle.bits.specs.Window.{at}
 use Rattle.wiring.specs.declared.side.SideName.{SideName}
 use Rattle.words.specs.Marks.{news_of, marked, told_right}

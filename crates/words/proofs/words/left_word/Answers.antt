@@ -1,9 +1,6 @@
 -- `words::left_word` meets its contract: eight bits from the first of a byte on are the byte, and sixteen are two of them.
-use Prim.Native.Nat.{ℕ, ◌*◌, ◌/◌, ◌<◌}
-use mathlib.Core.List.{List}
-use mathlib.Core.Path.{◌≡◌, sym, ap, ◌∙◌}
-use native.Mathlib.Omega.{arith}
-use lib.ListN.{get_or, get_or-eq_default}
+use Rattle.std.proofs.Common.{ℕ, ◌*◌, ◌/◌, ◌<◌, List, ◌≡◌, sym, ap, ◌∙◌, arith, get_or}
+use lib.ListN.{get_or-eq_default}
 use Rattle.bits.specs.Bit.{pair_at}
 use Rattle.bits.specs.Window.{word_at}
 use Rattle.bits.proofs.Windows.{word_at-byte, word_at-pair}

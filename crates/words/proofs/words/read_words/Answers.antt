@@ -1,7 +1,5 @@
 -- `words::read_words` meets its contract: after v turns the list has the words of the first v right vertices.
-use Rattle.std.proofs.Common.{ℕ, ◌≡◌, ◌+◌, ◌*◌, ◌≤◌, ◌<◌, ◌∙◌, refl, length, arith}
-use native.Mathlib.Nat.{le_trans}
-use lib.ListN.{length-set}
+use Rattle.std.proofs.Common.{ℕ, ◌≡◌, ◌+◌, ◌*◌, ◌≤◌, ◌<◌, ◌∙◌, refl, length, arith, le_trans, length-set}
 use Rattle.bits.proofs.Lists.{at_set_other}
 use Rattle.wiring.specs.Access.{word_from}
 use Rattle.wiring.specs.Block.{vertex_word}

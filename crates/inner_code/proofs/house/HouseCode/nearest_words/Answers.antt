@@ -1,5 +1,5 @@
 -- `inner_code::HouseCode::nearest_words` meets its contract: it hands out the table, whose rule holds at each entry.
-use mathlib.Core.Path.{refl}
+use Rattle.std.proofs.Common.{refl}
 use Rattle.inner_code.proofs.HouseWords.{house_words, house_words-rule}
 use Rattle.inner_code.proofs.house.HouseCode.nearest_words.Goals as goal
 

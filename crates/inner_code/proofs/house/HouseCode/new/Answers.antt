@@ -1,5 +1,5 @@
 -- `inner_code::HouseCode::new` meets its contract: the constants are the house code's values.
-use mathlib.Core.Path.{refl}
+use Rattle.std.proofs.Common.{refl}
 use Rattle.inner_code.specs.House.{house_code}
 use Rattle.inner_code.proofs.house.HouseCode.new.Goals as goal
 

@@ -1,5 +1,5 @@
 -- `inner_code::HouseCode::sheet` meets its contract: the bytes are the house sheet.
-use mathlib.Core.Path.{refl}
+use Rattle.std.proofs.Common.{refl}
 use Rattle.inner_code.specs.House.{house_sheet}
 use Rattle.inner_code.proofs.house.HouseCode.sheet.Goals as goal
 
