@@ -17,6 +17,7 @@ pub fn read_full<R: Read>(input: &mut R, space: &mut [u8]) -> io::Result<usize>
     ensures err { OnErr result ((n : ℕ) × (n ≤ length space.new) × Consumes (R.remaining input.old) (R.remaining input.new) (take n space.new)) }
 {
     let mut done: usize = 0;
+    // A while: each read gives as many bytes as it likes, and no index counts them.
     while done < space.len() {
         let got = input.read(&mut space[done..])?;
         if got == 0 {

@@ -181,7 +181,9 @@ fn sweep_news(
     News { changed, visits }
 }
 
-// Visits a vertex: puts the nearest word there, and tells how many bits that changes.
+// Visits a vertex: puts the nearest word there, and tells how many bits that changes. It is put into the loops that call it, which saves a call
+// at each vertex.
+#[inline(always)]
 fn visit(
     plan: &CheckedPlan<'_>,
     vertex: Vertex,

@@ -209,14 +209,7 @@ fn decode_around(
     let mut space = [0u8; SPACE];
     let size = input::bytes(from, &mut space)?;
     let limit = input::number(from)?;
-    decode(
-        rt,
-        plan,
-        received,
-        lost,
-        &mut space[..size],
-        limit as usize,
-    )
+    decode(rt, plan, received, lost, &mut space[..size], limit as usize)
 }
 
 fn decode(
