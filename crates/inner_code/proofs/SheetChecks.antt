@@ -6,7 +6,6 @@
 use Rattle.std.proofs.Common.{Result, Ok, Err, ◌≡◌, refl, sym, ap, ◌∙◌, subst, ◌⊎◌, ⊎_elim, Bool, false, not, ◌||◌, List, [], ◌∷◌, ℕ, zero}
 use Rattle.std.proofs.Common.{suc, ◌+◌, ◌*◌, ◌^◌, ◌≤◌, ◌<◌, not-suc-le-zero, lt-suc_self, add-one, arith, le-leb, leb-false, ltb-false}
 use Rattle.std.proofs.Common.{lt-ltb, le-ltb, eq-eqb, ne_eqb, eqb-true, ltb, leb, eqb, length, get_or, replicate}
-use mathlib.Core.Path.{subst⁻¹}
 use mathlib.Core.Bool.{false≢true}
 use native.Mathlib.Nat.{le-suc_iff, suc_inj, le_step}
 use borrow.Author.Tests.{lt-leb, not-false}

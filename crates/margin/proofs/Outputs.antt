@@ -5,7 +5,7 @@
 --   InRange p, measures_by p                of radius: nine numbers in the range that has every plan's, and the measures that they give
 -- `first-` laws speak of the first line, `numbers-` laws of its numbers, `line-` laws of the lines of covered F (-covered, -sweeps), `last-`
 -- laws of the last line.
-use Rattle.std.proofs.Common.{Result, Ok, Err, ℕ, ◌-◌, ◌<◌, List, [], ◌≡◌, refl, ap, ◌∙◌, le_refl, length, take, drop, length-drop}
+use Rattle.std.proofs.Common.{Ok, ℕ, ◌-◌, ◌<◌, List, [], ◌≡◌, refl, ap, ◌∙◌, le_refl, length, take, drop, length-drop}
 use Rattle.std.proofs.Common.{take_all}
 use Rattle.inner_code.specs.Reply.{done}
 use Rattle.wiring.specs.Plan.{plan_of}
@@ -13,7 +13,6 @@ use Rattle.wiring.specs.Wiring.{plan_check}
 use Rattle.radius.specs.Margin.{Measures, sweeps_named, beyond}
 use Rattle.radius.specs.Answer.{measures_of, margin_of, numbers_of, in_order, numbers_answer}
 use Rattle.radius.specs.Ranges.{measures_by, InRange}
-use Rattle.inner_code.specs.declared.refusal.Refusal.{Refusal}
 use Rattle.radius.specs.declared.numbers.PlanNumbers.{PlanNumbers}
 use Rattle.radius.proofs.MeasuredNumbers.{numbers-known}
 use Rattle.radius.proofs.PlanRanges.{measures-plan, plan-within}

@@ -5,7 +5,7 @@
 --   sweeps_of                        how a call ended (specs Outcome)
 -- Names: `decode-` is about a call: its tests pass (-passed), and no row before 15 stops it (-free), so the guarantee holds of it
 -- (-restored); the limit is the count at which the block settles (-at), or one less (-before). `outcome-` reads an answer of the code.
-use Rattle.std.proofs.Common.{Result, Ok, Err, refl, ap, ◌≡◌, List, [], ◌∷◌, true, false, ℕ, ◌-◌, ◌≤◌, ◌<◌, le_refl, arith, eq-eqb, length}
+use Rattle.std.proofs.Common.{Result, Ok, Err, refl, ap, ◌≡◌, List, [], ◌∷◌, true, false, ℕ, ◌-◌, ◌≤◌, ◌<◌, le_refl, arith, length}
 use Rattle.inner_code.specs.Reply.{done, refused}
 use Rattle.wiring.specs.Square.{square_plan}
 use Rattle.spans.proofs.Checking.{spans-none}

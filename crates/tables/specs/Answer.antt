@@ -9,7 +9,7 @@ use Rattle.std.specs.Prelude.{ℕ, ◌*◌, ◌-◌, ◌%◌, ◌^◌, cond, Lis
 use Rattle.std.specs.Int.Bits.{bit_xor}
 use Rattle.std.specs.Int.Count.{ones}
 use Rattle.bits.specs.Bit.{pair_at, written}
-use Rattle.inner_code.specs.Reply.{Reply, done, refused, refuse_if, and_then, if_done}
+use Rattle.inner_code.specs.Reply.{Reply, done, refuse_if, and_then, if_done}
 use Rattle.inner_code.specs.Sheet.{degree, row_count, row_of, sheet_check}
 use Rattle.tables.specs.Classes.{class_of, tie_mark, entries_below}
 use Rattle.inner_code.specs.Refusal.{check_reply}

@@ -39,7 +39,8 @@ pub fn read_words(plan: &CheckedPlan<'_>, block: &[u8], kept: &mut [u16; KEPT])
     ensures still_cleared { Cleared kept.new }
 {
     let d = plan.right.d;
+    let wiring = plan.parts.wiring;
     for v in 0..plan.parts.nr {
-        kept[v] = wiring::gathered(plan.parts.wiring, v * d, d, block);
+        kept[v] = wiring::gathered(wiring, v * d, d, block);
     }
 }

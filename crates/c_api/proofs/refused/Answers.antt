@@ -1,5 +1,4 @@
 -- `c_api::refused` meets its contract.
-use Rattle.std.proofs.Common.{refl}
 use Rattle.c_api.specs.Answer.{told}
 use Rattle.c_api.proofs.refused.Goals as goal
 

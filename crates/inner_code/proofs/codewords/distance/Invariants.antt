@@ -1,4 +1,4 @@
-use Rattle.std.proofs.Common.{◌≡◌, ◌≤◌, ◌-◌, length}
+use Rattle.std.proofs.Common.{◌≡◌}
 use Rattle.bits.specs.Window.{at}
 use Rattle.inner_code.specs.Reduction.{fewest_ones}
 use Rattle.inner_code.proofs.codewords.distance.Given as goal

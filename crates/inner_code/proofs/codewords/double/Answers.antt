@@ -1,5 +1,5 @@
 -- `inner_code::double` meets its contract: after m turns the words 0 to m - 1 stand again, with the row on them, from `count` on.
-use Rattle.std.proofs.Common.{◌≡◌, refl, sym, ap, ◌∙◌, ℕ, ◌+◌, rules, arith, List, get_or, set, length-set, bit_xor}
+use Rattle.std.proofs.Common.{◌≡◌, refl, sym, ap, ◌∙◌, ℕ, ◌+◌, arith, List, get_or, set, length-set, bit_xor}
 use Rattle.inner_code.specs.Reduction.{doubled}
 use Rattle.inner_code.proofs.Listings.{doubled-one-more}
 use Rattle.inner_code.proofs.codewords.double.Goals as goal

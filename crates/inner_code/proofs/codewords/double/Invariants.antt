@@ -1,4 +1,4 @@
-use Rattle.std.proofs.Common.{◌≡◌, ◌≤◌, ◌-◌, length}
+use Rattle.std.proofs.Common.{◌≡◌, length}
 use Rattle.inner_code.specs.Reduction.{doubled}
 use Rattle.inner_code.proofs.codewords.double.Given as goal
 

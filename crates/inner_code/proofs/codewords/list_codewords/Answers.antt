@@ -1,5 +1,5 @@
 -- `inner_code::list_codewords` meets its contract: after i turns the codewords of the first i rows are listed.
-use Rattle.std.proofs.Common.{◌≡◌, refl, sym, ap, ap₂, ◌∙◌, List, ℕ, suc, ◌*◌, ◌≤◌, ◌%◌, ◌^◌, min, rules, arith, pow-suc, add-one, length}
+use Rattle.std.proofs.Common.{◌≡◌, refl, sym, ap, ap₂, ◌∙◌, List, ℕ, suc, ◌*◌, ◌≤◌, ◌%◌, ◌^◌, min, arith, pow-suc, add-one, length}
 use Rattle.std.proofs.Common.{set, length-set, pow_mono, pow_pos, set-set}
 use Rattle.inner_code.specs.Sheet.{row_of}
 use Rattle.inner_code.specs.Reduction.{doubled, listed}

@@ -1,4 +1,4 @@
-use Rattle.std.proofs.Common.{◌≡◌, ◌≤◌, ◌-◌, ◌^◌, length}
+use Rattle.std.proofs.Common.{◌≡◌, ◌^◌, length}
 use Rattle.inner_code.specs.Sheet.{row_of}
 use Rattle.inner_code.specs.Reduction.{listed}
 use Rattle.inner_code.proofs.codewords.list_codewords.Given as goal

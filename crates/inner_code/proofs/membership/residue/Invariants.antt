@@ -1,4 +1,4 @@
-use Rattle.std.proofs.Common.{◌≡◌, ◌≤◌}
+use Rattle.std.proofs.Common.{◌≡◌}
 use Rattle.bits.specs.Window.{at}
 use Rattle.inner_code.specs.Reduction.{reduced_by}
 use Rattle.inner_code.proofs.membership.residue.Given as goal

@@ -1,9 +1,8 @@
 -- `inner_code::list_and_search` meets its contract: the listed words are the codewords.
-use Rattle.std.proofs.Common.{arith, ◌≡◌, ap, ◌∙◌, ℕ, ◌-◌, ◌^◌, ◌≤◌, min, length, replicate}
+use Rattle.std.proofs.Common.{arith, ap, ◌∙◌, ℕ, ◌^◌, ◌≤◌, min, length, replicate}
 use lib.ListN.{length-replicate}
-use Rattle.bits.specs.Window.{at}
 use Rattle.inner_code.specs.Sheet.{row_of}
-use Rattle.inner_code.specs.Reduction.{searched, step_to}
+use Rattle.inner_code.specs.Reduction.{step_to}
 use Rattle.inner_code.proofs.Listings.{lists-fits, front-searched}
 use Rattle.inner_code.proofs.nearest.list_and_search.Goals as goal
 

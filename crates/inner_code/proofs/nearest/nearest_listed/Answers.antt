@@ -1,5 +1,5 @@
 -- `inner_code::nearest_listed` meets its contract: after m turns `least` and `back` are the least keys of the patterns to the first m words.
-use Rattle.std.proofs.Common.{arith, rules, ◌≡◌, sym, ap, ap₂, ◌∙◌, ℕ, ◌<◌, ◌-◌, ◌^◌, ◌%◌, min, length, get_or, bit_xor}
+use Rattle.std.proofs.Common.{arith, rules, ◌≡◌, sym, ap, ap₂, ◌∙◌, ℕ, ◌-◌, ◌%◌, min, length, get_or, bit_xor}
 use lib.Bits.{xor_lt}
 use lib.Count.{ones-le}
 use Rattle.bits.specs.Window.{at}

@@ -1,4 +1,4 @@
-use Rattle.std.proofs.Common.{◌≡◌, ◌≤◌, ◌-◌, length}
+use Rattle.std.proofs.Common.{◌≡◌}
 use Rattle.bits.specs.Window.{at}
 use Rattle.inner_code.specs.Reduction.{least_key, least_back}
 use Rattle.inner_code.proofs.nearest.nearest_listed.Given as goal

@@ -1,6 +1,5 @@
 -- `inner_code::check_into` meets its contract: each return is the outcome of the first test that holds.
 use Rattle.std.proofs.Common.{arith, sym, ◌∙◌, refl, inl, inr}
-use Rattle.inner_code.specs.Refusal.{number_of}
 use Rattle.inner_code.specs.Sheet.{degree, row_count}
 use Rattle.inner_code.specs.declared.refusal.Refusal.{Refusal}
 use Rattle.inner_code.proofs.SheetChecks.{refused-into, sheet-short, sheet-degree, sheet-count, sheet-length, sheet-rows-answer}

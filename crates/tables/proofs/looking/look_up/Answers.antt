@@ -1,6 +1,6 @@
 -- `tables::look_up` meets its contract: each return is the outcome of the first test that holds, and the entry that is read is that of the
 -- word's class.
-use Rattle.std.proofs.Common.{arith, rules, ◌≡◌, sym, ap, ◌∙◌, ℕ, ◌*◌, ◌-◌, ◌%◌, ◌^◌, ◌<◌, min, [], ◌∷◌, bit_xor, pow_mono}
+use Rattle.std.proofs.Common.{arith, ◌≡◌, sym, ap, ◌∙◌, ℕ, ◌*◌, ◌-◌, ◌%◌, ◌^◌, ◌<◌, min, [], ◌∷◌, bit_xor, pow_mono}
 use lib.Count.{ones}
 use Rattle.bits.specs.Window.{at}
 use Rattle.bits.proofs.Windows.{shifted_one}

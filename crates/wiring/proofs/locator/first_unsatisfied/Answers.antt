@@ -1,5 +1,5 @@
 -- `wiring::first_unsatisfied` meets its contract: within a side all vertices before v pass the test, and on the right side all of the left did.
-use Rattle.std.proofs.Common.{arith, ◌≡◌, refl, sym, ap, ◌∙◌, ℕ, zero, suc, ◌+◌, ◌<◌, ◌≤◌, List, [], ◌∷◌, slice_index_or}
+use Rattle.std.proofs.Common.{arith, ◌≡◌, sym, ap, ◌∙◌, ℕ, zero, suc, ◌+◌, ◌<◌, ◌≤◌, List, [], ◌∷◌, slice_index_or}
 use Rattle.wiring.specs.Plan.{left, right}
 use Rattle.wiring.specs.Access.{both_codes, unsatisfied_by}
 use Rattle.wiring.specs.declared.side.SideCode.{SideCode}
