@@ -351,7 +351,7 @@ lembikat_state_answer lembikat_load_state(const uint8_t *left_sheet, size_t left
  * and the call at sweep number 4,096 is LEMBIKAT_SWEEPS_SPENT. From a bit set in a state whose count is true the same holds of
  * the block as it then is.
  *   state: count, sweep number and block after the sweep; untouched with a refusal.  value, sweeps: its count and sweep number.
- *   Refusals: the plan's, then 11 for the state's length and 12 for its block, 28.  Stack: at most 112 KiB. */
+ *   Refusals: the plan's, then 11 for the state's length and 12 for its block, 28.  Stack: at most 110 KiB. */
 lembikat_state_answer lembikat_sweep_state(const uint8_t *left_sheet, size_t left_sheet_bytes, const uint8_t *right_sheet,
                                            size_t right_sheet_bytes, size_t nl, size_t nr, const uint8_t *wiring,
                                            size_t wiring_bytes, uint8_t *state, size_t state_bytes);

@@ -1,11 +1,11 @@
 -- A list whose beginning is written over.
 --   written front l   the list l with `front` at its beginning (specs Bit)
 --   sets l i vs       the list l with `vs` stored from index i on (lib.Seq)
--- Laws are named `written-` and the fact: -none is the list before a write, -start, -one-more and -all are the turns of a copy, -part is what
+-- Laws are named `written-` and the fact: -none is the list before a write, -one-more and _all are the turns of a copy, -part is what
 -- is lent on, -over the whole when the part comes back, -again a second write, -more what is stored behind the front, -clear one more zero
 -- element of a front of zeros, -with_bit one bit of the front that is written.
 use Rattle.std.proofs.Common.{ℕ, suc, ◌+◌, ◌-◌, ◌*◌, ◌/◌, ◌%◌, ◌≤◌, ◌<◌, List, [], ◌++◌, ◌≡◌, refl, sym, ap, ap₂, ◌∙◌, add-one, arith}
-use Rattle.std.proofs.Common.{length, get_or, set, take, drop, replicate, length-append, length-drop, drop-cons, drop-drop}
+use Rattle.std.proofs.Common.{length, get_or, set, take, drop, replicate, length-append, length-drop, length-take-le, take-suc, take_all, drop-cons, drop-drop}
 use lib.ListN.{length-replicate, replicate-append-replicate, get_or-append}
 use lib.Seq.{set_at, append_snoc, take-append_seam}
 use lib.Seq.{drop-append_seam, sets, sets-eq, drop-append-add, set-append_left}
@@ -19,6 +19,19 @@ written_none l = refl
 pub length-written : (front l : List ℕ) → length front ≤ length l → length (written front l) ≡ length l
 unfolding written
 length-written front l h = simp (length-append, length-drop) (omega arith)
+
+-- one more element of the front is copied
+pub written-one-more : (front l : List ℕ) (i : ℕ) → i < length front → length front ≤ length l
+    → set (written (take i front) l) i (get_or front i 0) ≡ written (take (i + 1) front) l
+unfolding written
+written-one-more front l i h room =
+    let sized : length (take i front) ≡ i = length-take-le i front (omega arith) in
+    let more : length (take (suc i) front) ≡ suc i = length-take-le (suc i) front h in
+    rw (add-one, sized, more, take-suc front i 0 h, drop-cons l i 0 (omega arith))
+    (set_at (take i front) _ _ _ i sized ∙ sym (append_snoc (take i front) _ _))
+
+pub written_all : (front l : List ℕ) (i : ℕ) → i ≡ length front → written (take i front) l ≡ written front l
+written_all front l i e = ap (λ (s : List ℕ). written s l) (take_all i front (omega arith))
 
 -- ---- a copy that is lent on
 

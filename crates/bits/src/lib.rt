@@ -116,10 +116,12 @@ pub fn power(i: usize) -> u16
     1u16 << i
 }
 
-// Copies bytes to the front of a buffer.
+// Copies bytes to the front of a buffer: by a loop, since std's copy_from_slice calls memmove, which the archive may not ask of its host.
 pub fn copy_front(from: &[u8], to: &mut [u8])
     requires { length from.now ≤ length to.old }
     ensures { to.new ≡ written from.now to.old }
 {
-    to[..from.len()].copy_from_slice(from);
+    for i in 0..from.len() {
+        to[i] = from[i];
+    }
 }

@@ -1,7 +1,7 @@
 -- `report::count_runs` meets its contract: at bit i `start` is where the run that is open there begins, i where none is, and `count` is the
 -- number of runs that have ended. A stretch that agrees ends the open run and begins none.
-use Rattle.std.proofs.Common.{rules, ◌≡◌, sym, ap, ◌∙◌, ◌+◌, ◌<◌, arith}
-use Rattle.report.specs.Report.{differs_at, run_count}
+use Rattle.std.proofs.Common.{rules, sym, ◌∙◌, ◌<◌, arith}
+use Rattle.report.specs.Report.{differs_at}
 use Rattle.report.proofs.Runs.{start-zero, start-one-more-inside, run_count-zero, run_count-le}
 use Rattle.report.proofs.Reporting.{inside-count, stretch-start, stretch-count-ends, stretch-count-none}
 use Rattle.report.proofs.count_runs.Goals as goal
@@ -41,9 +41,3 @@ loop-i-preserved c =
         | else-start-i w ↦ omega (arith, stretch-count-none test before.i same.result some same.ensures.each (omega arith))
       ]),
     )
-
-pub returns : goal.returns
-returns c =
-    let args = c.args in
-    let end : c.loop-i.i ≡ args.edges + 1 = omega arith in
-    c.loop-i.invariant.2 ∙ ap (run_count (differs_at args.received.now args.settled.now)) end

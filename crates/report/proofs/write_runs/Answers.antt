@@ -1,12 +1,12 @@
 -- `report::write_runs` meets its contract: at bit i `offset` is where the run that is open there begins, i where none is, and the runs that
 -- have ended stand at the front of the list, up to the index `at`.
-use Rattle.std.proofs.Common.{rules, List, ◌≡◌, sym, ap, ◌∙◌, ℕ, ◌+◌, ◌<◌, arith, length}
+use Rattle.std.proofs.Common.{rules, List, ◌≡◌, sym, ap, ◌∙◌, ℕ, ◌<◌, arith, length}
 use Rattle.bits.proofs.Fronts.{written_none}
 use Rattle.bits.specs.Bit.{written}
 use Rattle.report.proofs.Runs.{start-zero, start-one-more-inside, run_count-zero, run_count-le, run_bytes-zero}
 use Rattle.report.proofs.Reporting.{inside-count, inside-bytes, stretch-start, stretch-count-ends, stretch-count-none, stretch-bytes-none}
 use Rattle.report.proofs.Reporting.{written-length, written-room, written-ends}
-use Rattle.report.specs.Report.{differs_at, run_bytes}
+use Rattle.report.specs.Report.{differs_at}
 use Rattle.report.proofs.write_runs.Goals as goal
 use Rattle.report.proofs.write_runs.Goals.{At-loop-i, else-offset-i, then-offset-i}
 
@@ -82,13 +82,3 @@ loop-i-preserved c =
             (sym (stretch-bytes-none test before.i same.result some same.ensures.each (omega arith)))
       ]),
     )
-
-pub shape_of-list : goal.shape_of-list
-shape_of-list c = kept (goal.at.shape_of-list c).At-loop-i
-
-pub returns : goal.returns
-returns c =
-    let args = c.args in
-    let end : c.loop-i.i ≡ args.edges + 1 = omega arith in
-    c.loop-i.invariant.3
-    ∙ ap (λ (m : ℕ). written (run_bytes (differs_at args.received.now args.settled.now) m) args.list.now) end

@@ -1,6 +1,6 @@
 -- `meetings::count_edges` meets its contract: after i turns each count has risen by the number of the first i entries with that left
 -- vertex. No count can wrap, since d entries put at most 16 on it.
-use Rattle.std.proofs.Common.{◌≡◌, ◌+◌, ◌<◌, length, arith}
+use Rattle.std.proofs.Common.{◌+◌, ◌<◌, length, arith}
 use Rattle.bits.specs.Window.{at}
 use Rattle.meetings.proofs.Walks.{length-part, part-at, counted_none, counted-one-more, counted-low}
 use Rattle.meetings.proofs.spread.count_edges.Goals as goal
@@ -45,8 +45,3 @@ loop-left-preserved c =
     rw (part-at args.lefts.now args.from args.d before.left-index (below turn))
     (counted-one-more (at args.lefts.now) args.from before.left-index args.counts.now before.counts before.auto.counts
     (c.requires.left_lt before.left-index (below turn)) before.invariant)
-
-pub returns : goal.returns
-returns c =
-    let end : c.loop-left.left-index ≡ c.args.d = omega (arith, length-part c.args.lefts.now c.args.from c.args.d c.requires.inside) in
-    rw end at c.loop-left.invariant

@@ -1,19 +1,12 @@
 -- `meetings::unevenness_of` meets its contract: after w turns `sum` is the sum over the first w counts. Each summand is at most 2^19, so
 -- that 2,048 of them fit 32 bits.
-use Rattle.std.proofs.Common.{◌≡◌, sym, ap, ◌∙◌, ◌+◌, ◌<◌, take, get_or, arith}
+use Rattle.std.proofs.Common.{◌≡◌, sym, ◌+◌, ◌<◌, take, get_or, arith}
 use Rattle.std.proofs.lemmas.List.{length-take-le, get_or-take}
 use Rattle.bits.specs.Sum.{gap}
 use Rattle.bits.specs.Window.{at}
-use Rattle.meetings.specs.Walk.{uneven_by}
-use Rattle.meetings.proofs.Walks.{uneven-none, uneven-one-more, uneven-le, met-le, degrees-le}
+use Rattle.meetings.proofs.Walks.{uneven-none, uneven-one-more, uneven-le, met-le}
 use Rattle.meetings.proofs.spread.unevenness_of.Goals as goal
 use Rattle.meetings.proofs.spread.unevenness_of.Goals.{In-loop-count}
-
-pub overflow_mul-even : goal.overflow_mul-even
-overflow_mul-even c = omega (arith, degrees-le _ _ c.requires.dl_bound c.requires.dl_bound)
-
-pub overflow_cast-even : goal.overflow_cast-even
-overflow_cast-even c = omega (arith, degrees-le _ _ c.requires.dl_bound c.requires.dl_bound)
 
 pub loop-count-init : goal.loop-count-init
 loop-count-init c = sym (uneven-none (at c.args.counts.now) c.args.nr c.args.dl)
@@ -53,8 +46,3 @@ overflow_add-sum c =
       uneven-le c.requires.summable _ c.requires.dl_bound (c.loop-count.count-index + 1) (omega arith),
       c.requires.summable.nl-high,
     )
-
-pub returns : goal.returns
-returns c =
-    let end : c.loop-count.count-index ≡ c.args.nl = omega (arith, length-take-le c.args.nl c.args.counts.now c.requires.summable.sized) in
-    c.loop-count.invariant ∙ ap (uneven_by (at c.args.counts.now) c.args.nr c.args.dl) end

@@ -1,14 +1,10 @@
 -- `radius::first_uncovered` meets its contract: each F passed is covered, and N + 1 is not.
 use Rattle.std.proofs.Common.{◌≡◌, ◌*◌, ◌<◌, sym, ◌∙◌, arith, below_more}
-use Rattle.wiring.proofs.Permutation.{edges_le}
 use Rattle.radius.specs.Margin.{sweeps_named}
 use Rattle.radius.specs.Ranges.{measures_by}
 use Rattle.radius.proofs.Uncovered.{beyond-is, beyond-all}
 use Rattle.radius.proofs.chain.first_uncovered.Goals as goal
 use Rattle.radius.proofs.chain.first_uncovered.Goals.{else-loop-flips-test, then-loop-flips-test+else-sweeps_named-eq0+else-flips-edges}
-
-pub overflow_mul-edges : goal.overflow_mul-edges
-overflow_mul-edges c = omega (arith, edges_le _ _ c.requires.nl-high c.requires.dl-high)
 
 pub returns-then-sweeps_named-eq0 : goal.returns-then-sweeps_named-eq0
 returns-then-sweeps_named-eq0 c = sym (beyond-is _ _ c.loop-flips.invariant (sym c.sweeps_named.ensures ∙ c.if-sweeps_named-eq0.true))

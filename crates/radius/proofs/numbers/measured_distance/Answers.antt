@@ -3,12 +3,9 @@ use Rattle.std.proofs.Common.{◌≡◌, ap, ◌∙◌, ℕ, ◌-◌, arith, len
 use Rattle.bits.specs.Window.{at}
 use Rattle.inner_code.specs.Reduction.{fewest_ones}
 use Rattle.inner_code.specs.Sheet.{row_of}
-use Rattle.inner_code.proofs.Listings.{words-most, lists-fits}
+use Rattle.inner_code.proofs.Listings.{words-most}
 use Rattle.radius.proofs.MeasuredNumbers.{listed-distance}
 use Rattle.radius.proofs.numbers.measured_distance.Goals as goal
-
-pub slice_bounds-distance-end : goal.slice_bounds-distance-end
-slice_bounds-distance-end c = omega (arith, lists-fits _ _ c.list_codewords-count.ensures (words-most _))
 
 pub returns : goal.returns
 returns c =
