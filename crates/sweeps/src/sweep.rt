@@ -181,9 +181,7 @@ fn sweep_news(
     News { changed, visits }
 }
 
-// Visits a vertex: puts the nearest word there, and tells how many bits that changes. It is put into the loops that call it, which saves a call
-// at each vertex.
-#[inline(always)]
+// Visits a vertex: puts the nearest word there, and tells how many bits that changes.
 fn visit(
     plan: &CheckedPlan<'_>,
     vertex: Vertex,
