@@ -303,7 +303,7 @@ lembikat_word_answer lembikat_look_up(const uint8_t *sheet, size_t sheet_bytes, 
 /* The first vertex that reads no inner codeword of its side, the left side before the right, the lowest number first.
  *   place: LEMBIKAT_NONE where the block is a codeword, else LEMBIKAT_LEFT or LEMBIKAT_RIGHT; value: the vertex, below nl on
  *   the left and below nr on the right.
- *   Refusals: the plan's, 11, 12.  Stack: at most 38 KiB. */
+ *   Refusals: the plan's, 11, 12.  Stack: at most 33 KiB. */
 lembikat_answer lembikat_locate(const uint8_t *left_sheet, size_t left_sheet_bytes, const uint8_t *right_sheet,
                                 size_t right_sheet_bytes, size_t nl, size_t nr, const uint8_t *wiring, size_t wiring_bytes,
                                 const uint8_t *block, size_t block_bytes);
@@ -336,7 +336,7 @@ lembikat_decode_answer lembikat_decode(const uint8_t *left_sheet, size_t left_sh
 /* Makes a state of a block: the number of vertices that read no codeword, left and right, sweep number 0, and the block. What
  * stood in the state before does not matter. A block that is a codeword gives a settled state.
  *   state: the state at the front, LEMBIKAT_STATE_BYTES(N) bytes.  value, sweeps: the count, and 0.
- *   Refusals: the plan's, then 11 and 12 for the block, 13.  Stack: at most 38 KiB. */
+ *   Refusals: the plan's, then 11 and 12 for the block, 13.  Stack: at most 33 KiB. */
 lembikat_state_answer lembikat_load_state(const uint8_t *left_sheet, size_t left_sheet_bytes, const uint8_t *right_sheet,
                                           size_t right_sheet_bytes, size_t nl, size_t nr, const uint8_t *wiring,
                                           size_t wiring_bytes, const uint8_t *block, size_t block_bytes, uint8_t *state,
@@ -351,7 +351,7 @@ lembikat_state_answer lembikat_load_state(const uint8_t *left_sheet, size_t left
  * and the call at sweep number 4,096 is LEMBIKAT_SWEEPS_SPENT. From a bit set in a state whose count is true the same holds of
  * the block as it then is.
  *   state: count, sweep number and block after the sweep; untouched with a refusal.  value, sweeps: its count and sweep number.
- *   Refusals: the plan's, then 11 for the state's length and 12 for its block, 28.  Stack: at most 110 KiB. */
+ *   Refusals: the plan's, then 11 for the state's length and 12 for its block, 28.  Stack: at most 106 KiB. */
 lembikat_state_answer lembikat_sweep_state(const uint8_t *left_sheet, size_t left_sheet_bytes, const uint8_t *right_sheet,
                                            size_t right_sheet_bytes, size_t nl, size_t nr, const uint8_t *wiring,
                                            size_t wiring_bytes, uint8_t *state, size_t state_bytes);
@@ -360,7 +360,7 @@ lembikat_state_answer lembikat_sweep_state(const uint8_t *left_sheet, size_t lef
  * also where the bit had that value already, and on a settled state too: the next sweep is one of the left side.
  *   state: count, sweep number and block, in which the one bit may have changed; untouched with a refusal.  value, sweeps: its
  *   count, and 0.
- *   Refusals: the plan's, then 11 for the state's length and 12 for its block, 27.  Stack: at most 38 KiB. */
+ *   Refusals: the plan's, then 11 for the state's length and 12 for its block, 27.  Stack: at most 33 KiB. */
 lembikat_state_answer lembikat_set_bit(const uint8_t *left_sheet, size_t left_sheet_bytes, const uint8_t *right_sheet,
                                        size_t right_sheet_bytes, size_t nl, size_t nr, const uint8_t *wiring,
                                        size_t wiring_bytes, size_t bit, uint64_t value, uint8_t *state, size_t state_bytes);
@@ -368,7 +368,7 @@ lembikat_state_answer lembikat_set_bit(const uint8_t *left_sheet, size_t left_sh
 /* Lists the maximal runs of bits at which a received and a settled block differ, in rising order. A run takes four bytes of
  * the list: its bit offset and its length, two bytes each, high byte first. Neither block need be a codeword.
  *   list: the runs at the front.  value: their number, at most (N + 1) / 2.
- *   Refusals: the plan's, then 11 and 12 for the received block, 11 and 12 for the settled one, 16.  Stack: at most 38 KiB. */
+ *   Refusals: the plan's, then 11 and 12 for the received block, 11 and 12 for the settled one, 16.  Stack: at most 33 KiB. */
 lembikat_answer lembikat_report(const uint8_t *left_sheet, size_t left_sheet_bytes, const uint8_t *right_sheet,
                                 size_t right_sheet_bytes, size_t nl, size_t nr, const uint8_t *wiring, size_t wiring_bytes,
                                 const uint8_t *received, size_t received_bytes, const uint8_t *settled, size_t settled_bytes,
@@ -392,14 +392,14 @@ lembikat_answer lembikat_margin(const uint8_t *left_sheet, size_t left_sheet_byt
 
 /* Writes the codeword that carries a message.
  *   output: the block at the front.  value: 0.
- *   Refusals: the plan's, 19, 20, 21, 13.  Stack: at most 70 KiB. */
+ *   Refusals: the plan's, 19, 20, 21, 13.  Stack: at most 65 KiB. */
 lembikat_answer lembikat_encode(const uint8_t *left_sheet, size_t left_sheet_bytes, const uint8_t *right_sheet,
                                 size_t right_sheet_bytes, size_t nl, size_t nr, const uint8_t *wiring, size_t wiring_bytes,
                                 const uint8_t *message, size_t message_bytes, uint8_t *output, size_t output_bytes);
 
 /* Writes the message that a codeword block carries: it undoes lembikat_encode.
  *   output: the message at the front.  value: 0.
- *   Refusals: the plan's, 19, 11, 12, 22, 13.  Stack: at most 70 KiB. */
+ *   Refusals: the plan's, 19, 11, 12, 22, 13.  Stack: at most 65 KiB. */
 lembikat_answer lembikat_read(const uint8_t *left_sheet, size_t left_sheet_bytes, const uint8_t *right_sheet,
                               size_t right_sheet_bytes, size_t nl, size_t nr, const uint8_t *wiring, size_t wiring_bytes,
                               const uint8_t *block, size_t block_bytes, uint8_t *output, size_t output_bytes);

@@ -314,7 +314,7 @@ fn parts<'a>(
     nl: usize,
     nr: usize,
     wiring: &'a [u8],
-) -> PlanParts<'a>
+) -> PlanParts<'a, 'a>
     ensures { plan_in result ≡ plan_at left right nl nr wiring }
 {
     PlanParts {

@@ -47,7 +47,7 @@ pub struct Decoding {
 // is kept, the first where they change as many. Refusals 1 to 15 and 23 to 26; with 15 the front of `output` holds the received block, and no
 // other refusal writes a byte. Sums and visits are those of the trial that is kept, with 15 those of the first; with any other refusal they are 0.
 pub fn decode(
-    plan: PlanParts<'_>,
+    plan: PlanParts<'_, '_>,
     received: &[u8],
     lost: &[u8],
     output: &mut [u8],
@@ -62,13 +62,13 @@ pub fn decode(
 }
 
 // What stops a call before it decodes: refusals 1 to 14 and 23 to 26; else the checked plan.
-fn check_call<'a>(
-    plan: PlanParts<'a>,
+fn check_call<'s, 'w>(
+    plan: PlanParts<'s, 'w>,
     received: &[u8],
     lost: &[u8],
     output: &[u8],
     limit: usize,
-) -> Result<CheckedPlan<'a>, Refusal>
+) -> Result<CheckedPlan<'s, 'w>, Refusal>
     ensures answer { plan_reply result ≡ decode_check (plan_in plan.entry) received.now lost.now output.now limit }
     ensures parts { IfOk result (λ p. plan_in p.parts ≡ plan_in plan.entry) }
 {
@@ -87,7 +87,7 @@ fn check_call<'a>(
 // Decodes where nothing stops the call, with the sides that the plan's check has told, so that a caller with many blocks checks their plan once.
 // One finder serves both sides where they have the same sheet.
 pub fn decode_checked(
-    plan: CheckedPlan<'_>,
+    plan: CheckedPlan<'_, '_>,
     received: &[u8],
     lost: &[u8],
     output: &mut [u8],
@@ -144,7 +144,7 @@ struct Received<'a> {
 // Decodes with the finders of both sides. The trial with zeros is made at the front of the output. Most blocks settle in its first two sweeps; what
 // else there is to do needs more room.
 fn decode_trials(
-    plan: &CheckedPlan<'_>,
+    plan: &CheckedPlan<'_, '_>,
     left_finder: &mut [u16],
     right_finder: &mut [u16],
     received: Received<'_>,
@@ -194,10 +194,10 @@ fn at_once(lost_bytes: usize, ended: bool, count: usize, limit: usize) -> bool
     lost_bytes == 0 && ended && count <= limit
 }
 
-// Goes on from the first two sweeps of the trial with zeros, at the front of the output. Room for the places of the edges is cleared here and not
-// before, and less of it for a small plan, since clearing all of it takes longer than such a call.
+// Goes on from the first two sweeps of the trial with zeros, at the front of the output. Room for the places of the edges is cleared from here on
+// and not before (`decode_with`), and less of it for a small plan, since clearing all of it takes longer than such a call.
 fn decode_on(
-    plan: &CheckedPlan<'_>,
+    plan: &CheckedPlan<'_, '_>,
     left_finder: &mut [u16],
     right_finder: &mut [u16],
     received: Received<'_>,
@@ -235,7 +235,7 @@ fn decode_on(
 
 // The same with room for the places of N edges.
 fn decode_with<const N: usize>(
-    plan: &CheckedPlan<'_>,
+    plan: &CheckedPlan<'_, '_>,
     left_finder: &mut [u16],
     right_finder: &mut [u16],
     received: Received<'_>,
@@ -268,7 +268,7 @@ fn decode_with<const N: usize>(
 // made in a buffer of its own. Where the first settles and changes no bit outside the spans, it is kept whatever the second would give; where no
 // bit is lost there is no second. Where none settles the received block is put back, its lost bits as they were received.
 fn decode_placed(
-    plan: &CheckedPlan<'_>,
+    plan: &CheckedPlan<'_, '_>,
     left_finder: &mut [u16],
     right_finder: &mut [u16],
     received: Received<'_>,
@@ -349,7 +349,7 @@ struct Attempt {
 
 // Goes on from the first two sweeps of a trial, at the front of `room`. The places are noted where a third sweep is made and they are not yet.
 fn finish_trial(
-    plan: &CheckedPlan<'_>,
+    plan: &CheckedPlan<'_, '_>,
     left_finder: &mut [u16],
     right_finder: &mut [u16],
     received: Received<'_>,
@@ -492,7 +492,7 @@ fn refuse(refusal: Refusal) -> Decoding
 
 // Whether a block is found to be a codeword with no finder set up: one of zeros, which is a codeword of every plan, or one of few bits, by the
 // rows of each side. Of any other block nothing is said. Setting up a finder costs more than testing so few vertices by the rows.
-fn is_codeword_at_sight(plan: &CheckedPlan<'_>, block: &[u8]) -> bool
+fn is_codeword_at_sight(plan: &CheckedPlan<'_, '_>, block: &[u8]) -> bool
     requires { block_check (edge_count (plan_in plan.now.parts)) block.now ≡ done [] }
     ensures { result ≡ true → located (side_of (plan_in plan.now.parts)) block.now ≡ [] }
 {

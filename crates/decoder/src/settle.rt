@@ -41,7 +41,7 @@ pub(crate) struct Opening {
 // changes something and leaves no tie, the left words are tested before a third sweep is made. Sums and visits of a sweep beyond the limit are
 // not told.
 pub(crate) fn open(
-    plan: &CheckedPlan<'_>,
+    plan: &CheckedPlan<'_, '_>,
     left_finder: &mut [u16],
     right_finder: &mut [u16],
     limit: usize,
@@ -136,7 +136,7 @@ struct Tallies {
 
 // The first two sweeps. The words of the right side are fetched between them.
 fn sweep_firsts(
-    plan: &CheckedPlan<'_>,
+    plan: &CheckedPlan<'_, '_>,
     left_finder: &mut [u16],
     right_finder: &mut [u16],
     kept: &mut [u16; KEPT],
@@ -168,7 +168,7 @@ fn sweep_firsts(
 // what it read then, and would stay. One that changes nothing is the last: no vertex has news of it. The block is then tested once, since a tie
 // may have waited without news.
 pub(crate) fn finish(
-    plan: &CheckedPlan<'_>,
+    plan: &CheckedPlan<'_, '_>,
     left_finder: &mut [u16],
     right_finder: &mut [u16],
     opening: Opening,

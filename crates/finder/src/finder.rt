@@ -101,7 +101,8 @@ fn by_entry(finder: &[u16], word: u16, left: u16) -> Step
 
 // The same, where classes are named and no pattern is kept for the word's class. The rows leave the same of all words of a class, and these have
 // one nearest pattern, so a class is searched once, as long as its slot is not taken by another. Where the searches have cost as much as
-// entries for all classes do, the classes are numbered.
+// entries for all classes do, the classes are numbered. It is rare, and put into `find_nearest` its room would be made for every word.
+#[inline(never)]
 fn find_missed(sheet: &[u8], finder: &mut [u16], word: u16, left: u16) -> Step
     requires { Unkept sheet.now finder.old word left }
     ensures { Found sheet.now word result finder.new }

@@ -1,8 +1,10 @@
 -- A refusal of the code, as the paper names it.
 --   number_of r       its number in the table of refusals
 --   place_of r        the row or entry at fault, 0 where none is
+--   refusal_text r    what is written of it: `refused`, its number and its place, with a blank between
 --   check_reply r   the number and place for each case of a check's answer, which has no value
-use Rattle.std.specs.Prelude.{ℕ, Result, Ok, Err, []}
+use Rattle.std.specs.Prelude.{ℕ, List, Result, Ok, Err, [], ◌++◌, codes}
+use Rattle.std.specs.Fmt.{decimal}
 use Rattle.inner_code.specs.Reply.{Reply, done, refused}
 use Rattle.inner_code.specs.declared.refusal.Refusal.{Refusal}
 
@@ -42,6 +44,9 @@ place_of (Refusal.RowDependent row) = row
 place_of (Refusal.EntryTooLarge entry) = entry
 place_of (Refusal.EntryRepeated entry) = entry
 place_of _ = 0
+
+abbrev pub refusal_text : Refusal → List ℕ
+refusal_text r = codes "refused " ++ (decimal (number_of r) ++ (codes " " ++ decimal (place_of r)))
 
 abbrev pub check_reply : Result Unit Refusal → Reply
 check_reply (Ok passed) = done []

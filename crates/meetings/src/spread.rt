@@ -4,42 +4,37 @@ ghost use Rattle.std.specs.Prelude.{◌≡◌, ◌*◌, ◌≤◌, ◌<◌};
 ghost use Rattle.bits.specs.Window.{at};
 ghost use Rattle.wiring.specs.Plan.{side_of};
 ghost use Rattle.wiring.specs.PlanParts.{plan_in};
+ghost use Rattle.wiring.specs.Checking.{WiredPlan};
 ghost use Rattle.meetings.specs.Spread.{spread};
 ghost use Rattle.meetings.specs.Answer.{spread_answer, spread_reply};
 ghost use Rattle.meetings.specs.Walk.{arrivals, walked, Fresh, Countable, Counted, Summable, uneven_by, largest_walked};
 
 use crate::ends::EdgeEnds;
 use inner_code::Refusal;
-use wiring::{CheckedPlan, PlanParts, check_plan};
+use wiring::{PlanParts, check_plan};
 
 // Checks a plan and answers the spread of its wiring: the smaller, the more evenly its left vertices meet. Refusals 1 to 10 and 23.
-pub fn plan_spread(plan: PlanParts<'_>) -> Result<u64, Refusal>
+pub fn plan_spread(plan: PlanParts<'_, '_>) -> Result<u64, Refusal>
     ensures { spread_reply result ≡ spread_answer (plan_in plan.entry) }
 {
-    Ok(measured_spread(check_plan(plan)?))
+    Ok(measured_spread(check_plan(plan)?.parts))
 }
 
-// The spread R of a checked plan.
-pub fn measured_spread(plan: CheckedPlan<'_>) -> u64
-    ensures { result ≡ spread (side_of (plan_in plan.entry.parts)) }
+// The spread R of an accepted wiring: nothing is asked of the sheets but their degrees.
+pub fn measured_spread(plan: PlanParts<'_, '_>) -> u64
+    requires { WiredPlan (plan_in plan) }
+    ensures { result ≡ spread (side_of (plan_in plan.entry)) }
 {
-    let dl = plan.left.d;
-    let dr = plan.right.d;
+    let dl = plan.left_sheet[0] as usize;
+    let dr = plan.right_sheet[0] as usize;
     let mut lefts = [0u16; 32768];
     let mut rights = [0u16; 32768];
-    wiring::note_ends(
-        plan.parts.wiring,
-        plan.edges(),
-        dl,
-        dr,
-        &mut lefts,
-        &mut rights,
-    );
+    wiring::note_ends(plan.wiring, plan.nl * dl, dl, dr, &mut lefts, &mut rights);
     largest_unevenness(EdgeEnds {
         lefts: &lefts,
         rights: &rights,
-        nl: plan.left.n,
-        nr: plan.right.n,
+        nl: plan.nl,
+        nr: plan.nr,
         dl,
         dr,
     })

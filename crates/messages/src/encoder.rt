@@ -14,7 +14,7 @@ use wiring::{BitsError, PlanParts, check_bits, check_plan};
 
 // Writes the one codeword that has the message's bits at the message positions, in rising order, to the front of `output`. The
 // message's first bit has weight 128. Refusals 1 to 10, 23, 19, 20, 21 and 13; a refusal writes nothing.
-pub fn encode(plan: PlanParts<'_>, message: &[u8], output: &mut [u8]) -> Result<(), Refusal>
+pub fn encode(plan: PlanParts<'_, '_>, message: &[u8], output: &mut [u8]) -> Result<(), Refusal>
     ensures result_value { encode_reply result ≡ encode_answer (plan_in plan.entry) message.now output.old }
     ensures output_after { output.new ≡ encode_output (plan_in plan.entry) message.now output.old }
 {

@@ -12,7 +12,7 @@ use wiring::{PlanParts, check_block, check_plan, first_unsatisfied};
 
 // Writes the message that a codeword block carries, its bits at the message positions in rising order, to the front of `output`.
 // Refusals 1 to 10, 23, 19, 11, 12, 22 and 13; a refusal writes nothing.
-pub fn read_block(plan: PlanParts<'_>, block: &[u8], output: &mut [u8]) -> Result<(), Refusal>
+pub fn read_block(plan: PlanParts<'_, '_>, block: &[u8], output: &mut [u8]) -> Result<(), Refusal>
     ensures result_value { taken_reply result ≡ read_answer (plan_in plan.entry) block.now output.old }
     ensures output_after { output.new ≡ read_output (plan_in plan.entry) block.now output.old }
 {

@@ -21,7 +21,7 @@ struct Check<'a> {
 }
 
 // Finds the rows of a checked plan of at most 512 edges: a row is left for each message position, and the others are 0.
-pub(crate) fn solve(plan: CheckedPlan<'_>, columns: &mut [u64; COLUMN_WORDS])
+pub(crate) fn solve(plan: CheckedPlan<'_, '_>, columns: &mut [u64; COLUMN_WORDS])
     requires edges_bound { edge_count (plan_in plan.parts) ≤ 512 }
     requires columns_value { columns.old ≡ no_columns }
     ensures { Solved (plan_in plan.entry.parts) columns.new }
@@ -32,7 +32,7 @@ pub(crate) fn solve(plan: CheckedPlan<'_>, columns: &mut [u64; COLUMN_WORDS])
 }
 
 // All checks of a side in order. Where no residue has the check's digit, no row can fail it.
-fn eliminate(plan: CheckedPlan<'_>, side: SideName, columns: &mut [u64; COLUMN_WORDS])
+fn eliminate(plan: CheckedPlan<'_, '_>, side: SideName, columns: &mut [u64; COLUMN_WORDS])
     requires { edge_count (plan_in plan.parts) ≤ 512 }
     ensures { Eliminated (plan_in plan.entry.parts) side (edge_count (plan_in plan.entry.parts)) columns.old columns.new }
 {

@@ -10,7 +10,7 @@ use wiring::PlanParts;
 
 // Puts the state of a block at the front of `state`: the number of its unsatisfied vertices, sweep 0, and the block. Refusals 1 to 13 and 23; a
 // refusal writes nothing.
-pub fn load_state(plan: PlanParts<'_>, block: &[u8], state: &mut [u8]) -> Result<Shown, Refusal>
+pub fn load_state(plan: PlanParts<'_, '_>, block: &[u8], state: &mut [u8]) -> Result<Shown, Refusal>
     ensures result_value { shown_reply result ≡ load_answer (plan_in plan.entry) block.now state.old }
     ensures state_after { state.new ≡ load_output (plan_in plan.entry) block.now state.old }
 {

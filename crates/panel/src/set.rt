@@ -12,7 +12,7 @@ use wiring::PlanParts;
 // Sets a bit of a state's block, to 0 for the value 0 and to 1 for any other, and begins again at sweep 0, also where the bit has that value.
 // Answers the state's count and sweep number afterwards. Refusals 1 to 12, 23 and 27; a refusal writes nothing.
 pub fn set_bit(
-    plan: PlanParts<'_>,
+    plan: PlanParts<'_, '_>,
     bit: usize,
     value: u64,
     state: &mut [u8],

@@ -26,7 +26,7 @@ pub(crate) fn read_head(state: &[u8]) -> Shown
 }
 
 // Why a call on fewer bytes than stand before a block is turned back: the plan's refusal, or 11.
-pub(crate) fn refuse_short(plan: PlanParts<'_>) -> Refusal
+pub(crate) fn refuse_short(plan: PlanParts<'_, '_>) -> Refusal
     ensures { refused (number_of result) (place_of result) ≡ and_then (plan_check (plan_in plan.entry)) (refused 11 0) }
 {
     match wiring::check_plan(plan) {
@@ -36,7 +36,7 @@ pub(crate) fn refuse_short(plan: PlanParts<'_>) -> Refusal
 }
 
 // Checks a plan and a state of it: refusals 1 to 10 and 23, 11 for another length than a state of this plan has, 12.
-pub(crate) fn check_state(plan: PlanParts<'_>, state: &[u8]) -> Result<(), Refusal>
+pub(crate) fn check_state(plan: PlanParts<'_, '_>, state: &[u8]) -> Result<(), Refusal>
     requires { 4 ≤ length state.now }
     ensures { check_reply result ≡ state_check (plan_in plan.entry) state.now }
 {

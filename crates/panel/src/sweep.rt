@@ -14,7 +14,7 @@ const MAX_SWEEPS: usize = 4096;
 
 // Makes the next sweep of a state, left at an even number and right at an odd one, and answers its count and sweep number afterwards. A state
 // whose count is 0 is settled: nothing changes, at any number and on any block. Refusals 1 to 12, 23 and 28; a refusal writes nothing.
-pub fn sweep_state(plan: PlanParts<'_>, state: &mut [u8]) -> Result<Shown, Refusal>
+pub fn sweep_state(plan: PlanParts<'_, '_>, state: &mut [u8]) -> Result<Shown, Refusal>
     ensures result_value { shown_reply result ≡ sweep_answer (plan_in plan.entry) state.old }
     ensures state_after { state.new ≡ sweep_output (plan_in plan.entry) state.old }
 {

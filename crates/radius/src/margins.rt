@@ -11,7 +11,7 @@ use wiring::{CheckedPlan, PlanParts, check_plan};
 
 // The sweeps within which so many flipped bits are mended, whichever they are. Refusals 1 to 10 and 23, 17 for more flips than the block
 // has bits, 18 for flips that are not covered.
-pub fn margin_sweeps(plan: PlanParts<'_>, flips: u64) -> Result<u64, Refusal>
+pub fn margin_sweeps(plan: PlanParts<'_, '_>, flips: u64) -> Result<u64, Refusal>
     ensures { margin_reply result ≡ margin_answer (plan_in plan.entry) flips }
 {
     let checked = check_plan(plan)?;
@@ -28,7 +28,7 @@ pub fn margin_sweeps(plan: PlanParts<'_>, flips: u64) -> Result<u64, Refusal>
 
 // The sweeps named for so many flips of a checked plan's bits; 0 where they are not covered. Where the first b is 0 the spread does not
 // enter, and it takes by far the longest to measure.
-fn measured_sweeps(plan: CheckedPlan<'_>, flips: u64) -> u64
+fn measured_sweeps(plan: CheckedPlan<'_, '_>, flips: u64) -> u64
     requires { flips ≤ edge_count (plan_in plan.parts) }
     ensures { result ≡ margin_of (plan_in plan.entry.parts) flips }
 {

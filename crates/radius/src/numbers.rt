@@ -26,14 +26,14 @@ pub struct PlanNumbers {
 
 // Checks a plan and answers the n, d and k of its sides, the inner distances of its sheets and the spread of its wiring. Refusals 1 to 10
 // and 23.
-pub fn plan_numbers(plan: PlanParts<'_>) -> Result<PlanNumbers, Refusal>
+pub fn plan_numbers(plan: PlanParts<'_, '_>) -> Result<PlanNumbers, Refusal>
     ensures { numbers_reply result ≡ numbers_answer (plan_in plan.entry) }
 {
     Ok(measured_numbers(check_plan(plan)?))
 }
 
 // The numbers of a checked plan.
-pub(crate) fn measured_numbers(plan: CheckedPlan<'_>) -> PlanNumbers
+pub(crate) fn measured_numbers(plan: CheckedPlan<'_, '_>) -> PlanNumbers
     ensures { result ≡ numbers_of (plan_in plan.entry.parts) }
 {
     PlanNumbers {
@@ -45,7 +45,7 @@ pub(crate) fn measured_numbers(plan: CheckedPlan<'_>) -> PlanNumbers
         kr: plan.right.k as u64,
         left_distance: measured_distance(plan.parts.left_sheet, plan.left.k),
         right_distance: measured_distance(plan.parts.right_sheet, plan.right.k),
-        spread: measured_spread(plan),
+        spread: measured_spread(plan.parts),
     }
 }
 

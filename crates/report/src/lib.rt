@@ -16,7 +16,7 @@ use wiring::{PlanParts, check_block, check_plan};
 // bytes of the list, its bit offset and its length, high byte first; what lies behind the last run stays as it was, and with a refusal, 1 to
 // 12, 16 or 23, the whole list does.
 pub fn report_runs(
-    plan: PlanParts<'_>,
+    plan: PlanParts<'_, '_>,
     received: &[u8],
     settled: &[u8],
     list: &mut [u8],

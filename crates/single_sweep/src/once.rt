@@ -16,7 +16,11 @@ use wiring::{CheckedPlan, MAX_EDGES, PlanParts, SideName};
 
 // Puts the nearest word at every vertex of a side, and tells by how much the number of unsatisfied vertices, left and right, is above what it
 // was, 65,536 added. Refusals 1 to 12 and 23; a refusal writes nothing.
-pub fn sweep_once(plan: PlanParts<'_>, side: SideName, block: &mut [u8]) -> Result<usize, Refusal>
+pub fn sweep_once(
+    plan: PlanParts<'_, '_>,
+    side: SideName,
+    block: &mut [u8],
+) -> Result<usize, Refusal>
     ensures result_value { counted_reply result ≡ once_answer (plan_in plan.entry) side block.old }
     ensures block_after { block.new ≡ once_block (plan_in plan.entry) side block.old }
 {
@@ -27,7 +31,7 @@ pub fn sweep_once(plan: PlanParts<'_>, side: SideName, block: &mut [u8]) -> Resu
 
 // Sweeps a side of a checked block. From a left bit the vertex that reads it on the right is found by the place of its edge. From a right bit
 // the bit's number tells its left vertex, and no places are noted.
-fn sweep_side(plan: CheckedPlan<'_>, side: SideName, block: &mut [u8]) -> usize
+fn sweep_side(plan: CheckedPlan<'_, '_>, side: SideName, block: &mut [u8]) -> usize
     requires { block_check (edge_count (plan_in plan.parts)) block.old ≡ done [] }
     ensures value { result ≡ count_change (side_of (plan_in plan.entry.parts)) block.old block.new }
     ensures block_after { block.new ≡ sweep (side_of (plan_in plan.entry.parts) side) block.old }

@@ -15,7 +15,7 @@ use wiring::{CheckedPlan, SideName};
 
 // Sweeps a side with its finder, and tells the change of the count.
 pub(crate) fn sweep_told(
-    plan: CheckedPlan<'_>,
+    plan: CheckedPlan<'_, '_>,
     side: SideName,
     finder: &mut [u16],
     places: &[u16],

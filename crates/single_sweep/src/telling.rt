@@ -16,7 +16,7 @@ use wiring::{CheckedPlan, SideName};
 // Puts a pattern on the bits of vertex v of a side, its highest digit at the first, and tells by how much the number of unsatisfied vertices of
 // the other side is above what it was, 65,536 added.
 pub(crate) fn put_told(
-    plan: CheckedPlan<'_>,
+    plan: CheckedPlan<'_, '_>,
     side: SideName,
     v: usize,
     pattern: u16,
@@ -50,7 +50,7 @@ pub(crate) fn put_told(
 
 // Turns the bit at an entry of a side, and tells by how much the number of unsatisfied vertices of that side is above what it was, 1 added: the
 // word of the vertex that reads the bit is fetched once and tested with the bit as it was and turned.
-fn turn_told(plan: CheckedPlan<'_>, side: SideName, place: usize, block: &mut [u8]) -> usize
+fn turn_told(plan: CheckedPlan<'_, '_>, side: SideName, place: usize, block: &mut [u8]) -> usize
     requires place_bound { place < edge_count (plan_in plan.parts) }
     requires room { edge_count (plan_in plan.parts) ≤ length block.old * 8 }
     ensures told { let here = side_of (plan_in plan.entry.parts) side in

@@ -64,7 +64,7 @@ pub struct News {
 
 // The second sweep, of every vertex of the right side, by the words that they read, with a finder for the right sheet.
 fn sweep_second(
-    plan: &CheckedPlan<'_>,
+    plan: &CheckedPlan<'_, '_>,
     finder: &mut [u16],
     kept: &mut [u16; KEPT],
     block: &mut [u8],
@@ -101,7 +101,7 @@ fn sweep_second(
 // The second sweep of a checked plan, with the finder of the right side; where there is none, both sides have the left sheet, and its finder
 // serves both.
 pub fn sweep_right(
-    plan: &CheckedPlan<'_>,
+    plan: &CheckedPlan<'_, '_>,
     left_finder: &mut [u16],
     right_finder: &mut [u16],
     kept: &mut [u16; KEPT],
@@ -121,7 +121,7 @@ pub fn sweep_right(
 
 // A later sweep of a checked plan, of the side that is named: with its finder, or the left one where it serves both.
 pub fn sweep_turn(
-    plan: &CheckedPlan<'_>,
+    plan: &CheckedPlan<'_, '_>,
     left_finder: &mut [u16],
     right_finder: &mut [u16],
     side: SideName,
@@ -148,7 +148,7 @@ pub fn sweep_turn(
 
 // Visits the vertices of a side that have news, in their order. Their marks are taken off, sixteen at a time.
 fn sweep_news(
-    plan: &CheckedPlan<'_>,
+    plan: &CheckedPlan<'_, '_>,
     side: SideName,
     finder: &mut [u16],
     places: &[u16],
@@ -161,7 +161,7 @@ fn sweep_news(
     ensures news_swept { NewsSwept (plan_in plan.now.parts) side block.old kept.old result block.new kept.new }
     ensures still_finds { Finds (sheet_of (plan_in plan.now.parts) side) finder.new }
 {
-    let numbers = numbers_of(plan.side(side).n);
+    let numbers = numbers_of(plan.parts.count(side));
     let from = news_of(side);
     let mut changed = 0;
     let mut visits: u64 = 0;
@@ -183,7 +183,7 @@ fn sweep_news(
 
 // Visits a vertex: puts the nearest word there, and tells how many bits that changes.
 fn visit(
-    plan: &CheckedPlan<'_>,
+    plan: &CheckedPlan<'_, '_>,
     vertex: Vertex,
     finder: &mut [u16],
     places: &[u16],
@@ -214,7 +214,7 @@ fn visit(
 }
 
 // The word that a vertex reads: a left one's stands in the block, a right one's is kept.
-fn word_of(plan: &CheckedPlan<'_>, vertex: Vertex, kept: &[u16; KEPT], block: &[u8]) -> u16
+fn word_of(plan: &CheckedPlan<'_, '_>, vertex: Vertex, kept: &[u16; KEPT], block: &[u8]) -> u16
     requires v_bound { vertex.v < count_of (plan_in plan.now.parts) vertex.side }
     requires words_read { WordsRead (side_of (plan_in plan.now.parts) SideName.Right) block.now kept.now }
     ensures { result ≡ vertex_word (side_of (plan_in plan.now.parts) vertex.side) block.now vertex.v }
@@ -265,7 +265,7 @@ pub fn all_codewords(sheet: &[u8], n: usize, finder: &[u16], block: &[u8]) -> bo
 
 // Whether every vertex of both sides reads a codeword.
 pub fn all_satisfied(
-    plan: &CheckedPlan<'_>,
+    plan: &CheckedPlan<'_, '_>,
     left_finder: &[u16],
     right_finder: &[u16],
     kept: &[u16; KEPT],

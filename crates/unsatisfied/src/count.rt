@@ -12,7 +12,7 @@ use inner_code::Refusal;
 use wiring::{CheckedPlan, PlanParts, SideCode, SideName};
 
 // How many vertices of a block are unsatisfied, left and right. Refusals 1 to 12 and 23.
-pub fn count_unsatisfied(plan: PlanParts<'_>, block: &[u8]) -> Result<usize, Refusal>
+pub fn count_unsatisfied(plan: PlanParts<'_, '_>, block: &[u8]) -> Result<usize, Refusal>
     ensures { counted_reply result ≡ count_answer (plan_in plan.entry) block.now }
 {
     let checked = wiring::check_plan(plan)?;
@@ -23,7 +23,7 @@ pub fn count_unsatisfied(plan: PlanParts<'_>, block: &[u8]) -> Result<usize, Ref
 }
 
 // How many vertices of a side are unsatisfied.
-fn missed_on(plan: CheckedPlan<'_>, side: SideName, block: &[u8]) -> usize
+fn missed_on(plan: CheckedPlan<'_, '_>, side: SideName, block: &[u8]) -> usize
     requires { block_check (edge_count (plan_in plan.parts)) block.now ≡ done [] }
     ensures counted { result ≡ unsatisfied_at (side_of (plan_in plan.entry.parts) side) block.now }
     ensures few { result ≤ 2048 }

@@ -16,7 +16,7 @@ pub const UNCHANGED: usize = 65536;
 // Makes a bit of a block the last binary digit of `value`, and tells by how much the number of unsatisfied vertices is above what it was,
 // UNCHANGED added. Refusals 1 to 12, 23 and 27; a refusal writes nothing.
 pub fn set_bit(
-    plan: PlanParts<'_>,
+    plan: PlanParts<'_, '_>,
     bit: usize,
     value: u64,
     block: &mut [u8],
@@ -37,7 +37,7 @@ pub fn set_bit(
 }
 
 // Turns a bit, and tells the change of the count.
-fn turn_counted(plan: CheckedPlan<'_>, bit: usize, block: &mut [u8]) -> usize
+fn turn_counted(plan: CheckedPlan<'_, '_>, bit: usize, block: &mut [u8]) -> usize
     requires { CheckedBit (plan_in plan.parts) bit block.old }
     ensures value { result ≡ count_change (side_of (plan_in plan.entry.parts)) block.old (turned block.old bit 1) }
     ensures block_after { block.new ≡ turned block.old bit 1 }

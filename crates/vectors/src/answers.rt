@@ -51,7 +51,7 @@ fn on_plan(
     rt: &impl Print,
     from: &mut impl io::Read,
     service: Service,
-    plan: PlanParts<'_>,
+    plan: PlanParts<'_, '_>,
 ) -> io::Result<()> {
     match service {
         Service::Piece => piece(rt, from, plan),
@@ -68,7 +68,7 @@ fn read_block(
     rt: &impl Print,
     from: &mut impl io::Read,
     service: Service,
-    plan: PlanParts<'_>,
+    plan: PlanParts<'_, '_>,
 ) -> io::Result<()> {
     let mut space = [0u8; SPACE];
     let block = input::bytes(from, &mut space)?;
@@ -83,7 +83,7 @@ fn on_block(
     rt: &impl Print,
     from: &mut impl io::Read,
     service: Service,
-    plan: PlanParts<'_>,
+    plan: PlanParts<'_, '_>,
     block: &[u8],
 ) -> io::Result<()> {
     let mut space = [0u8; SPACE];
@@ -150,13 +150,13 @@ fn look_up(rt: &impl Print, from: &mut impl io::Read, sheet: &[u8]) -> io::Resul
     word(rt, tables::look_up(sheet, given, &space[..table]))
 }
 
-fn piece(rt: &impl Print, from: &mut impl io::Read, plan: PlanParts<'_>) -> io::Result<()> {
+fn piece(rt: &impl Print, from: &mut impl io::Read, plan: PlanParts<'_, '_>) -> io::Result<()> {
     let v = input::number(from)?;
     print!(rt; "piece ")?;
     output::bytes(rt, wiring::piece_of(plan, v as usize))
 }
 
-fn locate(rt: &impl Print, plan: PlanParts<'_>, block: &[u8]) -> io::Result<()> {
+fn locate(rt: &impl Print, plan: PlanParts<'_, '_>, block: &[u8]) -> io::Result<()> {
     match wiring::locate(plan, block) {
         Ok(None) => print!(rt; "ok none"),
         Ok(Some(vertex)) => match vertex.side {
@@ -170,7 +170,7 @@ fn locate(rt: &impl Print, plan: PlanParts<'_>, block: &[u8]) -> io::Result<()> 
 fn report(
     rt: &impl Print,
     from: &mut impl io::Read,
-    plan: PlanParts<'_>,
+    plan: PlanParts<'_, '_>,
     received: &[u8],
     settled: &[u8],
 ) -> io::Result<()> {
@@ -181,7 +181,7 @@ fn report(
 
 fn report_into(
     rt: &impl Print,
-    plan: PlanParts<'_>,
+    plan: PlanParts<'_, '_>,
     received: &[u8],
     settled: &[u8],
     list: &mut [u8],
@@ -193,7 +193,7 @@ fn report_into(
     left_in(rt, list)
 }
 
-fn margin(rt: &impl Print, from: &mut impl io::Read, plan: PlanParts<'_>) -> io::Result<()> {
+fn margin(rt: &impl Print, from: &mut impl io::Read, plan: PlanParts<'_, '_>) -> io::Result<()> {
     let flips = input::number(from)?;
     number(rt, radius::margin_sweeps(plan, flips))
 }
@@ -202,7 +202,7 @@ fn margin(rt: &impl Print, from: &mut impl io::Read, plan: PlanParts<'_>) -> io:
 fn decode_around(
     rt: &impl Print,
     from: &mut impl io::Read,
-    plan: PlanParts<'_>,
+    plan: PlanParts<'_, '_>,
     received: &[u8],
     lost: &[u8],
 ) -> io::Result<()> {
@@ -214,7 +214,7 @@ fn decode_around(
 
 fn decode(
     rt: &impl Print,
-    plan: PlanParts<'_>,
+    plan: PlanParts<'_, '_>,
     received: &[u8],
     lost: &[u8],
     output: &mut [u8],
@@ -234,7 +234,7 @@ fn decode(
 
 fn encode(
     rt: &impl Print,
-    plan: PlanParts<'_>,
+    plan: PlanParts<'_, '_>,
     message: &[u8],
     output: &mut [u8],
 ) -> io::Result<()> {
@@ -242,30 +242,40 @@ fn encode(
     left_in(rt, output)
 }
 
-fn read(rt: &impl Print, plan: PlanParts<'_>, block: &[u8], output: &mut [u8]) -> io::Result<()> {
+fn read(
+    rt: &impl Print,
+    plan: PlanParts<'_, '_>,
+    block: &[u8],
+    output: &mut [u8],
+) -> io::Result<()> {
     done(rt, messages::read_block(plan, block, output))?;
     left_in(rt, output)
 }
 
 // The count and the sweep number that a call on a state answers stand in the state itself, which the line shows.
 
-fn load(rt: &impl Print, plan: PlanParts<'_>, block: &[u8], state: &mut [u8]) -> io::Result<()> {
+fn load(
+    rt: &impl Print,
+    plan: PlanParts<'_, '_>,
+    block: &[u8],
+    state: &mut [u8],
+) -> io::Result<()> {
     done(rt, panel::load_state(plan, block, state).map(|_| ()))?;
     left_in(rt, state)
 }
 
-fn sweep(rt: &impl Print, from: &mut impl io::Read, plan: PlanParts<'_>) -> io::Result<()> {
+fn sweep(rt: &impl Print, from: &mut impl io::Read, plan: PlanParts<'_, '_>) -> io::Result<()> {
     let mut space = [0u8; SPACE];
     let size = input::bytes(from, &mut space)?;
     sweep_in(rt, plan, &mut space[..size])
 }
 
-fn sweep_in(rt: &impl Print, plan: PlanParts<'_>, state: &mut [u8]) -> io::Result<()> {
+fn sweep_in(rt: &impl Print, plan: PlanParts<'_, '_>, state: &mut [u8]) -> io::Result<()> {
     done(rt, panel::sweep_state(plan, state).map(|_| ()))?;
     left_in(rt, state)
 }
 
-fn set_bit(rt: &impl Print, from: &mut impl io::Read, plan: PlanParts<'_>) -> io::Result<()> {
+fn set_bit(rt: &impl Print, from: &mut impl io::Read, plan: PlanParts<'_, '_>) -> io::Result<()> {
     let bit = input::number(from)?;
     let value = input::number(from)?;
     let mut space = [0u8; SPACE];
@@ -275,7 +285,7 @@ fn set_bit(rt: &impl Print, from: &mut impl io::Read, plan: PlanParts<'_>) -> io
 
 fn set_in(
     rt: &impl Print,
-    plan: PlanParts<'_>,
+    plan: PlanParts<'_, '_>,
     bit: usize,
     value: u64,
     state: &mut [u8],

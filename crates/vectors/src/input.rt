@@ -1,5 +1,5 @@
 // The fields of a record on standard input. A field that the input cuts off counts as if zeros or nothing followed.
-ghost use Rattle.std.specs.Prelude.{◌≡◌, length, OnErr};
+ghost use Rattle.std.specs.Prelude.{◌≡◌, ◌≤◌, length, OnErr};
 ghost use Rattle.std.specs.Io.{ReadsAtMost};
 
 use std::io;
@@ -14,10 +14,23 @@ pub fn byte(from: &mut impl io::Read) -> io::Result<u8> {
     Ok(one[0])
 }
 
+// Fills a field of zeros with the next bytes. The end of the input stands for one byte of 0, and the bytes behind it are asked for again: at a
+// terminal more may follow.
+fn fill(from: &mut impl io::Read, field: &mut [u8]) -> io::Result<()>
+    requires { length field.old ≤ 8 }
+    ensures { length field.new ≡ length field.old }
+{
+    let got = reading::read_full(from, field)?;
+    for i in got + 1..field.len() {
+        field[i] = byte(from)?;
+    }
+    Ok(())
+}
+
 // A number of 8 bytes, high byte first.
 pub fn number(from: &mut impl io::Read) -> io::Result<u64> {
     let mut eight = [0u8; 8];
-    reading::read_full(from, &mut eight)?;
+    fill(from, &mut eight)?;
     Ok(u64::from_be_bytes(eight))
 }
 
@@ -28,7 +41,7 @@ pub fn bytes(from: &mut impl io::Read, space: &mut [u8]) -> io::Result<usize>
     ensures err { OnErr result (length space.new ≡ length space.old) }
 {
     let mut four = [0u8; 4];
-    reading::read_full(from, &mut four)?;
+    fill(from, &mut four)?;
     let length = u32::from_be_bytes(four) as usize;
     if space.len() < length {
         return Ok(0);

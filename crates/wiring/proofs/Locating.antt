@@ -2,7 +2,7 @@
 --   satisfied_by code side wiring block v    the code's test of vertex v (specs Access)
 --   unsatisfied_by code side wiring m block  the first of m vertices of a side that fails it, m where all pass (specs Access)
 --   located_by codes wiring block            no value, or the side and the first vertex that fails it (specs Access)
---   code_of, code_in, both_codes               a side as the code holds it (specs Checking, Access)
+--   code_of, both_codes                        a side as the code holds it (specs Code, Access)
 --   satisfied, located                      the same by the definition of a codeword (specs Block)
 --   locate_answer plan block                 what the service answers (specs Answer)
 --   with_echelon row k l                     the list l with the echelon form of k rows at its front (inner_code specs Reduction)

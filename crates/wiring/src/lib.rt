@@ -12,7 +12,7 @@ mod plan;
 mod side;
 
 pub use block::{BitsError, check_bits, check_block};
-pub use locator::locate;
+pub use locator::{code_of, locate};
 pub use parts::{CheckedPlan, PlanParts};
 pub use piece::piece_of;
 pub use plan::{MAX_EDGES, MAX_VERTICES, check_plan};

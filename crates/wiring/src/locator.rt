@@ -13,7 +13,7 @@ use inner_code::Refusal;
 
 // The first unsatisfied vertex of a block, the left side before the right, the lowest number first; none of a codeword. Refusals 1 to 12 and
 // 23.
-pub fn locate(plan: PlanParts<'_>, block: &[u8]) -> Result<Option<Vertex>, Refusal>
+pub fn locate(plan: PlanParts<'_, '_>, block: &[u8]) -> Result<Option<Vertex>, Refusal>
     ensures { locate_reply result ≡ locate_answer (plan_in plan.entry) block.now }
 {
     let checked = check_plan(plan)?;
@@ -47,8 +47,8 @@ pub fn first_unsatisfied(
     }
 }
 
-// The side of a name.
-fn code_of(side: SideName, left: SideCode, right: SideCode) -> SideCode
+// The side of a name, of any two.
+pub fn code_of(side: SideName, left: SideCode, right: SideCode) -> SideCode
     ensures { result ≡ both_codes left right side }
 {
     match side {

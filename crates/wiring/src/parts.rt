@@ -2,26 +2,28 @@
 ghost use Rattle.std.specs.Prelude.{[], ◌≡◌};
 ghost use Rattle.inner_code.specs.Reply.{done};
 ghost use Rattle.wiring.specs.Wiring.{plan_check};
+ghost use Rattle.wiring.specs.Access.{count_for};
 ghost use Rattle.wiring.specs.Code.{code_of};
 ghost use Rattle.wiring.specs.PlanParts.{plan_in};
 ghost use Rattle.wiring.specs.declared.side.SideName.{SideName};
 
 use crate::side::{SideCode, SideName};
 
-// The parts of a plan, of which nothing is checked: both sheets, both numbers of vertices and the wiring.
+// The parts of a plan, of which nothing is checked: both sheets, both numbers of vertices and the wiring, which may be lent for longer than the
+// sheets.
 #[derive(Clone, Copy)]
-pub struct PlanParts<'a> {
-    pub left_sheet: &'a [u8],
-    pub right_sheet: &'a [u8],
+pub struct PlanParts<'s, 'w> {
+    pub left_sheet: &'s [u8],
+    pub right_sheet: &'s [u8],
     pub nl: usize,
     pub nr: usize,
-    pub wiring: &'a [u8],
+    pub wiring: &'w [u8],
 }
 
 // A plan that has passed its check, and its sides.
 #[derive(Clone, Copy)]
-pub struct CheckedPlan<'a> {
-    pub parts: PlanParts<'a>,
+pub struct CheckedPlan<'s, 'w> {
+    pub parts: PlanParts<'s, 'w>,
     pub left: SideCode,
     pub right: SideCode,
     pub ghost passed: { plan_check (plan_in parts) ≡ done [] },
@@ -29,7 +31,19 @@ pub struct CheckedPlan<'a> {
     pub ghost right_is: { right ≡ code_of (plan_in parts) SideName.Right },
 }
 
-impl<'a> CheckedPlan<'a> {
+impl<'s, 'w> PlanParts<'s, 'w> {
+    // The number of vertices of a side.
+    pub fn count(&self, name: SideName) -> usize
+        ensures { result ≡ count_for name self.now.nl self.now.nr }
+    {
+        match name {
+            SideName::Left => self.nl,
+            SideName::Right => self.nr,
+        }
+    }
+}
+
+impl<'s, 'w> CheckedPlan<'s, 'w> {
     ghost use Rattle.wiring.specs.Plan.{edge_count, sheet_of};
 
     // The number of edges, and of a block's bits.
@@ -50,7 +64,7 @@ impl<'a> CheckedPlan<'a> {
     }
 
     // The sheet of a side.
-    pub fn sheet(&self, name: SideName) -> &'a [u8]
+    pub fn sheet(&self, name: SideName) -> &'s [u8]
         ensures { result.now ≡ sheet_of (plan_in self.now.parts) name }
     {
         match name {

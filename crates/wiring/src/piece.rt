@@ -8,7 +8,7 @@ use crate::plan::check_plan;
 
 // The part of the lent wiring that holds the dr entries of right vertex v. It is empty for a faulty plan, and for a v of nr or more; no
 // refusal number is given.
-pub fn piece_of<'a>(plan: PlanParts<'a>, v: usize) -> &'a [u8]
+pub fn piece_of<'w>(plan: PlanParts<'_, 'w>, v: usize) -> &'w [u8]
     ensures { result.now ≡ piece_of (plan_in plan.entry) v }
 {
     match check_plan(plan) {

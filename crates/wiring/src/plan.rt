@@ -23,7 +23,7 @@ pub const MAX_EDGES: usize = MAX_VERTICES * inner_code::MAX_DEGREE;
 const FEW_EDGES: usize = 1024;
 
 // Checks a plan: the left sheet and then the right one by refusals 1 to 6, both numbers of vertices by 7, and the wiring by 23, 8, 9 and 10.
-pub fn check_plan<'a>(parts: PlanParts<'a>) -> Result<CheckedPlan<'a>, Refusal>
+pub fn check_plan<'s, 'w>(parts: PlanParts<'s, 'w>) -> Result<CheckedPlan<'s, 'w>, Refusal>
     ensures { PlanChecked (plan_in parts.entry) result }
 {
     let left_checked = inner_code::check_sheet(parts.left_sheet);
@@ -86,8 +86,7 @@ fn is_count_faulty(n: usize) -> bool
     n < 1 || MAX_VERTICES < n
 }
 
-// Entries in order, each by 9 and then 10. One bit for each edge tells whether it has stood before. All entries are first passed over
-// with no test at each: an accepted wiring ends there.
+// Entries in order, each by 9 and then 10. All are first passed over with no test at each: an accepted wiring ends there.
 fn check_entries(edges: usize, wiring: &[u8]) -> Result<(), Refusal>
     requires edges_bound { edges ≤ 32768 }
     requires wiring_len { length wiring.now ≡ 2 * edges }
@@ -96,6 +95,16 @@ fn check_entries(edges: usize, wiring: &[u8]) -> Result<(), Refusal>
     if all_stand(edges, wiring) {
         return Ok(());
     }
+    test_entries(edges, wiring)
+}
+
+// Tests entry by entry. One bit for each edge tells whether it has stood before. A function of its own, as `every_edge_stands` is.
+#[inline(never)]
+fn test_entries(edges: usize, wiring: &[u8]) -> Result<(), Refusal>
+    requires edges_bound { edges ≤ 32768 }
+    requires wiring_len { length wiring.now ≡ 2 * edges }
+    ensures { check_reply result ≡ entries_check edges (edge_of wiring.now) edges }
+{
     let mask: [u8; 8] = [128, 64, 32, 16, 8, 4, 2, 1];
     let mut seen = [0u8; 4096];
     for i in 0..edges {
@@ -128,7 +137,10 @@ fn all_stand(edges: usize, wiring: &[u8]) -> bool
 // True only if every edge below `edges` stands at an entry: then each stands at one and there is no other, since there are as many
 // entries as edges. One byte for each edge tells it, of N, a power of two. An edge past them marks the byte of its low digits and shows in
 // `digits`, the binary digits of all edges. Unlike their maximum these take one step an entry, and so does the mask, where a remainder by a
-// size that is not written here would be a division. No loop ends early, so that loads and stores overlap.
+// size that is not written here would be a division. No loop ends early, so that loads and stores overlap. It stays a function of its own: put
+// into `check_plan`, behind all its tests, its loops would be taken for rare ones and begin anywhere; a call on a plan of 512 edges then takes
+// up to a quarter longer.
+#[inline(never)]
 fn every_edge_stands<const N: usize>(edges: usize, wiring: &[u8]) -> bool
     requires edges_bound { edges ≤ N }
     requires wiring_len { length wiring.now ≡ 2 * edges }

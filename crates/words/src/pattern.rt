@@ -37,7 +37,7 @@ pub fn put_pattern(
 // Puts a pattern on the bits of a vertex, and tells the vertices at the other ends: each of them has news, and where they are right ones, their
 // words are kept up with the block. A right vertex's own word is kept up too.
 pub fn put_told(
-    plan: &CheckedPlan<'_>,
+    plan: &CheckedPlan<'_, '_>,
     vertex: Vertex,
     pattern: u16,
     places: &[u16],
@@ -59,7 +59,7 @@ pub fn put_told(
 
 // The same for left vertex v. The place of an edge tells the right vertex at its other end.
 fn put_left(
-    plan: &CheckedPlan<'_>,
+    plan: &CheckedPlan<'_, '_>,
     v: usize,
     pattern: u16,
     places: &[u16],
@@ -101,7 +101,7 @@ fn tell_right(d: usize, place: usize, kept: &mut [u16; KEPT])
 
 // The same for right vertex v. The number of a bit tells its left vertex.
 fn put_right(
-    plan: &CheckedPlan<'_>,
+    plan: &CheckedPlan<'_, '_>,
     v: usize,
     pattern: u16,
     kept: &mut [u16; KEPT],

@@ -32,7 +32,7 @@ pub fn left_word(block: &[u8], v: usize, d: usize) -> u16
 }
 
 // The words that all vertices of the right side read, in front of a list that keeps more.
-pub fn read_words(plan: &CheckedPlan<'_>, block: &[u8], kept: &mut [u16; KEPT])
+pub fn read_words(plan: &CheckedPlan<'_, '_>, block: &[u8], kept: &mut [u16; KEPT])
     requires block_value { block_check (edge_count (plan_in plan.now.parts)) block.now ≡ done [] }
     requires cleared { Cleared kept.old }
     ensures words_read { WordsRead (side_of (plan_in plan.now.parts) SideName.Right) block.now kept.new }

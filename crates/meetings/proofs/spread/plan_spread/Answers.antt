@@ -2,9 +2,12 @@
 -- spread.
 use Rattle.std.proofs.Common.{sym}
 use Rattle.inner_code.proofs.Replies.{passed-on}
-use Rattle.wiring.proofs.Plans.{plan-refused}
+use Rattle.wiring.proofs.Plans.{plan-accepted, plan-refused}
 use Rattle.meetings.proofs.Answers.{spread-refused, spread-done}
 use Rattle.meetings.proofs.spread.plan_spread.Goals as goal
+
+pub measured_spread-requires : goal.measured_spread-requires
+measured_spread-requires c = (plan-accepted c.in_ok-check_plan.field-0).plan-wired
 
 pub returns-in_err-check_plan : goal.returns-in_err-check_plan
 returns-in_err-check_plan c =

@@ -5,6 +5,9 @@ use Rattle.wiring.proofs.Plans.{plan-accepted}
 use Rattle.radius.proofs.MeasuredNumbers.{distance_is}
 use Rattle.radius.proofs.numbers.measured_numbers.Goals as goal
 
+pub measured_spread-requires : goal.measured_spread-requires
+measured_spread-requires c = (plan-accepted c.args.plan).plan-wired
+
 pub returns : goal.returns
 returns c =
     let r = c.args.plan in

@@ -7,7 +7,7 @@ use Rattle.bits.specs.Window.{at}
 use Rattle.finder.specs.Finding.{Finds}
 use Rattle.wiring.specs.Plan.{Plan, sheet_of, count_of}
 use Rattle.wiring.specs.PlanParts.{plan_in}
-use Rattle.wiring.specs.declared.side.SideCode.{SideCode}
+use Rattle.wiring.proofs.Sides.{count-for}
 use Rattle.bits.proofs.Lists.{at_set_same, at_set_other}
 use Rattle.words.specs.Marks.{news_of}
 use Rattle.words.proofs.Marks.{marks-high}
@@ -53,7 +53,7 @@ finds c = c.loop-rest.invariant.1 c.loop-i.invariant.1
 pub numbers_of-numbers-requires : goal.numbers_of-numbers-requires
 numbers_of-numbers-requires c =
     let plan : Plan = plan_in c.args.plan.now.parts in
-    le_trans (le_of_eq (ap (λ (x : SideCode). x.n) c.side.ensures)) (plan-fits plan c.args.plan.now.passed c.args.side).n-high
+    le_trans (le_of_eq (c.count.ensures ∙ count-for plan c.args.side)) (plan-fits plan c.args.plan.now.passed c.args.side).n-high
 
 pub loop-i-init : goal.loop-i-init
 loop-i-init c =
@@ -179,7 +179,7 @@ returns c =
     let turn = c.loop-i in
     let plan : Plan = plan_in c.args.plan.now.parts in
     let enough : count_of plan c.args.side ≤ 16 * c.numbers_of-numbers.result =
-    le_trans (le_of_eq (sym (ap (λ (x : SideCode). x.n) c.side.ensures))) c.numbers_of-numbers.ensures.0 in
+    le_trans (le_of_eq (sym (c.count.ensures ∙ count-for plan c.args.side))) c.numbers_of-numbers.ensures.0 in
     let all : count_of plan c.args.side ≤ 16 * turn.i = omega (arith, enough) in
     record {
       news_swept = news-round-end c.args.plan.now.passed c.requires.hears all turn.invariant.0
