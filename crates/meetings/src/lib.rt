@@ -6,5 +6,5 @@ mod spread;
 
 pub use spread::plan_spread;
 
-// Lent to the crates above: of a checked plan.
+// Lent to the crates above: this asks what its callers prove.
 pub use spread::measured_spread;
